@@ -1,0 +1,18 @@
+//! The base types of Anviltan: texts, lists, names, numbers and values, and their JSON.
+#![tactic(auto)]
+
+mod boxed;
+mod items;
+mod made;
+mod name;
+mod number;
+mod pos;
+mod text;
+
+pub use boxed::Boxed;
+pub use items::Items;
+pub use made::Made;
+pub use name::Name;
+pub use number::Number;
+pub use pos::Pos;
+pub use text::Text;

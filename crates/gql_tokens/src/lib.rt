@@ -1,0 +1,6 @@
+//! The tokens of a GraphQL text.
+#![tactic(auto)]
+
+mod token;
+
+pub use token::{Lexeme, Punctuator, Token};
