@@ -6,13 +6,17 @@ mod items;
 mod made;
 mod name;
 mod number;
+mod pairs;
 mod pos;
 mod text;
+mod value;
 
 pub use boxed::Boxed;
 pub use items::Items;
 pub use made::Made;
 pub use name::Name;
 pub use number::Number;
+pub use pairs::Pairs;
 pub use pos::Pos;
 pub use text::Text;
+pub use value::Value;
