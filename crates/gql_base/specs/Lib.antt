@@ -1,3 +1,5 @@
+pub mod Json
 pub mod Number
 pub mod Pairs
+pub mod Separated
 pub mod formers

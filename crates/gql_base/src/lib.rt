@@ -3,6 +3,7 @@
 
 mod boxed;
 mod items;
+mod json;
 mod made;
 mod name;
 mod number;
@@ -13,6 +14,7 @@ mod value;
 
 pub use boxed::Boxed;
 pub use items::Items;
+pub use json::{json_of, push_comma, push_json, push_name, push_quoted};
 pub use made::Made;
 pub use name::Name;
 pub use number::Number;
