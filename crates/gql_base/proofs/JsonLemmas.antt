@@ -1,8 +1,7 @@
 -- Which bytes and characters stand for themselves in a JSON string.
-use Rattle.std.proofs.Common.{rules, map, codes, ◌≡◌, ℕ, ◌+◌, ◌/◌, ◌%◌, ◌<◌, ◌≤◌, ◌≢◌, Bool, true, false, cond, ltb, List, [], ◌∷◌, ◌++◌, refl, ap, arith, encode_utf8, append-nil, append_assoc, sym, ◌∙◌}
+use Rattle.std.proofs.Common.{rules, map, codes, ◌≡◌, ℕ, ◌+◌, ◌/◌, ◌%◌, ◌≤◌, Bool, true, false, cond, ltb, List, [], ◌∷◌, ◌++◌, refl, ap, arith, append-nil, append_assoc, sym, ◌∙◌}
 use Rattle.std.proofs.Math.Utf8.{encode, encodes}
 use Rattle.std.proofs.lemmas.Bool.Decides.{nat_tests}
-use Rattle.std.proofs.lemmas.Grind.{common_steps}
 use Rattle.std.proofs.lemmas.List.Elements.{All-head, All-tail, All-from_recursion}
 use Rattle.std.specs.List.{All, AllByRecursion, flat_map}
 use Rattle.gql_base.specs.Json.{escaped, IsPlain, member, json}

@@ -1,10 +1,13 @@
 -- Names beside their values: what look-up, `put` and distinct names come to where the pairs are made of two lists.
-use Rattle.std.proofs.Common.{◌≡◌, ℕ, zero, suc, ◌+◌, ◌<◌, ◌≤◌, Bool, true, false, cond, not, List, [], ◌∷◌, ◌++◌, map, length, Some, None, slice_get, slice_set, String, string_bytes, slice_index_or, Global, refl, ap, sym, ◌∙◌, arith, length-append}
-use Rattle.std.proofs.lemmas.Option.{slice_get_past, slice_get_read}
+use Rattle.std.proofs.Common.{◌≡◌, ℕ, zero, suc, ◌+◌, ◌<◌, ◌≤◌, Bool, true, false, cond, not, List, [], ◌∷◌, ◌++◌, map, length, take, Some, None, slice_get, slice_set, String, string_bytes, slice_index_or, Global, refl, ap, sym, ◌∙◌, arith, length-append}
+use Rattle.std.proofs.lemmas.Option.{slice_get_past, slice_get_read, slice_get_within, get_or_from_slice_get}
+use Rattle.std.proofs.lemmas.List.{take_more}
 use Rattle.std.proofs.lemmas.Bool.Decides.{nat_tests}
 use Rattle.std.specs.List.{zip, position, position_or_len, IsDistinct, AllByRecursion}
 use Rattle.std.specs.List.{list_any}
 use Rattle.std.specs.Str.{bytes_eq}
+use Rattle.std.specs.Option.{option_map_or}
+use Rattle.std.specs.Cmp.Lexicographic.{bytes_decides}
 use Rattle.std.specs.String.{string_eq}
 use Rattle.indexmap.specs.IndexSet.{insert_key}
 use Rattle.gql_base.specs.Pairs.{under, put, HasDistinctNames}
@@ -148,3 +151,53 @@ pub pushed-same : {K T : Type 0} (ks : List K) (vs : List T) (k : K) (v : T) (ks
     → ks' ≡ ks ++ k ∷ [] → vs' ≡ vs ++ v ∷ [] → length vs' ≡ length ks'
 pushed-same ks vs k v ks' vs' same keys values =
     omega (arith, ap length keys, ap length values, length-append ks (k ∷ []), length-append vs (v ∷ []))
+
+-- pairs with distinct names, added one by one
+put-fresh : {T : Type 0} (ps : List (List ℕ × T)) (n : List ℕ) (x : T) → under n ps ≡ None → put ps n x ≡ ps ++ (n, x) ∷ []
+put-fresh [] n x fresh = refl
+put-fresh (p ∷ ps) n x fresh =
+    let P : Bool → Type 0 = λ b. cond b (Some p.1) (under n ps) ≡ None → cond b ((p.0, x) ∷ ps) (p ∷ put ps n x) ≡ p ∷ (ps ++ (n, x) ∷ []) in
+    (elim (bytes_eq n p.0) as P [ true ↦ λ h. cc | false ↦ λ h. ap (λ qs. p ∷ qs) (put-fresh ps n x h) ]) fresh
+
+-- a name that stands among pairs has a value there
+under-present : {T : Type 0} (ps : List (List ℕ × T)) (i : ℕ) (n : List ℕ) (x : T) → slice_get ps i ≡ Some (n, x) → under n ps ≡ None → ⊥
+under-present [] i n x at none = cc
+under-present (p ∷ ps) zero n x at none =
+    let named : p.0 ≡ n = ap (λ o. option_map_or (λ q. q.0) o n) at in
+    let same : bytes_eq n p.0 ≡ true = rw named ((bytes_decides n n).1 refl) in
+    let found : Some p.1 ≡ None = rw same at none in
+    cc
+under-present (p ∷ ps) (suc i) n x at none =
+    let P : Bool → Type 0 = λ b. cond b (Some p.1) (under n ps) ≡ None → ⊥ in
+    (elim (bytes_eq n p.0) as P [ true ↦ λ h. cc | false ↦ λ h. under-present ps i n x at h ]) none
+
+-- a name at a place isn't among the names before it
+under-front : {T : Type 0} (ps : List (List ℕ × T)) (i : ℕ) (n : List ℕ) (x : T) → HasDistinctNames ps → slice_get ps i ≡ Some (n, x)
+    → under n (take i ps) ≡ None
+under-front [] i n x distinct at = cc
+under-front (p ∷ ps) zero n x distinct at = refl
+under-front (p ∷ ps) (suc i) n x (fresh, distinct) at =
+    let P : Bool → Type 0 = λ b. (b ≡ true → n ≡ p.0) → cond b (Some p.1) (under n (take i ps)) ≡ None in
+    (elim (bytes_eq n p.0) as P [
+      | true ↦ λ same. absurd (under-present ps i n x at (ap (λ m. under m ps) (same refl) ∙ fresh))
+      | false ↦ λ same. under-front ps i n x distinct at
+    ]) (λ h. (bytes_decides n p.0).0 h)
+
+pub put_more : {T : Type 0} (ps : List (List ℕ × T)) (i : ℕ) (n : List ℕ) (x : T) → HasDistinctNames ps → slice_get ps i ≡ Some (n, x)
+    → put (take i ps) n x ≡ take (i + 1) ps
+put_more ps i n x distinct at =
+    put-fresh (take i ps) n x (under-front ps i n x distinct at)
+    ∙ sym (take_more ps i (n, x) (slice_get_within ps i (n, x) at) ∙ ap (λ p. take i ps ++ p ∷ []) (get_or_from_slice_get ps i (n, x) (n, x) at))
+
+-- two lists that begin alike and have the same item next
+pub take-more-same : {X : Type 0} (xs ys : List X) (i : ℕ) (x y : X) → slice_get xs i ≡ Some x → slice_get ys i ≡ Some y → x ≡ y
+    → take i xs ≡ take i ys → take (i + 1) xs ≡ take (i + 1) ys
+take-more-same {X} xs ys i x y here there same front =
+    let step : (zs : List X) (z : X) → slice_get zs i ≡ Some z → take (i + 1) zs ≡ take i zs ++ z ∷ []
+    = λ zs z at. take_more zs i z (slice_get_within zs i z at) ∙ ap (λ w. take i zs ++ w ∷ []) (get_or_from_slice_get zs i z z at) in
+    step xs x here ∙ (λ j. front j ++ same j ∷ []) ∙ sym (step ys y there)
+
+pub same-name : (m n : List ℕ) → false ≡ not (bytes_eq m n) → m ≡ n
+same-name m n told =
+    let P : Bool → Type 0 = λ b. (b ≡ true → m ≡ n) → false ≡ not b → m ≡ n in
+    (elim (bytes_eq m n) as P [ true ↦ λ h e. h refl | false ↦ λ h e. cc ]) (bytes_decides m n).0 told

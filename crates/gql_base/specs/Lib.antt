@@ -1,5 +1,6 @@
 pub mod Json
 pub mod Number
 pub mod Pairs
+pub mod Same
 pub mod Separated
 pub mod formers

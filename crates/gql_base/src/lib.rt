@@ -2,6 +2,8 @@
 #![tactic(auto)]
 
 mod boxed;
+mod copied;
+mod equal;
 mod items;
 mod json;
 mod made;
@@ -13,6 +15,7 @@ mod text;
 mod value;
 
 pub use boxed::Boxed;
+pub use copied::Copied;
 pub use items::Items;
 pub use json::{json_of, push_comma, push_json, push_name, push_quoted};
 pub use made::Made;

@@ -89,6 +89,17 @@ impl<T: Drop> Pairs<T> {
     }
 }
 
+impl<T: Drop> Pairs<T> {
+    /// Sets the value under a name, as `insert` does, and lets an old value go.
+    pub fn add(&mut self, name: Name, value: T) -> Made<()>
+        ensures put { OnOk result (self.new ≡ put self.old name value) }
+        ensures err { OnErr result (self.new ≡ self.old) }
+    {
+        drop(self.insert(name, value)?);
+        Ok(())
+    }
+}
+
 /// Adds a value for which there is room.
 fn push_within<T: Drop>(values: &mut Vec<T>, value: T)
     requires { vec_len values.old < vec_capacity values.old }

@@ -1,4 +1,4 @@
-use Rattle.std.proofs.Common.{arith, rules, ◌≡◌, ◌++◌, sym, ap, ◌∙◌}
+use Rattle.std.proofs.Common.{arith, rules}
 use Rattle.gql_base.proofs.JsonLemmas.{flat_map-encode}
 use Rattle.gql_base.proofs.json.push_character.Goals as goal
 
