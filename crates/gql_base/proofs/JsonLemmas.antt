@@ -4,7 +4,8 @@ use Rattle.std.proofs.Math.Utf8.{encode, encodes}
 use Rattle.std.proofs.lemmas.Bool.Decides.{nat_tests}
 use Rattle.std.proofs.lemmas.List.Elements.{All-head, All-tail, All-from_recursion}
 use Rattle.std.specs.List.{All, AllByRecursion, flat_map}
-use Rattle.gql_base.specs.Json.{escaped, IsPlain, member, json}
+use Rattle.gql_base.specs.Json.{escaped, IsPlain, member, comma_of, value_text}
+use Rattle.gql_base.specs.declared.json.Style.{Style}
 use Rattle.gql_base.specs.Separated.{separated}
 use Rattle.gql_base.specs.declared.value.Value.{Value, the_lemmas}
 use Rattle.gql_base.specs.declared.value.Value.TheVariants as value
@@ -55,9 +56,12 @@ pub encodes-push : (cs : List ℕ) (c : ℕ) → encodes (cs ++ c ∷ []) ≡ en
 encodes-push [] c = append-nil (encode c)
 encodes-push (d ∷ cs) c = ap (λ rest. encode d ++ rest) (encodes-push cs c) ∙ sym (append_assoc (encode d) (encodes cs) (encode c))
 
-members-texts : (ms : List (List ℕ × Value)) → map member (map (λ p. (p.0, json p.1)) ms) ≡ map (λ p. member (p.0, json p.1)) ms
-members-texts [] = refl
-members-texts (m ∷ ms) = ap (λ rest. member (m.0, json m.1) ∷ rest) (members-texts ms)
+module _ (style : Style) where
+  members-texts : (ms : List (List ℕ × Value))
+      → map (member style) (map (λ p. (p.0, value_text style p.1)) ms) ≡ map (λ p. member style (p.0, value_text style p.1)) ms
+  members-texts [] = refl
+  members-texts (m ∷ ms) = ap (λ rest. member style (m.0, value_text style m.1) ∷ rest) (members-texts ms)
 
-pub json_object : (ms : List (List ℕ × Value)) → json (value.Object ms) ≡ codes "{" ++ (separated (codes ",") (map (λ p. member (p.0, json p.1)) ms) ++ codes "}")
-json_object ms = search (rules, the_lemmas, members-texts)
+  pub text-object : (ms : List (List ℕ × Value)) → value_text style (value.Object ms)
+      ≡ codes "{" ++ (separated (comma_of style) (map (λ p. member style (p.0, value_text style p.1)) ms) ++ codes "}")
+  text-object ms = search (rules, the_lemmas, members-texts)

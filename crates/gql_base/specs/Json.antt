@@ -1,9 +1,12 @@
--- The JSON text of a value (RFC 8259): without blanks, enums as strings, the members of an object in their order.
+-- The text of a value: as JSON (RFC 8259), without blanks, enums as strings, the members of an object in their order; and as a
+-- literal.
 use Rattle.std.specs.Prelude.{ℕ, ◌≤◌, ◌≢◌, ◌/◌, ◌%◌, nat_lt, ◌==◌, List, [], ◌∷◌, ◌++◌, map, codes, if◌then◌else◌}
 use Rattle.std.specs.Char.{digit_char}
 use Rattle.std.specs.Fmt.{signed_decimal}
 use Rattle.std.specs.List.{flat_map}
 use Rattle.gql_base.specs.Separated.{separated}
+use Rattle.gql_base.specs.declared.json.Style.{Style}
+use Rattle.gql_base.specs.declared.json.Style.TheVariants.{Json, Literal}
 use Rattle.gql_base.specs.declared.value.Value.{Value}
 use Rattle.gql_base.specs.declared.value.Value.TheOpen.{Value-F}
 use Rattle.gql_base.specs.declared.value.Value.TheFolds.{fold-Value}
@@ -27,19 +30,40 @@ IsPlain byte = (32 ≤ byte) × (byte ≢ 34) × (byte ≢ 92)
 abbrev pub quoted : List ℕ → List ℕ
 quoted text = codes "\"" ++ (flat_map escaped text ++ codes "\"")
 
+-- the two ways to write a value: as JSON, and as a literal of a document, with enums and keys bare and blanks after commas and
+-- colons (GraphQL, October 2021, section 2.9)
+abbrev pub comma_of : Style → List ℕ
+comma_of Json = codes ","
+comma_of Literal = codes ", "
+
+abbrev pub colon_of : Style → List ℕ
+colon_of Json = codes ":"
+colon_of Literal = codes ": "
+
+abbrev pub name_text : Style → List ℕ → List ℕ
+name_text Json name = quoted name
+name_text Literal name = name
+
 -- a member, its value given by its text
-abbrev pub member : List ℕ × List ℕ → List ℕ
-member (name, text) = quoted name ++ (codes ":" ++ text)
+abbrev pub member : Style → List ℕ × List ℕ → List ℕ
+member style (name, text) = name_text style name ++ (colon_of style ++ text)
 
 -- one level of a value, with the text of each value inside in its place
-abbrev pub json_step : Value-F (List ℕ) → List ℕ
-json_step Value-F.Null = codes "null"
-json_step (Value-F.Boolean truth) = if truth then codes "true" else codes "false"
-json_step (Value-F.Number number) = signed_decimal number
-json_step (Value-F.String text) = quoted text
-json_step (Value-F.Enum name) = quoted name
-json_step (Value-F.List texts) = codes "[" ++ (separated (codes ",") texts ++ codes "]")
-json_step (Value-F.Object members) = codes "{" ++ (separated (codes ",") (map member members) ++ codes "}")
+abbrev pub text_step : Style → Value-F (List ℕ) → List ℕ
+text_step style Value-F.Null = codes "null"
+text_step style (Value-F.Boolean truth) = if truth then codes "true" else codes "false"
+text_step style (Value-F.Number number) = signed_decimal number
+text_step style (Value-F.String text) = quoted text
+text_step style (Value-F.Enum name) = name_text style name
+text_step style (Value-F.List texts) = codes "[" ++ (separated (comma_of style) texts ++ codes "]")
+text_step style (Value-F.Object members) = codes "{" ++ (separated (comma_of style) (map (member style) members) ++ codes "}")
 
+abbrev pub value_text : Style → Value → List ℕ
+value_text style = fold-Value (List ℕ) (text_step style)
+
+-- the JSON text of a value, and its literal
 abbrev pub json : Value → List ℕ
-json = fold-Value (List ℕ) json_step
+json = value_text Json
+
+abbrev pub literal : Value → List ℕ
+literal = value_text Literal

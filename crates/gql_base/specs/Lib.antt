@@ -3,4 +3,5 @@ pub mod Number
 pub mod Pairs
 pub mod Same
 pub mod Separated
+pub mod TypeRef
 pub mod formers

@@ -1,7 +1,7 @@
 ghost use Rattle.std.specs.Prelude.{All, ◌≡◌, [], ◌∷◌, ◌++◌, ◌<◌, ◌/◌, ◌%◌, ◌↔◌, IsTrue, length, map, codes, IfOk, OnOk, string_bytes, encode_utf8};
 ghost use Rattle.std.specs.Char.{digit_char};
 ghost use Rattle.std.specs.List.{flat_map};
-ghost use Rattle.gql_base.specs.Json.{escaped, IsPlain, quoted, member, json};
+ghost use Rattle.gql_base.specs.Json.{escaped, IsPlain, quoted, comma_of, colon_of, name_text, member, value_text, json, literal};
 ghost use Rattle.gql_base.specs.Separated.{separated, before};
 
 use crate::made::Made;
@@ -9,6 +9,13 @@ use crate::pairs::Pairs;
 use crate::text::Text;
 use crate::value::Value;
 use std::alloc::Global;
+
+/// How a value is written.
+#[derive(Clone, Copy)]
+enum Style {
+    Json,
+    Literal,
+}
 
 /// The JSON text of a value: without blanks, enums as strings, the members of an object in their order (RFC 8259).
 pub fn json_of(alloc: Global, value: &Value) -> Made<Text>
@@ -19,25 +26,41 @@ pub fn json_of(alloc: Global, value: &Value) -> Made<Text>
     Ok(Text::from_string(out))
 }
 
+/// The text of a value as it is written in a document: enums and keys bare, strings with JSON's escapes, and a blank after
+/// each comma and colon (GraphQL, October 2021, section 2.9).
+pub fn literal_of(alloc: Global, value: &Value) -> Made<Text>
+    ensures { IfOk result (λ text. text ≡ literal value.now) }
+{
+    let mut out = String::new(alloc);
+    push_value(&mut out, Style::Literal, value)?;
+    Ok(Text::from_string(out))
+}
+
 /// Appends the JSON text of a value.
-#[cycle(json)]
 pub fn push_json(out: &mut String, value: &Value) -> Made<()>
     ensures { OnOk result (string_bytes out.new ≡ string_bytes out.old ++ json value.now) }
+{
+    push_value(out, Style::Json, value)
+}
+
+#[cycle(json)]
+fn push_value(out: &mut String, style: Style, value: &Value) -> Made<()>
+    ensures { OnOk result (string_bytes out.new ≡ string_bytes out.old ++ value_text style value.now) }
 {
     match value {
         Value::Null => out.push_str("null"),
         Value::Boolean(truth) => out.push_str(if *truth { "true" } else { "false" }),
         Value::Number(number) => write!(out, "{number}"),
         Value::String(text) => push_quoted(out, text.as_str()),
-        Value::Enum(name) => push_quoted(out, name.as_str()),
+        Value::Enum(name) => push_styled(out, style, name.as_str()),
         Value::List(items) => {
             out.push('[')?;
-            push_items(out, items.as_slice())?;
+            push_items(out, style, items.as_slice())?;
             out.push(']')
         }
         Value::Object(members) => {
             out.push('{')?;
-            push_members(out, members)?;
+            push_members(out, style, members)?;
             out.push('}')
         }
     }
@@ -45,42 +68,74 @@ pub fn push_json(out: &mut String, value: &Value) -> Made<()>
 
 #[cycle(json)]
 #[tactic(auto, using(crate::proofs::SeparatedLemmas::separated_more))]
-fn push_items(out: &mut String, items: &[Value]) -> Made<()>
-    ensures { OnOk result (string_bytes out.new ≡ string_bytes out.old ++ separated (codes ",") (map json items.now)) }
+fn push_items(out: &mut String, style: Style, items: &[Value]) -> Made<()>
+    ensures { OnOk result (string_bytes out.new ≡ string_bytes out.old ++ separated (comma_of style) (map (value_text style) items.now)) }
 {
     for (place, item) in items.iter().enumerate() {
-        push_comma(out, place)?;
-        push_json(out, item)?;
+        push_separator(out, style, place)?;
+        push_value(out, style, item)?;
     }
     Ok(())
 }
 
 #[cycle(json)]
-fn push_members(out: &mut String, members: &Pairs<Value>) -> Made<()>
-    ensures { OnOk result (string_bytes out.new ≡ string_bytes out.old ++ separated (codes ",") (map (λ p. member (p.0, json p.1)) members.now)) }
+fn push_members(out: &mut String, style: Style, members: &Pairs<Value>) -> Made<()>
+    ensures { OnOk result (string_bytes out.new ≡ string_bytes out.old
+        ++ separated (comma_of style) (map (λ p. member style (p.0, value_text style p.1)) members.now)) }
 {
     for place in 0..members.len() {
-        push_comma(out, place)?;
+        push_separator(out, style, place)?;
         let (name, value) = members.at(place);
-        push_name(out, name)?;
-        push_json(out, value)?;
+        push_key(out, style, name)?;
+        push_value(out, style, value)?;
     }
     Ok(())
 }
 
-/// Appends a comma, but before the part at place 0 nothing.
+/// Appends what separates two parts, but before the part at place 0 nothing.
+fn push_separator(out: &mut String, style: Style, place: usize) -> Made<()>
+    ensures { OnOk result (string_bytes out.new ≡ string_bytes out.old ++ before (comma_of style) place) }
+{
+    if place == 0 {
+        return Ok(());
+    }
+    out.push_str(match style {
+        Style::Json => ",",
+        Style::Literal => ", ",
+    })
+}
+
+fn push_key(out: &mut String, style: Style, name: &str) -> Made<()>
+    ensures { OnOk result (string_bytes out.new ≡ string_bytes out.old ++ (name_text style name.now ++ colon_of style)) }
+{
+    push_styled(out, style, name)?;
+    out.push_str(match style {
+        Style::Json => ":",
+        Style::Literal => ": ",
+    })
+}
+
+fn push_styled(out: &mut String, style: Style, name: &str) -> Made<()>
+    ensures { OnOk result (string_bytes out.new ≡ string_bytes out.old ++ name_text style name.now) }
+{
+    match style {
+        Style::Json => push_quoted(out, name),
+        Style::Literal => out.push_str(name),
+    }
+}
+
+/// Appends a comma of a JSON text, but before the part at place 0 nothing.
 pub fn push_comma(out: &mut String, place: usize) -> Made<()>
     ensures { OnOk result (string_bytes out.new ≡ string_bytes out.old ++ before (codes ",") place) }
 {
-    if place == 0 { Ok(()) } else { out.push(',') }
+    push_separator(out, Style::Json, place)
 }
 
-/// Appends the name of a member and its colon.
+/// Appends the name of a member of a JSON object, and its colon.
 pub fn push_name(out: &mut String, name: &str) -> Made<()>
     ensures { OnOk result (string_bytes out.new ≡ string_bytes out.old ++ (quoted name.now ++ codes ":")) }
 {
-    push_quoted(out, name)?;
-    out.push(':')
+    push_key(out, Style::Json, name)
 }
 
 /// Appends a text as a JSON string.
