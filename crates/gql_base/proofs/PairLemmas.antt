@@ -153,7 +153,7 @@ pushed-same ks vs k v ks' vs' same keys values =
     omega (arith, ap length keys, ap length values, length-append ks (k ∷ []), length-append vs (v ∷ []))
 
 -- pairs with distinct names, added one by one
-put-fresh : {T : Type 0} (ps : List (List ℕ × T)) (n : List ℕ) (x : T) → under n ps ≡ None → put ps n x ≡ ps ++ (n, x) ∷ []
+pub put-fresh : {T : Type 0} (ps : List (List ℕ × T)) (n : List ℕ) (x : T) → under n ps ≡ None → put ps n x ≡ ps ++ (n, x) ∷ []
 put-fresh [] n x fresh = refl
 put-fresh (p ∷ ps) n x fresh =
     let P : Bool → Type 0 = λ b. cond b (Some p.1) (under n ps) ≡ None → cond b ((p.0, x) ∷ ps) (p ∷ put ps n x) ≡ p ∷ (ps ++ (n, x) ∷ []) in

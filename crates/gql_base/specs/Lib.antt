@@ -1,3 +1,4 @@
+pub mod ReadJson
 pub mod Json
 pub mod Number
 pub mod Pairs

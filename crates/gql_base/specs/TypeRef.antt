@@ -1,5 +1,5 @@
 -- Types as they are referred to (GraphQL, October 2021, section 2.11).
-use Rattle.std.specs.Prelude.{ℕ, Bool, true, false, List, [], ◌∷◌, ◌++◌, codes}
+use Rattle.std.specs.Prelude.{ℕ, Bool, true, false, List, ◌++◌, codes}
 use Rattle.gql_base.specs.declared.type_ref.TypeRef.{TypeRef, out-TypeRef}
 use Rattle.gql_base.specs.declared.type_ref.TypeRef.TheOpen.{TypeRef-F}
 use Rattle.gql_base.specs.declared.type_ref.TypeRef.TheFolds.{fold-TypeRef}

@@ -1,12 +1,11 @@
 ghost use Rattle.std.specs.Prelude.{◌≡◌, ◌++◌, IfOk, OnOk, string_bytes};
 ghost use Rattle.gql_base.specs.TypeRef.{type_text, innermost, is_nullable as nullable};
 
-use std::alloc::Global;
-
 use crate::boxed::Boxed;
 use crate::made::Made;
 use crate::name::Name;
 use crate::text::Text;
+use std::alloc::Global;
 
 /// A type as it is referred to (GraphQL, October 2021, section 2.11).
 #[derive(Debug, Drop)]
@@ -18,8 +17,11 @@ pub enum TypeRef {
 
 impl TypeRef {
     pub const INT: &'static str = "Int";
+
     pub const STRING: &'static str = "String";
+
     pub const BOOLEAN: &'static str = "Boolean";
+
     pub const ID: &'static str = "ID";
 
     /// The type `T`, for the name T.

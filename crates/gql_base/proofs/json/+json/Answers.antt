@@ -13,6 +13,6 @@ push_value-returns-in_ok-push_members-in-Object t c =
 pub push_members-loop-place-preserved : goal.push_members-loop-place-preserved
 push_members-loop-place-preserved t c =
     let more =
-      separated_at (λ p. member c.args.style (p.0, value_text c.args.style p.1)) (comma_of c.args.style) c.args.members.now c.loop-place.place
-      (c.at.result.0.now, c.at.result.1.now) c.at.ensures in
+    separated_at (λ p. member c.args.style (p.0, value_text c.args.style p.1)) (comma_of c.args.style) c.args.members.now c.loop-place.place
+    (c.at.result.0.now, c.at.result.1.now) c.at.ensures in
     grind (arith, common_steps, more)

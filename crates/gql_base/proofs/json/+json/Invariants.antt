@@ -11,4 +11,4 @@ abbrev pub invariant-push_members-loop-place : goal.invariant-push_members-loop-
 invariant-push_members-loop-place l =
     string_bytes l.out
     ≡ string_bytes l.initial.out
-      ++ separated (comma_of l.style) (map (λ p. member l.style (p.0, value_text l.style p.1)) (take l.place l.members))
+    ++ separated (comma_of l.style) (map (λ p. member l.style (p.0, value_text l.style p.1)) (take l.place l.members))
