@@ -3,6 +3,7 @@
 
 mod bench;
 mod outcome;
+mod program;
 mod reading;
 mod sink;
 mod source;
@@ -13,6 +14,8 @@ mod writing;
 
 pub use bench::Written;
 pub use outcome::Outcome;
+pub use program::{run, run_alone};
+pub use reading::INPUT_LIMIT;
 pub use sink::{Sink, SinkFault};
 pub use source::{Failed, Source};
 pub use status::Status;

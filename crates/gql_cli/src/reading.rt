@@ -7,7 +7,7 @@ use gql_base::{Items, Made};
 use std::alloc::Global;
 
 /// How many bytes an input may have.
-pub(crate) const LIMIT: usize = 16_777_216;
+pub const INPUT_LIMIT: usize = 16_777_216;
 
 /// How many bytes are asked for in one read.
 const PIECE: usize = 65_536;
@@ -30,7 +30,7 @@ pub(crate) fn read_whole<I: Source>(alloc: Global, source: &mut I) -> Made<Readi
         match source.read(&mut piece) {
             Err(_) => return Ok(Reading::Failed),
             Ok(0) => return Ok(Reading::Whole(Items::from_vec(bytes))),
-            Ok(count) if LIMIT - bytes.len() < count => return Ok(Reading::TooLong),
+            Ok(count) if INPUT_LIMIT - bytes.len() < count => return Ok(Reading::TooLong),
             Ok(count) => bytes.extend_from_slice(&piece[..count])?,
         }
     }
