@@ -2,6 +2,7 @@
 #![tactic(auto)]
 
 mod bench;
+mod memory;
 mod outcome;
 mod program;
 mod reading;
@@ -13,6 +14,7 @@ mod sure;
 mod writing;
 
 pub use bench::Written;
+pub use memory::{MemorySink, MemorySource};
 pub use outcome::Outcome;
 pub use program::{run, run_alone};
 pub use reading::INPUT_LIMIT;
