@@ -3,5 +3,6 @@ pub mod BlockLaws
 pub mod GapLaws
 pub mod LexerLaws
 pub mod NumberLaws
+pub mod PlaceLaws
 pub mod StringLaws
 pub mod TokenLaws

@@ -1,5 +1,6 @@
 -- Lists that are cut in two ways, and the runs that they begin with.
-use Rattle.std.proofs.Common.{◌≡◌, ℕ, Bool, true, false, ◌⊎◌, List, [], ◌∷◌, ◌++◌, refl, sym, ap, ◌∙◌, inl, inr, arith, subst}
+use Rattle.std.proofs.Common.{◌≡◌, ℕ, Bool, true, false, ◌⊎◌, List, [], ◌∷◌, ◌++◌, refl, sym, ap, ◌∙◌, inl, inr, arith, subst, ◌+◌, ◌<◌, length, take, drop, get_or}
+use Rattle.std.proofs.lemmas.List.{drop_more, take_more}
 use Rattle.std.specs.List.{AllByRecursion}
 use Rattle.gql_tokens.specs.Characters.{begins}
 
@@ -52,3 +53,13 @@ each_back p (c ∷ a) b h = each_back p a b h.1
 
 pub each_same : (p : ℕ → Bool) {a b : List ℕ} → a ≡ b → Each p a → Each p b
 each_same p e h = subst (Each p) e h
+
+-- what a list begins with behind its first elements
+pub drop_at_item : (text : List ℕ) (i c : ℕ) → i < length text → c ≡ get_or text i c → drop i text ≡ c ∷ drop (i + 1) text
+drop_at_item text i c h e = drop_more text i c h ∙ ap (λ d. d ∷ drop (i + 1) text) (sym e)
+
+pub take_at_item : (text : List ℕ) (i c : ℕ) → i < length text → c ≡ get_or text i c → take (i + 1) text ≡ take i text ++ c ∷ []
+take_at_item text i c h e = take_more text i c h ∙ ap (λ d. take i text ++ d ∷ []) (sym e)
+
+pub begins_at : (test : ℕ → Bool) (text : List ℕ) (i c : ℕ) → i < length text → c ≡ get_or text i c → begins test (drop i text) ≡ test c
+begins_at test text i c h e = ap (begins test) (drop_at_item text i c h e)
