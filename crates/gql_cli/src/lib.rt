@@ -11,6 +11,8 @@ mod source;
 mod status;
 mod streams;
 mod sure;
+#[cfg(test)]
+mod tests;
 mod writing;
 
 pub use bench::Written;
