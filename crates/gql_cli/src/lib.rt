@@ -6,6 +6,7 @@ mod memory;
 mod outcome;
 mod program;
 mod reading;
+mod shared;
 mod sink;
 mod source;
 mod status;
