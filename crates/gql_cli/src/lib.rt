@@ -6,11 +6,14 @@ mod memory;
 mod outcome;
 mod program;
 mod reading;
+mod shared;
 mod sink;
 mod source;
 mod status;
 mod streams;
 mod sure;
+#[cfg(test)]
+mod tests;
 mod writing;
 
 pub use bench::Written;
