@@ -12,7 +12,7 @@ use Rattle.gql_tokens.specs.Number.{IsDigits, IsWhole, IsInteger, IsFloat, IsSup
 use Rattle.gql_tokens.specs.String.{IsString}
 use Rattle.gql_tokens.specs.Block.{three_quotes, written, IsBlockString}
 use Rattle.gql_tokens.specs.Token.{characters_of, Spells, IsToken}
-use Rattle.gql_tokens.proofs.Lists.{head_is, tail_is, fronts}
+use Rattle.gql_tokens.proofs.Lists.{head_is, tail_is, fronts, begins_front}
 use Rattle.gql_tokens.proofs.NumberLaws.{integer_not_float}
 use Rattle.gql_tokens.proofs.StringLaws.{written_not_quote, string_unique}
 use Rattle.gql_tokens.proofs.BlockLaws.{block_unique}
@@ -72,12 +72,8 @@ unfolding begins_class
 integer_begins cs (inl h) = whole_begins cs h
 integer_begins cs (inr h) = ap (begins (begins_class numeric)) h.1
 
-begins_front : (test : ℕ → Bool) (a b cs : List ℕ) → cs ≡ a ++ b → begins test a ≡ true → begins test cs ≡ true
-begins_front test [] b cs e h = let k : false ≡ true = h in cc
-begins_front test (c ∷ a) b cs e h = ap (begins test) e ∙ h
-
 float_begins : (cs : List ℕ) → IsFloat cs → begins (begins_class numeric) cs ≡ true
-float_begins cs h = begins_front (begins_class numeric) h.0 h.1 cs h.2 (integer_begins h.0 h.3)
+float_begins cs h = ap (begins (begins_class numeric)) h.2 ∙ begins_front (begins_class numeric) h.0 h.1 (integer_begins h.0 h.3)
 
 punctuator_begins : (p : Punctuator) → begins is_punctuation (characters_of p) ≡ true
 unfolding is_punctuation

@@ -4,6 +4,7 @@
 mod characters;
 mod gap;
 mod name;
+mod number;
 mod place;
 mod token;
 
