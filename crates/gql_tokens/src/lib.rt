@@ -6,6 +6,7 @@ mod gap;
 mod name;
 mod number;
 mod place;
+mod string;
 mod token;
 
 pub use token::{Lexeme, Punctuator, Token};
