@@ -1,6 +1,7 @@
 //! The tokens of a GraphQL text.
 #![tactic(auto)]
 
+mod block;
 mod characters;
 mod gap;
 mod name;
