@@ -1,3 +1,4 @@
+pub mod LinesLaws
 pub mod Lists
 pub mod BlockLaws
 pub mod GapLaws

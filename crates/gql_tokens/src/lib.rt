@@ -4,6 +4,7 @@
 mod block;
 mod characters;
 mod gap;
+mod lines;
 mod name;
 mod number;
 mod place;
