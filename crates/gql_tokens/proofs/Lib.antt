@@ -1,9 +1,11 @@
 pub mod LinesLaws
 pub mod Lists
+pub mod BlockEnds
 pub mod BlockLaws
 pub mod GapLaws
 pub mod LexerLaws
 pub mod NumberLaws
 pub mod PlaceLaws
+pub mod SourceLaws
 pub mod StringLaws
 pub mod TokenLaws

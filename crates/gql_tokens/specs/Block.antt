@@ -1,6 +1,6 @@
 -- Block strings (section 2.9.4): what stands between their quotes.
-use Rattle.std.specs.Prelude.{◌≡◌, ℕ, ◌≤◌, Bool, true, false, List, [], ◌∷◌, ◌++◌, ◌==◌, nat_eq, length, take}
-use Rattle.std.specs.List.{starts_with}
+use Rattle.std.specs.Prelude.{◌≡◌, ℕ, ◌≤◌, Bool, true, false, List, [], ◌∷◌, ◌++◌, ◌==◌, nat_eq, length, take, encode_utf8_all}
+use Rattle.std.specs.List.{starts_with, AllByRecursion}
 use Rattle.gql_tokens.specs.declared.block.Found.{Found}
 use Rattle.gql_tokens.specs.declared.block.Found.TheVariants as founds
 use Rattle.gql_tokens.specs.Characters.{quote, backslash, is_source, begins}
@@ -65,3 +65,14 @@ IsBodyAt text raw n =
     (n ≤ length text)
     × ((pieces : List Piece) × (take n text ≡ three_quotes ++ (written pieces ++ three_quotes)) × ArePieces pieces three_quotes
        × (raw ≡ raw_of pieces))
+
+-- a block string of this length begins the text, and its value is this in UTF-8
+abbrev pub IsBlockAt : List ℕ → List ℕ → ℕ → Type 0
+IsBlockAt text bytes n =
+    (n ≤ length text) × ((value : List ℕ) × IsBlockString value (take n text) × (bytes ≡ encode_utf8_all value))
+
+-- No block string that begins in the text has an end, as far as the characters before it may stand in one.
+abbrev pub NoBlockEnds : List ℕ → Type 0
+NoBlockEnds text =
+    (front rest : List ℕ) → AllByRecursion (λ c. is_source c ≡ true) front → text ≡ front ++ (three_quotes ++ rest)
+    → IsUnended rest

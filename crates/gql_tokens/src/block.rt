@@ -1,10 +1,12 @@
 ghost use Rattle.std.specs.Prelude.{◌≡◌, ◌==◌, ◌+◌, ◌++◌, ◌∷◌, [], true, false, ◌<◌, ◌≤◌, ℕ, List, nat_eq, length, take, drop, IfOk, IfSome, IfNone, OnOk, MatchOption, map, unwrap_or, encode_utf8_all};
 ghost use Rattle.std.specs.List.{starts_with, prefix_len};
 ghost use Rattle.gql_tokens.specs.Characters.{is_blank, is_source, begins};
-ghost use Rattle.gql_tokens.specs.Block.{three_quotes, escaped_quotes, raw_of, IsUnended, IsPieceAt, IsBodyAt};
+ghost use Rattle.gql_tokens.specs.Block.{three_quotes, escaped_quotes, raw_of, IsUnended, IsPieceAt, IsBodyAt, IsBlockAt};
 
 use crate::characters::is_source;
-use gql_base::{Made, Text};
+use crate::lines::block_value;
+use crate::string::Quoted;
+use gql_base::Made;
 use std::alloc::Global;
 
 /// What stands at a place in a block string.
@@ -69,4 +71,22 @@ fn body_at(alloc: Global, text: &[char]) -> Made<Option<Body>>
         }
     }
     Ok(None)
+}
+
+/// The block string at the front of a text that begins with three quotes. None where it has no end.
+pub fn block_at(alloc: Global, text: &[char]) -> Made<Option<Quoted>>
+    requires { starts_with nat_eq text.now three_quotes ≡ true }
+    ensures { IfOk result
+        (λ found. MatchOption found (IsUnended (drop 3 text.now)) (λ block. IsBlockAt text.now block.text block.length)) }
+{
+    match body_at(alloc, text)? {
+        Some(body) => {
+            let text = block_value(alloc, &body.raw)?;
+            Ok(Some(Quoted {
+                text,
+                length: body.length,
+            }))
+        }
+        None => Ok(None),
+    }
 }
