@@ -5,6 +5,7 @@ pub mod BlockLaws
 pub mod GapLaws
 pub mod LexerLaws
 pub mod NumberLaws
+pub mod NumeralLaws
 pub mod PlaceLaws
 pub mod SourceLaws
 pub mod StringLaws
