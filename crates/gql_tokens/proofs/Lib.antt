@@ -8,5 +8,7 @@ pub mod NumberLaws
 pub mod NumeralLaws
 pub mod PlaceLaws
 pub mod SourceLaws
+pub mod StandsLaws
+pub mod StepLaws
 pub mod StringLaws
 pub mod TokenLaws

@@ -1,5 +1,5 @@
 -- Lists that are cut in two ways, and the runs that they begin with.
-use Rattle.std.proofs.Common.{◌≡◌, ℕ, Bool, true, false, cond, ◌⊎◌, List, [], ◌∷◌, ◌++◌, refl, sym, ap, ◌∙◌, inl, inr, arith, subst, ◌+◌, ◌<◌, ◌≤◌, length, take, drop, get_or, one-add, suc}
+use Rattle.std.proofs.Common.{◌≡◌, ℕ, Bool, true, false, cond, ◌⊎◌, List, [], ◌∷◌, ◌++◌, refl, sym, ap, ◌∙◌, inl, inr, arith, subst, ◌+◌, ◌<◌, ◌≤◌, length, take, drop, get_or, one-add, suc, zero}
 use Rattle.std.proofs.lemmas.List.{drop_more, take_more}
 use Rattle.std.specs.List.{AllByRecursion, prefix_len}
 use Rattle.gql_tokens.specs.Characters.{begins}
@@ -119,3 +119,13 @@ pub run_length : (test : ℕ → Bool) (cs rest : List ℕ) → Each test cs →
 run_length test [] [] h ends = refl
 run_length test [] (d ∷ rest) h ends = rw ends refl
 run_length test (c ∷ cs) rest h ends = rw h.0 (rw one-add (ap suc (run_length test cs rest h.1 ends)))
+
+-- a front that isn't empty begins as the whole does
+pub begins_take : (test : ℕ → Bool) (n : ℕ) (text : List ℕ) → begins test text ≡ true → 0 < n → begins test (take n text) ≡ true
+begins_take test zero text h some = absurd (omega arith)
+begins_take test (suc n) [] h some = h
+begins_take test (suc n) (c ∷ cs) h some = h
+
+pub run_some : (test : ℕ → Bool) (text : List ℕ) → begins test text ≡ true → 0 < prefix_len test text
+run_some test [] h = let k : false ≡ true = h in absurd cc
+run_some test (c ∷ cs) h = rw h (omega arith)

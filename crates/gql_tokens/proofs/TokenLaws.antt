@@ -21,7 +21,7 @@ use Rattle.gql_tokens.proofs.BlockLaws.{block_unique}
 pub data Class : Type 0 where
   punctuation naming numeric quoting : Class
 
-pub class_of : Lexeme → Class
+unfoldable pub class_of : Lexeme → Class
 class_of (lexemes.Punctuator p) = punctuation
 class_of (lexemes.Name n) = naming
 class_of (lexemes.Number n) = numeric
@@ -30,13 +30,13 @@ class_of lexemes.End = punctuation
 class_of lexemes.Unexpected = punctuation
 class_of lexemes.Unsupported = numeric
 
-pub is_punctuation : ℕ → Bool
+unfoldable pub is_punctuation : ℕ → Bool
 is_punctuation c =
     ((c == 33 || c == 36) || (c == 38 || c == 40)) || ((c == 41 || c == 46) || (c == 58 || c == 61))
     || (((c == 64 || c == 91) || (c == 93 || c == 123)) || (c == 124 || c == 125))
 
 -- a first character of the class
-pub begins_class : Class → ℕ → Bool
+unfoldable pub begins_class : Class → ℕ → Bool
 begins_class punctuation c = is_punctuation c
 begins_class naming c = is_name_start c
 begins_class numeric c = is_ascii_digit c || c == minus
@@ -75,7 +75,7 @@ integer_begins cs (inr h) = ap (begins (begins_class numeric)) h.1
 float_begins : (cs : List ℕ) → IsFloat cs → begins (begins_class numeric) cs ≡ true
 float_begins cs h = ap (begins (begins_class numeric)) h.2 ∙ begins_front (begins_class numeric) h.0 h.1 (integer_begins h.0 h.3)
 
-punctuator_begins : (p : Punctuator) → begins is_punctuation (characters_of p) ≡ true
+pub punctuator_begins : (p : Punctuator) → begins is_punctuation (characters_of p) ≡ true
 unfolding is_punctuation
 punctuator_begins punctuators.Bang = refl
 punctuator_begins punctuators.Dollar = refl

@@ -4,6 +4,7 @@
 mod block;
 mod characters;
 mod gap;
+mod lexer;
 mod lines;
 mod name;
 mod number;
@@ -11,4 +12,5 @@ mod place;
 mod string;
 mod token;
 
+pub use lexer::{one_token_list, tokens_of};
 pub use token::{Lexeme, Punctuator, Token};
