@@ -2,10 +2,10 @@
 use Rattle.std.proofs.Common.{◌≡◌, ℕ, ◌≤◌, Bool, true, false, ◌⊎◌, List, [], ◌∷◌, ◌++◌, nat_eq, drop, length, refl, sym, ap, ◌∙◌, inl, inr, arith, subst, append_assoc, ap₂, take, take-append-drop, length-append}
 use Rattle.std.proofs.lemmas.List.{drop-append-le}
 use Rattle.std.specs.List.{starts_with}
-use Rattle.gql_tokens.specs.Characters.{quote, backslash, is_source, begins}
+use Rattle.gql_tokens.specs.Characters.{quote, backslash, is_source}
 use Rattle.gql_tokens.specs.Block.{three_quotes, escaped_quotes, Piece, written, ArePieces, IsUnended, NoBlockEnds}
 use Rattle.gql_tokens.specs.Block.Piece.{itself, quotes}
-use Rattle.gql_tokens.proofs.Lists.{head_is, tail_is, fronts, Each, each_front, each_back, each_append}
+use Rattle.gql_tokens.proofs.Lists.{head_is, tail_is, fronts, Each, each_back, each_append}
 use Rattle.gql_tokens.proofs.BlockLaws.{starts_gives}
 
 -- the quotes that end a block string stand in the text
@@ -48,13 +48,14 @@ ends_more c f x source closed behind skipped = go (starts_with nat_eq (c ∷ f +
           text_is = ap (λ l. l ++ x) (ap₂ ◌∷◌ backslash_is e) ∙ ap (λ l. escaped_quotes ++ l) more.text_is;
           are_pieces = more.are_pieces;
         }
+
     go : (a b : Bool) → starts_with nat_eq (c ∷ f ++ x) three_quotes ≡ a → starts_with nat_eq (c ∷ f ++ x) escaped_quotes ≡ b → Ends (c ∷ f ++ x)
     go true b p q = record { pieces = []; rest = drop 3 (c ∷ f ++ x); text_is = starts_gives (c ∷ f ++ x) three_quotes p; are_pieces = tt }
     go false true p q =
         let whole = starts_gives (c ∷ f ++ x) escaped_quotes q in
         let back = drop 4 (c ∷ f ++ x) in
         elim (fronts three_quotes f back x (sym (tail_is whole))) [
-          inl w ↦ skip (head_is whole) w.0 w.1
+          | inl w ↦ skip (head_is whole) w.0 w.1
           | inr w ↦ absurd (closed (head_is whole) (few_quotes f w.0 w.1 w.2))
         ]
     go false false p q = record {
@@ -103,9 +104,9 @@ no_block_ends text behind e unended front rest source is pieces more text_is are
     let cut = take-append-drop 3 whole in
     let all = each_append is_source front three_quotes source quotes_source in
     let ends = ends_later left rest
-        (each_back is_source (take 3 whole) left (subst (Each is_source) (sym cut) all))
-        (closed_behind (take 3 whole) left (subst IsClosed (sym cut) (closed_by_quotes front)))
-        (record { pieces = pieces; rest = more; text_is = text_is; are_pieces = are_pieces }) in
+    (each_back is_source (take 3 whole) left (subst (Each is_source) (sym cut) all))
+    (closed_behind (take 3 whole) left (subst IsClosed (sym cut) (closed_by_quotes front)))
+    (record { pieces = pieces; rest = more; text_is = text_is; are_pieces = are_pieces }) in
     let same : behind ≡ left ++ rest = ap (drop 3) (sym e ∙ is ∙ sym (append_assoc front three_quotes rest)) ∙ drop-append-le 3 whole rest long in
     unended ends.pieces ends.rest (same ∙ ends.text_is) ends.are_pieces
 

@@ -1,5 +1,5 @@
 -- Block strings: each is read in one way.
-use Rattle.std.proofs.Common.{◌≡◌, ℕ, ◌+◌, ◌<◌, ◌≤◌, Bool, true, false, ◌⊎◌, List, [], ◌∷◌, ◌++◌, nat_eq, length, take, refl, sym, ap, ◌∙◌, inl, inr, arith, append_assoc, append-nil, length-append, ◌==◌, drop, drop-drop, take-append-drop, subst, ap₂, eqb-true, take_at, length-drop, ◌-◌}
+use Rattle.std.proofs.Common.{◌≡◌, ℕ, ◌+◌, ◌≤◌, Bool, true, false, List, [], ◌∷◌, ◌++◌, nat_eq, length, take, refl, sym, ap, ◌∙◌, arith, append_assoc, length-append, ◌==◌, drop, drop-drop, take-append-drop, subst, ap₂, eqb-true, take_at, length-drop, ◌-◌}
 use Rattle.std.specs.Cmp.Lexicographic.{bytes_decides}
 use Rattle.std.specs.List.{starts_with}
 use lib.Pointwise.{pointwise}
@@ -60,8 +60,8 @@ pieces_alone (quotes ∷ ps) x p = pieces_alone ps x p
 pub block_unique : (v w p q x y : List ℕ) → IsBlockString v p → IsBlockString w q → p ++ x ≡ q ++ y → (v ≡ w) × (p ≡ q) × (x ≡ y)
 block_unique v w p q x y h k e =
     let whole : three_quotes ++ (written h.0 ++ (three_quotes ++ x)) ≡ three_quotes ++ (written k.0 ++ (three_quotes ++ y)) =
-        ap (λ l. three_quotes ++ l) (sym (append_assoc (written h.0) three_quotes x)) ∙ ap (λ l. l ++ x) (sym h.1) ∙ e
-        ∙ ap (λ l. l ++ y) k.1 ∙ ap (λ l. three_quotes ++ l) (append_assoc (written k.0) three_quotes y) in
+    ap (λ l. three_quotes ++ l) (sym (append_assoc (written h.0) three_quotes x)) ∙ ap (λ l. l ++ x) (sym h.1) ∙ e
+    ∙ ap (λ l. l ++ y) k.1 ∙ ap (λ l. three_quotes ++ l) (append_assoc (written k.0) three_quotes y) in
     let (same, rest) = pieces_unique h.0 k.0 x y (pieces_before h.0 x h.2) (pieces_before k.0 y k.2) (tail_is (tail_is (tail_is whole))) in
     let hp = h.1 in let kq = k.1 in let hv = h.3 in let kw = k.3 in
     ((cc), (cc), rest)
@@ -80,8 +80,7 @@ pub pieces_append : (ps qs : List Piece) (rest : List ℕ) → ArePieces ps (wri
 pieces_append [] qs rest h k = k
 pieces_append (itself c ∷ ps) qs rest h k =
     let same : written (ps ++ qs) ++ rest ≡ written ps ++ (written qs ++ rest) =
-        ap (λ l. l ++ rest) (written-append ps qs) ∙ append_assoc (written ps) (written qs) rest in
-    (
+    ap (λ l. l ++ rest) (written-append ps qs) ∙ append_assoc (written ps) (written qs) rest in (
       h.0,
       ap (λ l. starts_with nat_eq (c ∷ l) three_quotes) same ∙ h.1,
       ap (λ l. starts_with nat_eq (c ∷ l) escaped_quotes) same ∙ h.2,
@@ -117,6 +116,7 @@ unended_behind text x ps e h ends qs rest f k = go more.0 more.2 more.3
   where
     more : (us : List Piece) × (qs ≡ ps ++ us) × (x ≡ written us ++ (three_quotes ++ rest)) × ArePieces us (three_quotes ++ rest)
     more = pieces_split ps qs x rest h k (sym e ∙ f)
+
     go : (us : List Piece) → x ≡ written us ++ (three_quotes ++ rest) → ArePieces us (three_quotes ++ rest) → ⊥
     go [] is w = let b = sym ends ∙ ap (begins is_source) is in cc
     go (itself c ∷ us) is w = let b = sym ends ∙ ap (begins is_source) is in let s = w.0 in cc
@@ -161,8 +161,7 @@ within_itself text raw at c h first source p q =
     let (d, rest, is, same) = begins_so (λ d. d == c) (drop at text) first in
     let behind : rest ≡ drop (at + 1) text = sym (ap (drop 1) is) ∙ drop-drop 1 at text in
     let whole : drop at text ≡ c ∷ drop (at + 1) text = is ∙ ap₂ ◌∷◌ (eqb-true d c same) behind in
-    within_more text raw at (at + 1) (itself c ∷ []) h whole
-    (
+    within_more text raw at (at + 1) (itself c ∷ []) h whole (
       source,
       ap (λ l. starts_with nat_eq l three_quotes) (sym whole) ∙ p,
       ap (λ l. starts_with nat_eq l escaped_quotes) (sym whole) ∙ q,
@@ -175,14 +174,13 @@ within_body text raw at short h k =
     let back : drop at text ≡ three_quotes ++ drop (at + 3) text = starts_gives (drop at text) three_quotes k ∙ ap (λ l. three_quotes ++ l) (drop-drop 3 at text) in
     let spelling = three_quotes ++ (written h.pieces ++ three_quotes) in
     let whole : text ≡ spelling ++ drop (at + 3) text =
-        h.text_is ∙ ap (λ l. three_quotes ++ l) (ap (λ l. written h.pieces ++ l) back ∙ sym (append_assoc (written h.pieces) three_quotes (drop (at + 3) text))) in
+    h.text_is ∙ ap (λ l. three_quotes ++ l) (ap (λ l. written h.pieces ++ l) back ∙ sym (append_assoc (written h.pieces) three_quotes (drop (at + 3) text))) in
     let total = ap length h.text_is in
     let behind = length-drop at text in
     let rest = ap length back in
     let joined = length-append (written h.pieces) (drop at text) in
     let ended = length-append (written h.pieces) three_quotes in
-    let size : length spelling ≡ at + 3 = omega arith in
-    (
+    let size : length spelling ≡ at + 3 = omega arith in (
       omega arith,
       (
         h.pieces,

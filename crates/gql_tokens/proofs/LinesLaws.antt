@@ -1,10 +1,9 @@
 -- The lines of a text, and those that a block string keeps.
-use Rattle.std.proofs.Common.{◌≡◌, ℕ, ◌+◌, ◌-◌, ◌<◌, ◌≤◌, Bool, true, false, not, cond, ◌==◌, ◌⊎◌, List, [], ◌∷◌, ◌++◌, nat_eq, length, take, drop, reverse, Option, Some, None, refl, sym, ap, ◌∙◌, inl, inr, arith, append_assoc, append-nil, length-append, length-drop, take-append-drop, drop-drop, take_all, subst, le_refl, map}
-use Rattle.std.specs.List.{starts_with, prefix_len, join_with_byte}
+use Rattle.std.proofs.Common.{◌≡◌, ℕ, ◌+◌, ◌-◌, ◌<◌, ◌≤◌, Bool, true, false, cond, ◌==◌, ◌⊎◌, List, [], ◌∷◌, ◌++◌, length, take, drop, reverse, Some, None, refl, sym, ap, ◌∙◌, inl, inr, arith, append_assoc, length-append, length-drop, take-append-drop, drop-drop, take_all, subst, le_refl, map}
+use Rattle.std.specs.List.{prefix_len, join_with_byte}
 use Rattle.std.proofs.lemmas.Bool.Decides.{nat_tests}
 use Rattle.std.proofs.lemmas.List.{reverse-append, reverse-reverse, take-append-le, take_rest}
-use Rattle.gql_tokens.specs.Characters.{line_feed, carriage_return, is_line_end, is_line_character, begins}
-use Rattle.gql_tokens.specs.Place.{ends_line}
+use Rattle.gql_tokens.specs.Characters.{line_feed, carriage_return, is_line_character, begins}
 use Rattle.gql_tokens.specs.Lines.{with_first, lines_of, is_blank_line, without_first_blank, without_last_blank, IsFirstLine, IsKept}
 use Rattle.gql_tokens.proofs.Lists.{head_is, Each, each_same, run_passes, run_stops}
 
@@ -37,14 +36,13 @@ module _ (text : List ℕ) (n : ℕ) (e : n ≡ prefix_len is_line_character tex
       → IsFirstLine text n (Some (n + m))
   first_line_more m some fits is =
       let whole = take_rest text n in
-      let more = subst (λ l. lines_of l ≡ [] ∷ lines_of (drop m l)) whole is in
-      (
+      let more = subst (λ l. lines_of l ≡ [] ∷ lines_of (drop m l)) whole is in (
         within,
         (
           omega arith,
           omega (arith, ap length whole, length-drop n text),
           ap lines_of (sym (take-append-drop n text)) ∙ line_front (take n text) (drop n text) (lines_of (drop m (drop n text))) line_is more
-          ∙ ap (λ l. take n text ∷ lines_of l) (drop-drop m n text),
+              ∙ ap (λ l. take n text ∷ lines_of l) (drop-drop m n text),
         ),
       )
 
@@ -117,13 +115,13 @@ kept_lines lines = go (without_first_blank lines) refl
 module _ (text : List ℕ) (n : ℕ) (lines : List (List ℕ)) (line : List ℕ) (h : IsKept text n lines) where
   none_kept : text ≡ [] → without_first_blank lines ≡ []
   none_kept e = elim (kept_lines lines) [
-    inl none ↦ none
+    | inl none ↦ none
     | inr some ↦ absurd (join_some some.1 some.0 (first_kept lines some.1 some.0 some.2) (ap (join_with_byte line_feed) (sym some.2) ∙ sym h.text_is ∙ e))
   ]
 
   some_kept : (text ≡ [] → ⊥) → (first : List ℕ) × (kept : List (List ℕ)) × (without_first_blank lines ≡ first ∷ kept)
   some_kept some = elim (kept_lines lines) [
-    inl none ↦ absurd (some (h.text_is ∙ ap (join_with_byte line_feed) none))
+    | inl none ↦ absurd (some (h.text_is ∙ ap (join_with_byte line_feed) none))
     | inr k ↦ k
   ]
 
@@ -132,7 +130,7 @@ module _ (text : List ℕ) (n : ℕ) (lines : List (List ℕ)) (line : List ℕ)
   kept_none e blank =
       let none = none_kept e in
       let same : without_first_blank (lines ++ line ∷ []) ≡ without_first_blank lines =
-          first_blank-more lines line none ∙ blank_front line [] blank ∙ sym none in
+      first_blank-more lines line none ∙ blank_front line [] blank ∙ sym none in
       record {
         text_is = h.text_is ∙ ap (join_with_byte line_feed) (sym same);
         within = h.within;
@@ -143,7 +141,7 @@ module _ (text : List ℕ) (n : ℕ) (lines : List (List ℕ)) (line : List ℕ)
   pub kept_first : text ≡ [] → is_blank_line line ≡ false → IsKept line (length line) (lines ++ line ∷ [])
   kept_first e some =
       let one : without_first_blank (lines ++ line ∷ []) ≡ line ∷ [] =
-          first_blank-more lines line (none_kept e) ∙ full_front line [] some in
+      first_blank-more lines line (none_kept e) ∙ full_front line [] some in
       record {
         text_is = ap (join_with_byte line_feed) (sym one);
         within = le_refl (length line);
@@ -195,15 +193,14 @@ pub others_step : (n start line next : ℕ) (text : List ℕ) (done : List (List
     → IsFirstLine (take (length text - start) (drop start text)) line (Some next)
     → done ++ map (drop n) (lines_of (drop start text)) ≡ map (drop n) (lines_of text)
     → (start + next ≤ length text)
-      × ((done ++ drop n (take (start + line - start) (drop start text)) ∷ []) ++ map (drop n) (lines_of (drop (start + next) text)) ≡ map (drop n) (lines_of text))
+    × ((done ++ drop n (take (start + line - start) (drop start text)) ∷ []) ++ map (drop n) (lines_of (drop (start + next) text)) ≡ map (drop n) (lines_of text))
 others_step n start line next text done within first h =
     let behind = subst (λ l. IsFirstLine l line (Some next)) (take_rest text start) first in
     let lines = behind.1.2 ∙ ap (λ l. take line (drop start text) ∷ lines_of l) (drop-drop next start text) in
-    let same : start + line - start ≡ line = omega arith in
-    (
+    let same : start + line - start ≡ line = omega arith in (
       omega (arith, behind.1.1, length-drop start text),
       ap (λ k. (done ++ drop n (take k (drop start text)) ∷ []) ++ map (drop n) (lines_of (drop (start + next) text))) same
-      ∙ lines_step n start (start + next) text (take line (drop start text)) done lines h,
+          ∙ lines_step n start (start + next) text (take line (drop start text)) done lines h,
     )
 
 pub nothing_kept : (text : List ℕ) → text ≡ [] → IsKept text 0 []

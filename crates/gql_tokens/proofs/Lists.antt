@@ -1,5 +1,5 @@
 -- Lists that are cut in two ways, and the runs that they begin with.
-use Rattle.std.proofs.Common.{◌≡◌, ℕ, Bool, true, false, cond, ◌⊎◌, List, [], ◌∷◌, ◌++◌, refl, sym, ap, ◌∙◌, inl, inr, arith, subst, ◌+◌, ◌<◌, ◌≤◌, length, take, drop, get_or, one-add, suc, zero}
+use Rattle.std.proofs.Common.{◌≡◌, ℕ, Bool, true, false, cond, ◌⊎◌, List, [], ◌∷◌, ◌++◌, refl, sym, ap, ◌∙◌, inl, inr, arith, subst, ◌+◌, ◌<◌, length, take, drop, get_or, one-add, suc, zero}
 use Rattle.std.proofs.lemmas.List.{drop_more, take_more}
 use Rattle.std.specs.List.{AllByRecursion, prefix_len}
 use Rattle.gql_tokens.specs.Characters.{begins}
@@ -21,7 +21,7 @@ fronts [] b x y e = inl (b, refl, e)
 fronts (c ∷ a) [] x y e = inr (c, a, refl, sym e)
 fronts (c ∷ a) (d ∷ b) x y e =
     elim (fronts a b x y (tail_is e)) [
-      inl w ↦ inl (w.0, (let h = head_is e in let t = w.1 in cc), w.2)
+      | inl w ↦ inl (w.0, (let h = head_is e in let t = w.1 in cc), w.2)
       | inr w ↦ inr (w.0, w.1, (let h = head_is e in let t = w.2 in cc), w.3)
     ]
 
@@ -76,7 +76,7 @@ pub run_passes : (test : ℕ → Bool) (cs : List ℕ) → Each test (take (pref
 run_passes test [] = tt
 run_passes test (c ∷ cs) =
     elim (test c) as (λ b. test c ≡ b → Each test (take (cond b (1 + prefix_len test cs) 0) (c ∷ cs))) [
-      true ↦ λ e. rw one-add (e, run_passes test cs)
+      | true ↦ λ e. rw one-add (e, run_passes test cs)
       | false ↦ λ e. tt
     ] refl
 
@@ -84,7 +84,7 @@ pub run_stops : (test : ℕ → Bool) (cs : List ℕ) → begins test (drop (pre
 run_stops test [] = refl
 run_stops test (c ∷ cs) =
     elim (test c) as (λ b. test c ≡ b → begins test (drop (cond b (1 + prefix_len test cs) 0) (c ∷ cs)) ≡ false) [
-      true ↦ λ e. rw one-add (run_stops test cs)
+      | true ↦ λ e. rw one-add (run_stops test cs)
       | false ↦ λ e. e
     ] refl
 

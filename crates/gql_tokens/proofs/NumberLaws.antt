@@ -8,8 +8,8 @@ use Rattle.std.proofs.lemmas.List.Sums.{prefix_len-le-length}
 use Rattle.std.proofs.lemmas.Bool.Decides.{nat_tests}
 use Rattle.std.proofs.lemmas.Bool.{false_from_ne_true}
 use Rattle.gql_tokens.specs.Characters.{minus, full_stop, begins}
-use Rattle.gql_tokens.specs.Number.{IsDigits, IsWhole, IsInteger, IsFraction, IsPower, IsExponent, IsFloatPart, IsFloat, Optional, OnlyFront, begins_exponent, is_sign, is_bad_after_fraction, is_bad_after_number, natural_of, IsNumeral, IsNumeralAt}
-use Rattle.gql_tokens.proofs.Lists.{head_is, tail_is, drop_at_item, begins_front, begins_so, Each, each_same, each_back, each_weaker, run_unique, run_begins, run_passes, run_length}
+use Rattle.gql_tokens.specs.Number.{IsDigits, IsWhole, IsInteger, IsFraction, IsPower, IsExponent, IsFloatPart, IsFloat, Optional, OnlyFront, begins_exponent, is_bad_after_fraction, is_bad_after_number, natural_of, IsNumeral, IsNumeralAt}
+use Rattle.gql_tokens.proofs.Lists.{tail_is, drop_at_item, Each, each_same, each_back, each_weaker, run_begins, run_passes, run_length}
 
 -- what an integer is written with
 of_integer : ℕ → Bool
@@ -97,8 +97,7 @@ digits_only text cs rest e h ends = sym (ap (prefix_len is_ascii_digit) e ∙ ru
 -- the digits that a text begins with
 pub digits_some : (text : List ℕ) (n : ℕ) → n ≡ prefix_len is_ascii_digit text → (n ≡ 0 → ⊥) → OnlyFront IsDigits is_ascii_digit text (Some n)
 digits_some text n e some =
-    subst (λ k. OnlyFront IsDigits is_ascii_digit text (Some k)) (sym e)
-    (
+    subst (λ k. OnlyFront IsDigits is_ascii_digit text (Some k)) (sym e) (
       prefix_len-le-length is_ascii_digit text,
       (run_begins is_ascii_digit text (λ z. some (e ∙ z)), run_passes is_ascii_digit text),
       digits_only text,
@@ -119,10 +118,10 @@ fewer p q f (c ∷ cs) h = false_from_ne_true (p c) (λ e. let k = f c e in cc)
 pub exponent_some : (e : ℕ) (power : List ℕ) (n : ℕ) → begins_exponent e ≡ true → OnlyFront IsPower is_ascii_digit power (Some n)
     → OnlyFront (Optional IsExponent) is_bad_after_number (e ∷ power) (Some (1 + n))
 exponent_some e power n h k = rw one-add (
-    omega (arith, k.0),
-    inr (e, take n power, refl, h, k.1),
-    λ cs rest is form ends. go cs rest is form ends,
-  )
+  omega (arith, k.0),
+  inr (e, take n power, refl, h, k.1),
+  λ cs rest is form ends. go cs rest is form ends,
+)
   where
     go : (cs rest : List ℕ) → e ∷ power ≡ cs ++ rest → Optional IsExponent cs → begins is_bad_after_number rest ≡ false → length cs ≡ suc n
     go cs rest is (inl none) ends =

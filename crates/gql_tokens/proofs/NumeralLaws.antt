@@ -1,10 +1,10 @@
 -- A number goes on only with what may not follow one.
-use Rattle.std.proofs.Common.{◌≡◌, ℕ, ◌+◌, ◌<◌, ◌≤◌, Bool, true, false, ◌||◌, ◌==◌, ◌⊎◌, List, [], ◌∷◌, ◌++◌, refl, sym, ap, ◌∙◌, inl, inr, arith, append_assoc, append-nil, subst}
+use Rattle.std.proofs.Common.{◌≡◌, ℕ, Bool, true, ◌||◌, ◌==◌, ◌⊎◌, List, [], ◌∷◌, ◌++◌, refl, sym, ap, ◌∙◌, inl, inr, arith, append_assoc, append-nil, subst}
 use Rattle.std.specs.Char.{is_ascii_digit}
 use Rattle.std.proofs.lemmas.Bool.Decides.{nat_tests}
-use Rattle.gql_tokens.specs.Characters.{minus, full_stop, begins}
-use Rattle.gql_tokens.specs.Number.{IsDigits, IsWhole, IsInteger, IsFraction, IsPower, IsExponent, IsFloatPart, IsNumeral, Optional, begins_exponent, is_sign, is_bad_after_number}
-use Rattle.gql_tokens.proofs.Lists.{head_is, tail_is, Each, each_same, each_append, each_weaker}
+use Rattle.gql_tokens.specs.Characters.{minus, full_stop}
+use Rattle.gql_tokens.specs.Number.{IsDigits, IsWhole, IsInteger, IsFraction, IsPower, IsExponent, IsFloatPart, IsNumeral, Optional, begins_exponent, is_bad_after_number}
+use Rattle.gql_tokens.proofs.Lists.{head_is, tail_is, Each, each_same, each_weaker}
 
 -- what a number is written with beside signs
 of_numeral : ℕ → Bool

@@ -1,5 +1,5 @@
 -- What is ignored and what tokens are written with may stand in a text.
-use Rattle.std.proofs.Common.{◌≡◌, ℕ, ◌≤◌, Bool, true, false, ◌⊎◌, List, [], ◌∷◌, ◌++◌, refl, sym, ap, ◌∙◌, inl, inr, arith, subst, Some, ◌<◌, nat_eq}
+use Rattle.std.proofs.Common.{◌≡◌, ℕ, Bool, true, false, List, [], ◌∷◌, refl, sym, inl, inr, arith, Some, ◌<◌}
 use Rattle.std.specs.Char.{is_ascii_digit}
 use Rattle.std.specs.Char.{digit_value}
 use Rattle.std.proofs.lemmas.Bool.Decides.{nat_tests}
@@ -7,9 +7,9 @@ use Rattle.gql_tokens.specs.declared.token.Punctuator.{Punctuator}
 use Rattle.gql_tokens.specs.declared.token.Punctuator.TheVariants as punctuators
 use Rattle.gql_tokens.specs.declared.token.Lexeme.{Lexeme}
 use Rattle.gql_tokens.specs.declared.token.Lexeme.TheVariants as lexemes
-use Rattle.gql_tokens.specs.Characters.{is_source, is_name_part, begins}
+use Rattle.gql_tokens.specs.Characters.{is_source, is_name_part}
 use Rattle.gql_tokens.specs.Gap.{Passes, IsGap}
-use Rattle.gql_tokens.specs.Number.{begins_exponent, is_sign, IsDigits, IsWhole, IsInteger, IsFraction, IsPower, IsExponent, IsFloatPart, IsFloat, Optional}
+use Rattle.gql_tokens.specs.Number.{begins_exponent, is_sign, IsDigits, IsWhole, IsInteger, IsFraction, IsPower, IsExponent, IsFloat, Optional}
 use Rattle.gql_tokens.specs.String.{escaped, WritesCharacter, WritesCharacters, IsString}
 use Rattle.gql_tokens.specs.Block.{Piece, written, ArePieces, IsBlockString, three_quotes}
 use Rattle.gql_tokens.specs.Block.Piece.{itself, quotes}
@@ -66,7 +66,7 @@ float_source cs h =
     let part = h.4 in
     each_same is_source (sym h.2)
     (each_append is_source h.0 h.1 (integer_source h.0 h.3)
-     (each_same is_source (sym part.2) (each_append is_source part.0 part.1 (fraction_source part.0 part.3) (exponents_source part.1 part.4))))
+    (each_same is_source (sym part.2) (each_append is_source part.0 part.1 (fraction_source part.0 part.3) (exponents_source part.1 part.4))))
 
 escaped_source : (c v : ℕ) → escaped c ≡ Some v → is_source c ≡ true
 escaped_source c v h = grind (arith, nat_tests)

@@ -1,6 +1,5 @@
 -- What stands at a place: the token that was read there, or none.
-use Rattle.std.proofs.Common.{◌≡◌, ℕ, ◌+◌, ◌-◌, ◌<◌, ◌≤◌, Bool, true, false, ◌||◌, ◌==◌, nat_eq, ◌⊎◌, List, [], ◌∷◌, ◌++◌, length, take, drop, Option, Some, None, refl, sym, ap, ◌∙◌, inl, inr, arith, append_assoc, append-nil, length-append, take-append-drop, drop-drop, take_at, subst, encode_utf8_all, ℤ, take-add, length-take, length-drop, ap₂}
-use Rattle.std.specs.Char.{is_ascii_digit}
+use Rattle.std.proofs.Common.{◌≡◌, ℕ, ◌+◌, ◌<◌, ◌≤◌, Bool, true, false, ◌==◌, nat_eq, ◌⊎◌, List, [], ◌∷◌, ◌++◌, length, take, drop, None, refl, sym, ap, ◌∙◌, inl, inr, arith, append_assoc, append-nil, length-append, take-append-drop, subst, encode_utf8_all, ℤ, take-add, length-take, length-drop, ap₂}
 use Rattle.std.specs.List.{prefix_len, starts_with}
 use Rattle.std.proofs.lemmas.Bool.Decides.{nat_tests}
 use Rattle.std.proofs.lemmas.List.Sums.{prefix_len-le-length}
@@ -8,14 +7,14 @@ use Rattle.gql_tokens.specs.declared.token.Punctuator.{Punctuator}
 use Rattle.gql_tokens.specs.declared.token.Punctuator.TheVariants as punctuators
 use Rattle.gql_tokens.specs.declared.token.Lexeme.{Lexeme}
 use Rattle.gql_tokens.specs.declared.token.Lexeme.TheVariants as lexemes
-use Rattle.gql_tokens.specs.Characters.{quote, minus, full_stop, is_name_start, is_name_part, begins}
+use Rattle.gql_tokens.specs.Characters.{quote, full_stop, is_name_start, is_name_part, begins}
 use Rattle.gql_tokens.specs.Name.{IsName}
-use Rattle.gql_tokens.specs.Number.{IsInteger, IsFloat, IsFloatPart, IsNumeral, IsNumeralAt, IsSupported, integer_of, is_bad_after_number, OnlyFront}
+use Rattle.gql_tokens.specs.Number.{IsInteger, IsFloat, IsNumeral, IsNumeralAt, IsSupported, integer_of, is_bad_after_number, OnlyFront}
 use Rattle.gql_tokens.specs.String.{IsString, NoString, IsStringAt}
 use Rattle.gql_tokens.specs.Block.{three_quotes, written, IsBlockString, IsUnended, IsBlockAt}
 use Rattle.gql_tokens.specs.Token.{characters_of, Spells, IsToken, MayPrecede}
-use Rattle.gql_tokens.specs.Lexer.{BeginsNoToken, Finishes, StandsAt}
-use Rattle.gql_tokens.proofs.Lists.{head_is, tail_is, begins_so, begins_not, begins_front, Each, each_back, begins_take, run_passes, run_stops, run_some}
+use Rattle.gql_tokens.specs.Lexer.{Finishes, StandsAt}
+use Rattle.gql_tokens.proofs.Lists.{head_is, tail_is, begins_so, begins_not, Each, each_back, begins_take, run_passes, run_stops, run_some}
 use Rattle.gql_tokens.proofs.NumeralLaws.{numeral_longer}
 use Rattle.gql_tokens.proofs.StringLaws.{string_unique}
 use Rattle.gql_tokens.proofs.BlockLaws.{block_unique, starts_gives, pieces_before}
@@ -102,22 +101,28 @@ name_start_part c h = grind (arith, nat_tests)
 pub stands_name : (text : List ℕ) (n : ℕ) → begins is_name_start text ≡ true → n ≡ prefix_len is_name_part text
     → StandsAt (lexemes.Name (encode_utf8_all (take n text))) n text
 unfolding begins_class
-stands_name text n first e = inr (subst (λ k. k ≤ length text) (sym e) (prefix_len-le-length is_name_part text), record {
-  spelled = ((begins_take is_name_start n text first some, passes), refl);
-  longest = λ other c more after is h.
-      let longer = spelled_name other (take n text ++ c ∷ more) h (longer_class text n naming first other c more after is h) in
-      let part = each_back is_name_part (take n text) (c ∷ more) longer.1 in
-      let stop = begins_not is_name_part (drop n text) c (more ++ after) stops is in
-      let p = part.0 in cc;
-  ends = tt;
-}, refl)
+stands_name text n first e = inr (
+  subst (λ k. k ≤ length text) (sym e) (prefix_len-le-length is_name_part text),
+  record {
+    spelled = ((begins_take is_name_start n text first some, passes), refl);
+    longest = λ other c more after is h.
+        let longer = spelled_name other (take n text ++ c ∷ more) h (longer_class text n naming first other c more after is h) in
+        let part = each_back is_name_part (take n text) (c ∷ more) longer.1 in
+        let stop = begins_not is_name_part (drop n text) c (more ++ after) stops is in
+        let p = part.0 in cc;
+    ends = tt;
+  },
+  refl,
+)
   where
     some : 0 < n
     some =
         let (c, cs, is, start) = begins_so is_name_start text first in
         subst (λ k. 0 < k) (sym e) (run_some is_name_part text (ap (begins is_name_part) is ∙ name_start_part c start))
+
     passes : Each is_name_part (take n text)
     passes = subst (λ k. Each is_name_part (take k text)) (sym e) (run_passes is_name_part text)
+
     stops : begins is_name_part (drop n text) ≡ false
     stops = subst (λ k. begins is_name_part (drop k text) ≡ false) (sym e) (run_stops is_name_part text)
 
@@ -156,29 +161,37 @@ no_full_stop punctuators.CloseBrace e = let k = head_is e in omega arith
 
 pub stands_punctuator : (p : Punctuator) (c : ℕ) (rest : List ℕ) → characters_of p ≡ c ∷ [] → StandsAt (lexemes.Punctuator p) 1 (c ∷ rest)
 unfolding begins_class
-stands_punctuator p c rest e = inr (omega arith, record {
-  spelled = sym e;
-  longest = λ other d more after is h.
-      let mark = sym (ap (begins (begins_class punctuation)) e) ∙ punctuator_begins p in
-      let (q, whole) = spelled_punctuator other (c ∷ d ∷ more) h (class_is punctuation other (c ∷ d ∷ more) h mark) in
-      let stop = (punctuator_alone q c d more (sym whole)).0 in
-      no_full_stop p (e ∙ ap (λ x. x ∷ []) stop);
-  ends = tt;
-}, refl)
+stands_punctuator p c rest e = inr (
+  omega arith,
+  record {
+    spelled = sym e;
+    longest = λ other d more after is h.
+        let mark = sym (ap (begins (begins_class punctuation)) e) ∙ punctuator_begins p in
+        let (q, whole) = spelled_punctuator other (c ∷ d ∷ more) h (class_is punctuation other (c ∷ d ∷ more) h mark) in
+        let stop = (punctuator_alone q c d more (sym whole)).0 in
+        no_full_stop p (e ∙ ap (λ x. x ∷ []) stop);
+    ends = tt;
+  },
+  refl,
+)
 
 abbrev three_stops : List ℕ
 three_stops = full_stop ∷ full_stop ∷ full_stop ∷ []
 
 spread_stands : (rest : List ℕ) → StandsAt (lexemes.Punctuator punctuators.Spread) 3 (three_stops ++ rest)
 unfolding begins_class is_punctuation
-spread_stands rest = inr (omega arith, record {
-  spelled = refl;
-  longest = λ other d more after is h.
-      let (q, whole) = spelled_punctuator other (three_stops ++ d ∷ more) h (class_is punctuation other (three_stops ++ d ∷ more) h refl) in
-      let stop = (punctuator_alone q full_stop full_stop (full_stop ∷ d ∷ more) (sym whole)).2 in
-      let none = tail_is stop in cc;
-  ends = tt;
-}, refl)
+spread_stands rest = inr (
+  omega arith,
+  record {
+    spelled = refl;
+    longest = λ other d more after is h.
+        let (q, whole) = spelled_punctuator other (three_stops ++ d ∷ more) h (class_is punctuation other (three_stops ++ d ∷ more) h refl) in
+        let stop = (punctuator_alone q full_stop full_stop (full_stop ∷ d ∷ more) (sym whole)).2 in
+        let none = tail_is stop in cc;
+    ends = tt;
+  },
+  refl,
+)
 
 pub stands_spread : (text : List ℕ) → starts_with nat_eq text three_stops ≡ true → StandsAt (lexemes.Punctuator punctuators.Spread) 3 text
 stands_spread text h = subst (StandsAt (lexemes.Punctuator punctuators.Spread) 3) (sym (starts_gives text three_stops h)) (spread_stands (drop 3 text))
@@ -197,21 +210,30 @@ module _ (text : List ℕ) (n p : ℕ) (h : IsNumeralAt text n p) (first : begin
 
   pub stands_number : (number : ℤ) → p ≡ 0 → IsSupported (integer_of (take (n + p) text)) → number ≡ integer_of (take (n + p) text)
       → StandsAt (lexemes.Number number) (n + p) text
-  stands_number number none supported is = inr (h.within, record {
-    spelled = (integer none, is, subst IsSupported (sym is) supported);
-    longest = numeral_longest;
-    ends = h.ends;
-  }, refl)
+  stands_number number none supported is = inr (
+    h.within,
+    record {
+      spelled = (integer none, is, subst IsSupported (sym is) supported);
+      longest = numeral_longest;
+      ends = h.ends;
+    },
+    refl,
+  )
     where
       integer : p ≡ 0 → IsInteger (take (n + p) text)
       integer e = subst (λ k. IsInteger (take k text)) (let k : n ≡ n + p = omega arith in k) h.integer_is
 
   unsupported : Spells lexemes.Unsupported (take (n + p) text) → StandsAt lexemes.Unsupported (n + p) text
-  unsupported spelled = inl (take (n + p) text, drop (n + p) text, sym (take-append-drop (n + p) text), record {
-    spelled = spelled;
-    longest = numeral_longest;
-    ends = h.ends;
-  })
+  unsupported spelled = inl (
+    take (n + p) text,
+    drop (n + p) text,
+    sym (take-append-drop (n + p) text),
+    record {
+      spelled = spelled;
+      longest = numeral_longest;
+      ends = h.ends;
+    },
+  )
 
   pub stands_wide : p ≡ 0 → (IsSupported (integer_of (take (n + p) text)) → ⊥) → StandsAt lexemes.Unsupported (n + p) text
   stands_wide none wide =
@@ -219,14 +241,24 @@ module _ (text : List ℕ) (n p : ℕ) (h : IsNumeralAt text n p) (first : begin
 
   pub stands_float : (p ≡ 0 → ⊥) → StandsAt lexemes.Unsupported (n + p) text
   stands_float some =
-      unsupported (inl (take n text, take p (drop n text), take-add n p text, h.integer_is, h.part_is, λ none.
-          some (omega (arith, ap length none, length-take p (drop n text), length-drop n text, h.within))))
+      unsupported (inl (
+        take n text,
+        take p (drop n text),
+        take-add n p text,
+        h.integer_is,
+        h.part_is,
+        λ none.
+            some (omega (arith, ap length none, length-take p (drop n text), length-drop n text, h.within)),
+      ))
 
 pub no_number : (text : List ℕ) → begins (begins_class numeric) text ≡ true → OnlyFront IsNumeral is_bad_after_number text None → Finishes lexemes.Unexpected text
-no_number text first none = (λ e. (let k = ap (begins (begins_class numeric)) e in cc), λ l cs rest is token.
-    let class = class_is numeric l cs token.spelled (token_begins (begins_class numeric) l text cs rest token.spelled is first) in
-    let (numeral, ends) = spelled_number l cs rest token.spelled class in
-    none cs rest is numeral (ends token.ends))
+no_number text first none = (
+  λ e. (let k = ap (begins (begins_class numeric)) e in cc),
+  λ l cs rest is token.
+      let class = class_is numeric l cs token.spelled (token_begins (begins_class numeric) l text cs rest token.spelled is first) in
+      let (numeral, ends) = spelled_number l cs rest token.spelled class in
+      none cs rest is numeral (ends token.ends),
+)
 
 -- what is no longer than itself
 not_longer : (cs : List ℕ) (c : ℕ) (more : List ℕ) → cs ≡ cs ++ c ∷ more → ⊥
@@ -249,14 +281,18 @@ quote_first text h = ap (begins (λ c. c == quote)) (starts_gives text three_quo
 pub stands_string : (text bytes : List ℕ) (n : ℕ) → begins (λ c. c == quote) text ≡ true → starts_with nat_eq text three_quotes ≡ false
     → IsStringAt text bytes n → StandsAt (lexemes.String bytes) n text
 unfolding begins_class
-stands_string text bytes n first plain h = inr (h.0, record {
-  spelled = (h.1.0, inl h.1.1, h.1.2);
-  longest = λ other c more after is k.
-      let class = longer_class text n quoting first other c more after is k in
-      let longer = spelled_string other (take n text ++ c ∷ more) k class in
-      go other c more after is longer.0 longer.1;
-  ends = tt;
-}, refl)
+stands_string text bytes n first plain h = inr (
+  h.0,
+  record {
+    spelled = (h.1.0, inl h.1.1, h.1.2);
+    longest = λ other c more after is k.
+        let class = longer_class text n quoting first other c more after is k in
+        let longer = spelled_string other (take n text ++ c ∷ more) k class in
+        go other c more after is longer.0 longer.1;
+    ends = tt;
+  },
+  refl,
+)
   where
     go : (other : Lexeme) (c : ℕ) (more after : List ℕ) → drop n text ≡ c ∷ more ++ after → (w : List ℕ)
         → IsString w (take n text ++ c ∷ more) ⊎ IsBlockString w (take n text ++ c ∷ more) → ⊥
@@ -268,10 +304,13 @@ stands_string text bytes n first plain h = inr (h.0, record {
 pub no_string : (text : List ℕ) → begins (λ c. c == quote) text ≡ true → starts_with nat_eq text three_quotes ≡ false → NoString text
     → Finishes lexemes.Unexpected text
 unfolding begins_class
-no_string text first plain none = (λ e. (let k = ap (begins (λ c. c == quote)) e in cc), λ l cs rest is token.
-    let class = class_is quoting l cs token.spelled (token_begins (λ c. c == quote) l text cs rest token.spelled is first) in
-    let (v, kind) = spelled_string l cs token.spelled class in
-    go cs rest is v kind)
+no_string text first plain none = (
+  λ e. (let k = ap (begins (λ c. c == quote)) e in cc),
+  λ l cs rest is token.
+      let class = class_is quoting l cs token.spelled (token_begins (λ c. c == quote) l text cs rest token.spelled is first) in
+      let (v, kind) = spelled_string l cs token.spelled class in
+      go cs rest is v kind,
+)
   where
     go : (cs rest : List ℕ) → text ≡ cs ++ rest → (v : List ℕ) → IsString v cs ⊎ IsBlockString v cs → ⊥
     go cs rest is v (inl k) = none v cs rest is k
@@ -280,14 +319,18 @@ no_string text first plain none = (λ e. (let k = ap (begins (λ c. c == quote))
 -- a block string
 pub stands_block : (text bytes : List ℕ) (n : ℕ) → starts_with nat_eq text three_quotes ≡ true → IsBlockAt text bytes n → StandsAt (lexemes.String bytes) n text
 unfolding begins_class
-stands_block text bytes n quotes_first h = inr (h.0, record {
-  spelled = (h.1.0, inr h.1.1, h.1.2);
-  longest = λ other c more after is k.
-      let class = longer_class text n quoting (quote_first text quotes_first) other c more after is k in
-      let longer = spelled_string other (take n text ++ c ∷ more) k class in
-      go c more longer.0 longer.1;
-  ends = tt;
-}, refl)
+stands_block text bytes n quotes_first h = inr (
+  h.0,
+  record {
+    spelled = (h.1.0, inr h.1.1, h.1.2);
+    longest = λ other c more after is k.
+        let class = longer_class text n quoting (quote_first text quotes_first) other c more after is k in
+        let longer = spelled_string other (take n text ++ c ∷ more) k class in
+        go c more longer.0 longer.1;
+    ends = tt;
+  },
+  refl,
+)
   where
     go : (c : ℕ) (more w : List ℕ) → IsString w (take n text ++ c ∷ more) ⊎ IsBlockString w (take n text ++ c ∷ more) → ⊥
     go c more w (inr k) = no_longer_block h.1.0 w (take n text) c more h.1.1 k
@@ -295,27 +338,34 @@ stands_block text bytes n quotes_first h = inr (h.0, record {
         let body = written h.1.1.0 ++ three_quotes in
         let cs_is = h.1.1.1 in
         let short = string_at_quotes w (take n text ++ c ∷ more) [] (body ++ c ∷ more) k
-            (append-nil (take n text ++ c ∷ more) ∙ ap (λ l. l ++ c ∷ more) cs_is) in
+        (append-nil (take n text ++ c ∷ more) ∙ ap (λ l. l ++ c ∷ more) cs_is) in
         omega (arith, ap length short, length-append (take n text) (c ∷ more), ap length cs_is, length-append (written h.1.1.0) three_quotes)
 
 -- the empty string, where three quotes begin no block string
 pub stands_empty : (text bytes : List ℕ) → starts_with nat_eq text three_quotes ≡ true → IsUnended (drop 3 text) → bytes ≡ [] → StandsAt (lexemes.String bytes) 2 text
 unfolding begins_class
-stands_empty text bytes quotes_first unended none = subst (StandsAt (lexemes.String bytes) 2) (sym whole) (inr (omega arith, record {
-  spelled = ([], inl empty, none);
-  longest = λ other c more after is k.
-      let class = class_is quoting other (quote ∷ quote ∷ c ∷ more) k refl in
-      let longer = spelled_string other (quote ∷ quote ∷ c ∷ more) k class in
-      go c more after is longer.0 longer.1;
-  ends = tt;
-}, refl))
+stands_empty text bytes quotes_first unended none = subst (StandsAt (lexemes.String bytes) 2) (sym whole) (inr (
+  omega arith,
+  record {
+    spelled = ([], inl empty, none);
+    longest = λ other c more after is k.
+        let class = class_is quoting other (quote ∷ quote ∷ c ∷ more) k refl in
+        let longer = spelled_string other (quote ∷ quote ∷ c ∷ more) k class in
+        go c more after is longer.0 longer.1;
+    ends = tt;
+  },
+  refl,
+))
   where
     behind : List ℕ
     behind = drop 3 text
+
     whole : text ≡ three_quotes ++ behind
     whole = starts_gives text three_quotes quotes_first
+
     empty : IsString [] (quote ∷ quote ∷ [])
     empty = ([], refl, refl)
+
     go : (c : ℕ) (more after : List ℕ) → quote ∷ behind ≡ c ∷ more ++ after → (w : List ℕ)
         → IsString w (quote ∷ quote ∷ c ∷ more) ⊎ IsBlockString w (quote ∷ quote ∷ c ∷ more) → ⊥
     go c more after is w (inl k) = no_longer_string [] w (quote ∷ quote ∷ []) c more empty k
@@ -339,11 +389,13 @@ stands_nothing c rest no_name no_number no_quote no_mark no_spread = (λ e. cc, 
         let yes : starts_with nat_eq (three_stops ++ more) three_stops ≡ true = refl in
         let whole : c ∷ rest ≡ three_stops ++ more = is ∙ ap (λ l. l ++ more) (ap₂ ◌∷◌ one (ap₂ ◌∷◌ two three)) in
         let other = ap (λ l. starts_with nat_eq l three_stops) whole in cc
+
     first : (k : Class) (l : Lexeme) (cs more : List ℕ) → c ∷ rest ≡ cs ++ more → Spells l cs → class_of l ≡ k → (begins_class k c ≡ true) × ((m : List ℕ) × (cs ≡ c ∷ m))
     first k l cs more is spelled class =
         let (d, m, cs_is, test) = begins_so (begins_class (class_of l)) cs (spelling_begins l cs spelled) in
         let same : d ≡ c = sym (head_is (is ∙ ap (λ l. l ++ more) cs_is)) in
         (sym (ap₂ begins_class class same) ∙ test, (m, cs_is ∙ ap (λ x. x ∷ m) same))
+
     go : (k : Class) (l : Lexeme) (cs more : List ℕ) → c ∷ rest ≡ cs ++ more → IsToken l cs more → class_of l ≡ k → ⊥
     go naming l cs more is token class = let yes = (first naming l cs more is token.spelled class).0 in cc
     go numeric l cs more is token class = let yes = (first numeric l cs more is token.spelled class).0 in cc

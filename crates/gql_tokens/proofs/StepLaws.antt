@@ -1,5 +1,5 @@
 -- One token of a text, and those behind it.
-use Rattle.std.proofs.Common.{◌≡◌, ℕ, ◌+◌, ◌-◌, ◌<◌, ◌≤◌, Bool, true, false, ◌⊎◌, List, [], ◌∷◌, ◌++◌, length, take, drop, refl, sym, ap, ◌∙◌, inl, inr, arith, take-append-drop, drop-drop, length-drop, subst, subst₂, append_assoc}
+use Rattle.std.proofs.Common.{◌≡◌, ℕ, ◌+◌, ◌-◌, ◌≤◌, true, false, List, [], ◌∷◌, ◌++◌, length, take, drop, refl, sym, ap, ◌∙◌, inl, inr, arith, take-append-drop, drop-drop, length-drop, subst, subst₂, append_assoc}
 use Rattle.std.proofs.lemmas.List.{take_rest}
 use Rattle.gql_base.specs.declared.pos.Pos.{Pos}
 use Rattle.gql_tokens.specs.declared.token.Lexeme.{Lexeme}
@@ -9,7 +9,7 @@ use Rattle.gql_tokens.specs.Characters.{is_source}
 use Rattle.gql_tokens.specs.Gap.{IsGap}
 use Rattle.gql_tokens.specs.Place.{place_after}
 use Rattle.gql_tokens.specs.Block.{NoBlockEnds}
-use Rattle.gql_tokens.specs.Token.{Spells, IsToken, is_final}
+use Rattle.gql_tokens.specs.Token.{IsToken, is_final}
 use Rattle.gql_tokens.specs.Lexer.{Finishes, StandsAt, Lexes, IsStep, EndFinally}
 use Rattle.gql_tokens.proofs.Lists.{Each}
 use Rattle.gql_tokens.proofs.BlockEnds.{no_block_ends_behind}
@@ -61,20 +61,20 @@ module _ (place : Pos) (text : List ℕ) (lexeme : Lexeme) (gap n : ℕ) (pos : 
       last = λ final. absurd cc;
       some = λ _. (let full : n ≡ 0 → ⊥ = λ e. token_not_empty lexeme (take n (drop gap text)) (drop n (drop gap text)) token.1 (ap (λ k. take k (drop gap text)) e) in omega arith);
       more = λ _ tokens h. (
-          take gap text,
-          drop gap text,
-          sym (take-append-drop gap text),
-          ignored,
-          pos_is,
-          inr (
-            take n (drop gap text),
-            drop n (drop gap text),
-            sym (take-append-drop n (drop gap text)),
-            token.1,
-            more,
-            subst₂ (λ p l. Lexes p l tokens) (is ∙ ap (λ l. place_after pos (take n l) (drop n l)) (take_rest text gap)) (sym (drop-drop n gap text)) h,
-          ),
-        );
+        take gap text,
+        drop gap text,
+        sym (take-append-drop gap text),
+        ignored,
+        pos_is,
+        inr (
+          take n (drop gap text),
+          drop n (drop gap text),
+          sym (take-append-drop n (drop gap text)),
+          token.1,
+          more,
+          subst₂ (λ p l. Lexes p l tokens) (is ∙ ap (λ l. place_after pos (take n l) (drop n l)) (take_rest text gap)) (sym (drop-drop n gap text)) h,
+        ),
+      );
       line = line;
       column = column;
     }

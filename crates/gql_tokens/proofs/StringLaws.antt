@@ -1,10 +1,10 @@
 -- Strings: each is read in one way.
-use Rattle.std.proofs.Common.{◌≡◌, ℕ, ◌<◌, Bool, true, false, ◌⊎◌, List, [], ◌∷◌, ◌++◌, Option, Some, None, refl, sym, ap, ◌∙◌, inl, inr, arith, append_assoc, append-nil, ◌+◌, ◌-◌, ◌==◌, length, take, drop, drop-drop, take-add, take-append-drop, subst, encode_utf8, encode_utf8_all}
+use Rattle.std.proofs.Common.{◌≡◌, ℕ, ◌<◌, true, false, ◌⊎◌, List, [], ◌∷◌, ◌++◌, Some, None, refl, sym, ap, ◌∙◌, inl, inr, arith, append_assoc, append-nil, ◌+◌, ◌-◌, ◌==◌, length, take, drop, drop-drop, take-add, take-append-drop, subst, encode_utf8, encode_utf8_all}
 use Rattle.std.proofs.lemmas.Str.{encodes-append}
 use Rattle.std.proofs.lemmas.List.{take_rest}
 use Rattle.std.proofs.lemmas.Bool.Decides.{nat_tests}
 use Rattle.gql_tokens.specs.Characters.{quote, backslash, begins}
-use Rattle.gql_tokens.specs.String.{is_plain, escaped, hexadecimal_of, IsUnicodeEscape, WritesCharacter, WritesCharacters, IsString, NoString}
+use Rattle.gql_tokens.specs.String.{is_plain, escaped, hexadecimal_of, WritesCharacter, WritesCharacters, IsString, NoString}
 use Rattle.gql_tokens.proofs.Lists.{head_is, tail_is}
 
 plain_not_backslash : (c : ℕ) → is_plain c ≡ true → c ≡ backslash → ⊥
@@ -81,7 +81,7 @@ characters_split (v ∷ vs) (w ∷ ws) front body x y h k e =
 pub string_unique : (v w p q x y : List ℕ) → IsString v p → IsString w q → p ++ x ≡ q ++ y → (v ≡ w) × (p ≡ q) × (x ≡ y)
 string_unique v w p q x y h k e =
     let whole : h.0 ++ quote ∷ x ≡ k.0 ++ quote ∷ y =
-        sym (append_assoc h.0 (quote ∷ []) x) ∙ tail_is (same_front x y e h.1 k.1) ∙ append_assoc k.0 (quote ∷ []) y in
+    sym (append_assoc h.0 (quote ∷ []) x) ∙ tail_is (same_front x y e h.1 k.1) ∙ append_assoc k.0 (quote ∷ []) y in
     let more = characters_split v w h.0 k.0 (quote ∷ x) y h.2 k.2 whole in
     ended more.0 more.1 more.2 more.3 more.4 more.5
   where
@@ -118,8 +118,8 @@ pub no_string_behind : (text : List ℕ) (at : ℕ) (vs : List ℕ) → begins (
 no_string_behind text at vs first h k ends none value cs rest e string =
     let body = drop 1 text in
     let whole : take (at - 1) body ++ drop at text ≡ string.0 ++ quote ∷ rest =
-        ap (λ l. take (at - 1) body ++ l) (sym (behind_body text at h)) ∙ take-append-drop (at - 1) body
-        ∙ ap (drop 1) (e ∙ ap (λ l. l ++ rest) string.1) ∙ append_assoc string.0 (quote ∷ []) rest in
+    ap (λ l. take (at - 1) body ++ l) (sym (behind_body text at h)) ∙ take-append-drop (at - 1) body
+    ∙ ap (drop 1) (e ∙ ap (λ l. l ++ rest) string.1) ∙ append_assoc string.0 (quote ∷ []) rest in
     let more = characters_split vs value (take (at - 1) body) string.0 (drop at text) rest k string.2 whole in
     go more.0 more.1 more.4 more.5
   where

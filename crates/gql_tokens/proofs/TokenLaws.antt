@@ -1,14 +1,13 @@
 -- Tokens: only one begins at a place.
-use Rattle.std.proofs.Common.{◌≡◌, ℕ, ◌+◌, ◌<◌, ◌≤◌, Bool, true, false, ◌||◌, ◌==◌, ◌⊎◌, List, [], ◌∷◌, ◌++◌, length, Option, Some, None, if◌then◌else◌, refl, sym, ap, ◌∙◌, inl, inr, arith, append_assoc, append-nil, length-append, subst, encode_utf8_all, ℤ}
+use Rattle.std.proofs.Common.{◌≡◌, ℕ, Bool, true, false, ◌||◌, ◌==◌, ◌⊎◌, List, [], ◌∷◌, ◌++◌, length, Option, Some, None, if◌then◌else◌, refl, sym, ap, ◌∙◌, inl, inr, arith, append_assoc, append-nil, length-append, subst, encode_utf8_all, ℤ}
 use Rattle.std.specs.Char.{is_ascii_digit}
-use Rattle.std.specs.List.{AllByRecursion}
 use Rattle.std.proofs.lemmas.Bool.Decides.{nat_tests}
 use Rattle.gql_tokens.specs.declared.token.Punctuator.{Punctuator}
 use Rattle.gql_tokens.specs.declared.token.Punctuator.TheVariants as punctuators
 use Rattle.gql_tokens.specs.declared.token.Lexeme.{Lexeme}
 use Rattle.gql_tokens.specs.declared.token.Lexeme.TheVariants as lexemes
-use Rattle.gql_tokens.specs.Characters.{quote, minus, full_stop, is_name_start, begins}
-use Rattle.gql_tokens.specs.Number.{IsDigits, IsWhole, IsInteger, IsFloat, IsSupported}
+use Rattle.gql_tokens.specs.Characters.{quote, minus, is_name_start, begins}
+use Rattle.gql_tokens.specs.Number.{IsWhole, IsInteger, IsFloat, IsSupported}
 use Rattle.gql_tokens.specs.String.{IsString}
 use Rattle.gql_tokens.specs.Block.{three_quotes, written, IsBlockString}
 use Rattle.gql_tokens.specs.Token.{characters_of, Spells, IsToken}
@@ -160,8 +159,8 @@ string_at_quotes [] p x y h e = h.1 ∙ ap (λ l. quote ∷ l ++ quote ∷ []) h
 string_at_quotes (c ∷ v) p x y h e =
     let w = h.2 in
     absurd (written_not_quote c w.0 (w.1 ++ quote ∷ x) (quote ∷ y) w.3
-        (sym (append_assoc w.0 w.1 (quote ∷ x)) ∙ ap (λ l. l ++ quote ∷ x) (sym w.2) ∙ sym (append_assoc h.0 (quote ∷ []) x)
-         ∙ tail_is (ap (λ l. l ++ x) (sym h.1) ∙ e)))
+    (sym (append_assoc w.0 w.1 (quote ∷ x)) ∙ ap (λ l. l ++ quote ∷ x) (sym w.2) ∙ sym (append_assoc h.0 (quote ∷ []) x)
+    ∙ tail_is (ap (λ l. l ++ x) (sym h.1) ∙ e)))
 
 pub string_not_block : (v w cs : List ℕ) → IsString v cs → IsBlockString w cs → ⊥
 string_not_block v w cs h k =

@@ -1,5 +1,5 @@
 -- Block strings (section 2.9.4): what stands between their quotes.
-use Rattle.std.specs.Prelude.{◌≡◌, ℕ, ◌≤◌, Bool, true, false, List, [], ◌∷◌, ◌++◌, ◌==◌, nat_eq, length, take, encode_utf8_all}
+use Rattle.std.specs.Prelude.{◌≡◌, ℕ, ◌≤◌, true, false, List, [], ◌∷◌, ◌++◌, ◌==◌, nat_eq, length, take, encode_utf8_all}
 use Rattle.std.specs.List.{starts_with, AllByRecursion}
 use Rattle.gql_tokens.specs.declared.block.Found.{Found}
 use Rattle.gql_tokens.specs.declared.block.Found.TheVariants as founds
@@ -64,7 +64,7 @@ abbrev pub IsBodyAt : List ℕ → List ℕ → ℕ → Type 0
 IsBodyAt text raw n =
     (n ≤ length text)
     × ((pieces : List Piece) × (take n text ≡ three_quotes ++ (written pieces ++ three_quotes)) × ArePieces pieces three_quotes
-       × (raw ≡ raw_of pieces))
+    × (raw ≡ raw_of pieces))
 
 -- a block string of this length begins the text, and its value is this in UTF-8
 abbrev pub IsBlockAt : List ℕ → List ℕ → ℕ → Type 0

@@ -40,8 +40,8 @@ Lexes place text (token ∷ tokens) =
     (gap : List ℕ) × (behind : List ℕ) × (text ≡ gap ++ behind) × IsGap false gap behind
     × (token.pos ≡ place_after place gap behind)
     × ((Finishes token.lexeme behind × (tokens ≡ []))
-       ⊎ ((cs : List ℕ) × (rest : List ℕ) × (behind ≡ cs ++ rest) × IsToken token.lexeme cs rest
-          × (is_final token.lexeme ≡ false) × Lexes (place_after token.pos cs rest) rest tokens))
+    ⊎ ((cs : List ℕ) × (rest : List ℕ) × (behind ≡ cs ++ rest) × IsToken token.lexeme cs rest
+    × (is_final token.lexeme ≡ false) × Lexes (place_after token.pos cs rest) rest tokens))
 
 -- the last token is final, and no other is
 abbrev pub EndFinally : List Token → Type 0

@@ -64,7 +64,7 @@ abbrev pub IsFirstLine : List ℕ → ℕ → Option ℕ → Type 0
 IsFirstLine text line next =
     (line ≤ length text)
     × MatchOption next (lines_of text ≡ take line text ∷ [])
-      (λ n. (line < n) × (n ≤ length text) × (lines_of text ≡ take line text ∷ lines_of (drop n text)))
+    (λ n. (line < n) × (n ≤ length text) × (lines_of text ≡ take line text ∷ lines_of (drop n text)))
 
 -- Some lines without the first blank ones, joined, of which this much stands before the last blank ones.
 pub record IsKept (text : List ℕ) (n : ℕ) (lines : List (List ℕ)) : Type 0 where

@@ -217,7 +217,10 @@ fn token_at(alloc: Global, text: &[char], blocks_end: &mut bool) -> Made<Reading
 fn is_final(lexeme: &Lexeme) -> bool
     ensures { result ≡ is_final lexeme.now }
 {
-    matches!(lexeme, Lexeme::End | Lexeme::Unexpected | Lexeme::Unsupported)
+    matches!(
+        lexeme,
+        Lexeme::End | Lexeme::Unexpected | Lexeme::Unsupported
+    )
 }
 
 /// A token, how far it and what is ignored before it reach, and the place behind it.
@@ -290,5 +293,4 @@ pub fn tokens_of(alloc: Global, text: &str) -> Made<Items<Token>>
 pub fn one_token_list()
     ensures { (text : List ℕ) (tokens others : List OneToken) → Lexes text_start text tokens → Lexes text_start text others
         → tokens ≡ others }
-{
-}
+{}

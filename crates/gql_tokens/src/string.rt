@@ -33,7 +33,7 @@ fn escaped(c: char) -> Option<char>
 fn numbered(a: char, b: char, c: char, d: char) -> Option<char>
     ensures { SomeIff result
         (AllByRecursion (λ h. digit_value h < 16) (a ∷ b ∷ c ∷ d ∷ [])
-         × IsScalar (hexadecimal_of (a ∷ b ∷ c ∷ d ∷ [])))
+        × IsScalar (hexadecimal_of (a ∷ b ∷ c ∷ d ∷ [])))
         (hexadecimal_of (a ∷ b ∷ c ∷ d ∷ [])) }
 {
     let a = a.to_digit(16)?;
@@ -55,7 +55,7 @@ fn character_at(text: &[char]) -> Option<Written>
     ensures { MatchOption result
         ((v : ℕ) (cs rest : List ℕ) → text.now ≡ cs ++ rest → WritesCharacter v cs → ⊥)
         (λ found. (found.length ≤ length text.now) × (0 < found.length)
-         × WritesCharacter found.character (take found.length text.now)) }
+        × WritesCharacter found.character (take found.length text.now)) }
 {
     match text {
         ['\\', 'u', a, b, c, d, ..] => {

@@ -1,4 +1,4 @@
-use Rattle.std.proofs.Common.{◌≡◌, ◌==◌, ◌++◌, ◌∷◌, [], ◌+◌, ◌≤◌, true, false, length, drop, ap, sym, ◌∙◌, arith, subst, length-drop}
+use Rattle.std.proofs.Common.{◌==◌, ◌+◌, true, false, ap, sym, arith, subst}
 use Rattle.std.proofs.lemmas.List.{drop_all}
 use Rattle.gql_tokens.specs.Characters.{is_source, begins}
 use Rattle.gql_tokens.specs.Block.{three_quotes, escaped_quotes}
@@ -33,7 +33,7 @@ loop-at-preserved c =
       so_far =
           subst (λ l. IsWithin text l (at + 1)) (sym c.in_ok-push-in-Itself.ensures.items)
           (within_itself text c.loop-at.raw.items at d c.loop-at.invariant.so_far (begins_behind (λ e. e == d) text at true found.0) found.1
-           (starts_behind text three_quotes at false found.2) (starts_behind text escaped_quotes at false found.3));
+          (starts_behind text three_quotes at false found.2) (starts_behind text escaped_quotes at false found.3));
     }
 
 pub returns-in-Nothing : goal.returns-in-Nothing

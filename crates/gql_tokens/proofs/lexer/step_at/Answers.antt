@@ -1,5 +1,5 @@
-use Rattle.std.proofs.Common.{◌≡◌, ◌+◌, false, sym, ◌∙◌, arith}
-use Rattle.gql_tokens.proofs.StepLaws.{known_behind_gap, known_behind_token, token_within, step_is}
+use Rattle.std.proofs.Common.{sym, arith}
+use Rattle.gql_tokens.proofs.StepLaws.{known_behind_gap, known_behind_token, step_is}
 use Rattle.gql_tokens.proofs.lexer.step_at.Goals as goal
 
 pub token_at-requires : goal.token_at-requires

@@ -1,4 +1,4 @@
-use Rattle.std.proofs.Common.{◌≡◌, ◌+◌, ◌++◌, List, length, drop, sym, ap, ◌∙◌, subst, arith, length-drop, drop-drop}
+use Rattle.std.proofs.Common.{◌++◌, drop, sym, ap, ◌∙◌, subst, arith, length-drop, drop-drop}
 use Rattle.std.proofs.lemmas.List.{take_rest}
 use Rattle.gql_tokens.specs.Lexer.{IsStep, Lexes}
 use Rattle.gql_tokens.specs.Block.{NoBlockEnds}

@@ -12,7 +12,7 @@ invariant-loop-tokens l = record {
   line : l.place.line ≤ 1 + l.at;
   column : l.place.column ≤ 1 + l.at;
   known : l.blocks_end ≡ false → NoBlockEnds (drop l.at l.characters);
-  so_far : (more : List Token) → Lexes l.place (drop l.at l.characters) more → Lexes text_start l.characters (l.tokens ++ more)
+  so_far : (more : List Token) → Lexes l.place (drop l.at l.characters) more → Lexes text_start l.characters (l.tokens ++ more);
 }
 
 abbrev pub decreases-loop-tokens : goal.decreases-loop-tokens

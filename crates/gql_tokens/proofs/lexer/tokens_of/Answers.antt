@@ -1,4 +1,4 @@
-use Rattle.std.proofs.Common.{ap, ◌∙◌, subst}
+use Rattle.std.proofs.Common.{◌∙◌, subst}
 use Rattle.std.specs.Str.{chars}
 use Rattle.gql_tokens.specs.Lexer.{Lexes}
 use Rattle.gql_tokens.specs.Place.{text_start}

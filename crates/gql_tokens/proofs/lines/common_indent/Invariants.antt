@@ -6,7 +6,7 @@ use Rattle.gql_tokens.proofs.lines.common_indent.Given as goal
 abbrev pub invariant-loop-least : goal.invariant-loop-least
 invariant-loop-least l = record {
   within : l.start ≤ length l.text;
-  whole : fold with_line l.least (lines_of (drop l.start l.text)) ≡ common_indent (lines_of l.text)
+  whole : fold with_line l.least (lines_of (drop l.start l.text)) ≡ common_indent (lines_of l.text);
 }
 
 abbrev pub decreases-loop-least : goal.decreases-loop-least

@@ -1,4 +1,4 @@
-use Rattle.std.proofs.Common.{◌≡◌, ◌++◌, ◌∷◌, [], ◌+◌, ◌-◌, List, None, length, take, drop, sym, ap, ◌∙◌, subst, append_assoc, arith}
+use Rattle.std.proofs.Common.{◌∷◌, [], take, sym, ap, ◌∙◌, subst}
 use Rattle.std.proofs.lemmas.List.{take_rest}
 use Rattle.gql_tokens.specs.Lines.{IsFirstLine, IsKept, without_indent, lines_of}
 use Rattle.gql_tokens.proofs.LinesLaws.{nothing_kept}

@@ -13,5 +13,5 @@ returns-in_err-number c =
 pub returns : goal.returns
 returns c =
     let all : c.loop-digit.number ≡ natural_of c.args.digits.now =
-        c.loop-digit.invariant.exact ∙ ap natural_of (take_all c.loop-digit.digit-index c.args.digits.now c.loop-digit-test.false) in
+    c.loop-digit.invariant.exact ∙ ap natural_of (take_all c.loop-digit.digit-index c.args.digits.now c.loop-digit-test.false) in
     (omega arith, all)

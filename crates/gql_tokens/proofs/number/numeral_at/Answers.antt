@@ -16,4 +16,4 @@ returns-in-Some c =
     let found = c.in-Some.ensures.lookup in
     numeral_bad text n m c.in_ok-integer.ensures c.in_ok-part.ensures
     (begins_at is_bad_after_number text (n + m) c.in-Some.c.now (ltb-true _ _ (sym found.0)) found.1
-     ∙ sym c.is_bad_after_number.ensures ∙ c.if-is_bad_after_number.true)
+    ∙ sym c.is_bad_after_number.ensures ∙ c.if-is_bad_after_number.true)

@@ -1,4 +1,4 @@
-use Rattle.std.proofs.Common.{◌≡◌, ◌==◌, ◌++◌, ◌∷◌, [], ◌+◌, length, take, drop, sym, ap, ◌∙◌, arith, encode_utf8, length-drop, ne_eqb}
+use Rattle.std.proofs.Common.{◌==◌, ◌++◌, ◌∷◌, [], length, sym, ap, ◌∙◌, arith, encode_utf8, length-drop, ne_eqb}
 use Rattle.std.proofs.lemmas.List.{drop_all, take_rest}
 use Rattle.gql_tokens.specs.Characters.{quote, begins}
 use Rattle.gql_tokens.proofs.Lists.{begins_at}

@@ -7,7 +7,7 @@ abbrev pub invariant-loop-at : goal.invariant-loop-at
 invariant-loop-at l = record {
   behind : 0 < l.at;
   within : l.at ≤ length l.text;
-  so_far : (value : List ℕ) × (string_bytes l.value ≡ encode_utf8_all value) × WritesCharacters value (take (l.at - 1) (drop 1 l.text))
+  so_far : (value : List ℕ) × (string_bytes l.value ≡ encode_utf8_all value) × WritesCharacters value (take (l.at - 1) (drop 1 l.text));
 }
 
 abbrev pub decreases-loop-at : goal.decreases-loop-at

@@ -7,8 +7,8 @@ abbrev pub invariant-loop-n : goal.invariant-loop-n
 invariant-loop-n l = record {
   within : l.start ≤ length l.text;
   so_far :
-    (done : List (List ℕ)) × (done ++ map (drop l.indent) (lines_of (drop l.start l.text)) ≡ map (drop l.indent) (lines_of l.text))
-    × ((lines : List (List ℕ)) → IsKept l.fn.self.text.items l.fn.self.length lines → IsKept l.self.text.items l.self.length (lines ++ done))
+      (done : List (List ℕ)) × (done ++ map (drop l.indent) (lines_of (drop l.start l.text)) ≡ map (drop l.indent) (lines_of l.text))
+      × ((lines : List (List ℕ)) → IsKept l.fn.self.text.items l.fn.self.length lines → IsKept l.self.text.items l.self.length (lines ++ done));
 }
 
 abbrev pub decreases-loop-n : goal.decreases-loop-n
