@@ -14,3 +14,6 @@ mod token;
 
 pub use lexer::{one_token_list, tokens_of};
 pub use token::{Lexeme, Punctuator, Token};
+
+#[cfg(test)]
+mod tests;
