@@ -2,6 +2,7 @@ pub mod Block
 pub mod Characters
 pub mod Gap
 pub mod Lexer
+pub mod Lines
 pub mod Name
 pub mod Number
 pub mod Place

@@ -1,5 +1,5 @@
 -- Numbers (sections 2.9.1 and 2.9.2).
-use Rattle.std.specs.Prelude.{◌≡◌, ℕ, ◌+◌, ◌*◌, ◌-◌, ◌^◌, Bool, true, false, not, ◌&&◌, ◌||◌, ◌⊎◌, List, [], ◌∷◌, ◌++◌, ◌==◌, if◌then◌else◌, ℤ, pos, negsuc, neg_ℤ, ◌≤ℤ◌, ◌<ℤ◌, fold}
+use Rattle.std.specs.Prelude.{◌≡◌, ◌≢◌, ℕ, ◌+◌, ◌*◌, ◌-◌, ◌^◌, ◌≤◌, Bool, true, false, ◌||◌, ◌⊎◌, List, [], ◌∷◌, ◌++◌, ◌==◌, if◌then◌else◌, Option, Some, None, length, take, drop, ℤ, pos, negsuc, neg_ℤ, ◌≤ℤ◌, ◌<ℤ◌, fold}
 use Rattle.std.specs.Char.{is_ascii_digit}
 use Rattle.std.specs.List.{AllByRecursion}
 use Rattle.gql_tokens.specs.Characters.{plus, minus, full_stop, digit_zero, is_name_start, begins}
@@ -29,22 +29,32 @@ abbrev pub is_sign : ℕ → Bool
 is_sign c = c == plus || c == minus
 
 -- an optional sign, and digits
-abbrev pub IsSignedDigits : List ℕ → Type 0
-IsSignedDigits cs =
+abbrev pub IsPower : List ℕ → Type 0
+IsPower cs =
     IsDigits cs ⊎ ((sign : ℕ) × (digits : List ℕ) × (cs ≡ sign ∷ digits) × (is_sign sign ≡ true) × IsDigits digits)
 
--- `e` or `E`, and an optional sign and digits
+-- `e` or `E`, and a power of ten
 abbrev pub IsExponent : List ℕ → Type 0
-IsExponent cs = (e : ℕ) × (power : List ℕ) × (cs ≡ e ∷ power) × (begins_exponent e ≡ true) × IsSignedDigits power
+IsExponent cs = (e : ℕ) × (power : List ℕ) × (cs ≡ e ∷ power) × (begins_exponent e ≡ true) × IsPower power
 
--- a fraction, an exponent, or both
+-- nothing, or something of this form
+abbrev pub Optional : (List ℕ → Type 0) → List ℕ → Type 0
+Optional Form cs = (cs ≡ []) ⊎ Form cs
+
+-- a fraction, an exponent, both, or none
 abbrev pub IsFloatPart : List ℕ → Type 0
 IsFloatPart cs =
-    (IsFraction cs ⊎ IsExponent cs)
-    ⊎ ((fraction : List ℕ) × (exponent : List ℕ) × (cs ≡ fraction ++ exponent) × IsFraction fraction × IsExponent exponent)
+    (fraction : List ℕ) × (exponent : List ℕ) × (cs ≡ fraction ++ exponent) × Optional IsFraction fraction
+    × Optional IsExponent exponent
 
+-- an integer with a fraction, an exponent or both
 abbrev pub IsFloat : List ℕ → Type 0
-IsFloat cs = (integer : List ℕ) × (part : List ℕ) × (cs ≡ integer ++ part) × IsInteger integer × IsFloatPart part
+IsFloat cs =
+    (integer : List ℕ) × (part : List ℕ) × (cs ≡ integer ++ part) × IsInteger integer × IsFloatPart part × (part ≢ [])
+
+-- an integer or a float
+abbrev pub IsNumeral : List ℕ → Type 0
+IsNumeral cs = (integer : List ℕ) × (part : List ℕ) × (cs ≡ integer ++ part) × IsInteger integer × IsFloatPart part
 
 -- what may not follow a number: a digit, `.` and a name's first character
 abbrev pub is_bad_after_number : ℕ → Bool
@@ -62,3 +72,22 @@ integer_of (c ∷ cs) = if c == minus then neg_ℤ (pos (natural_of cs)) else po
 -- the numbers that are supported: from -2^63 to 2^64-1
 abbrev pub IsSupported : ℤ → Type 0
 IsSupported n = (negsuc (2 ^ 63 - 1) ≤ℤ n) × (n <ℤ pos (2 ^ 64))
+
+-- The fronts of a text that have this form and no bad character behind them: there is none, or none but the one of this
+-- length.
+abbrev pub OnlyFront : (List ℕ → Type 0) → (bad : ℕ → Bool) → List ℕ → Option ℕ → Type 0
+OnlyFront Form bad text (Some n) =
+    (n ≤ length text) × Form (take n text)
+    × ((cs rest : List ℕ) → text ≡ cs ++ rest → Form cs → begins bad rest ≡ false → length cs ≡ n)
+OnlyFront Form bad text None = (cs rest : List ℕ) → text ≡ cs ++ rest → Form cs → begins bad rest ≡ false → ⊥
+
+-- the lengths of an integer and of what makes it a float, at the front of a text
+pub record IsNumeralAt (text : List ℕ) (integer part : ℕ) : Type 0 where
+  pub within : integer + part ≤ length text
+  pub integer_is : IsInteger (take integer text)
+  pub part_is : IsFloatPart (take part (drop integer text))
+  pub ends : begins is_bad_after_number (drop (integer + part) text) ≡ false
+
+-- a digit or `.`
+abbrev pub is_bad_after_fraction : ℕ → Bool
+is_bad_after_fraction c = is_ascii_digit c || c == full_stop
