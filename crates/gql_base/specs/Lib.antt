@@ -6,3 +6,5 @@ pub mod Same
 pub mod Separated
 pub mod TypeRef
 pub mod formers
+pub mod PathSegment
+pub mod Variables
