@@ -2,3 +2,4 @@ pub mod PairLemmas
 pub mod SeparatedLemmas
 pub mod JsonLemmas
 pub mod ReadJsonLemmas
+pub mod InOrderLemmas

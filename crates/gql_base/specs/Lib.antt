@@ -8,3 +8,4 @@ pub mod TypeRef
 pub mod formers
 pub mod PathSegment
 pub mod Variables
+pub mod ErrorExtensionValues

@@ -4,6 +4,7 @@
 mod boxed;
 mod copied;
 mod equal;
+mod error_extension_values;
 mod items;
 mod json;
 mod made;
@@ -21,6 +22,7 @@ mod variables;
 
 pub use boxed::Boxed;
 pub use copied::Copied;
+pub use error_extension_values::ErrorExtensionValues;
 pub use items::Items;
 pub use json::{json_of, literal_of, push_comma, push_json, push_name, push_quoted};
 pub use made::Made;
