@@ -101,6 +101,11 @@ module _ {T : Type 0} (name : List ℕ) where
       rw same (ap (λ q. Some q.1) read)
   under-standing (p ∷ ps) (suc i) x at read = under-standing ps i x at.1 read ∙ sym (under-step p ps at.0)
 
+  pub named-standing : (ps : List (List ℕ × T)) (i : ℕ) (x : List ℕ × T) → StandsAt name ps i → x ≡ get_or ps i x → x.0 ≡ name
+  named-standing [] i x at read = absurd at
+  named-standing (p ∷ ps) zero x at read = ap (λ q. q.0) read ∙ at.0
+  named-standing (p ∷ ps) (suc i) x at read = named-standing ps i x at.1 read
+
   -- ---- where it belongs
 
   pub belongs-within : (ps : List (List ℕ × T)) (i : ℕ) → BelongsAt name ps i → i ≤ length ps
