@@ -3,6 +3,7 @@ ghost use Rattle.std.specs.Option.{option_copied};
 ghost use Rattle.gql_base.specs.ErrorExtensionValues.{IsInOrder, set_in_order, unset_in, StandsAt, BelongsAt};
 ghost use Rattle.gql_base.specs.Pairs.{under};
 
+use crate::copied::Copied;
 use crate::made::Made;
 use crate::name::Name;
 use crate::value::Value;
@@ -95,6 +96,33 @@ impl ErrorExtensionValues {
     {
         let (name, value) = &self.pairs[place];
         (name.as_str(), value)
+    }
+}
+
+impl Copied for ErrorExtensionValues {
+    fn try_clone(&self, alloc: Global) -> Made<ErrorExtensionValues> {
+        let mut pairs = Vec::new(alloc);
+        for (name, value) in &self.pairs {
+            pairs.push((name.try_clone(alloc)?, value.try_clone(alloc)?))?;
+        }
+        Ok(ErrorExtensionValues { pairs })
+    }
+}
+
+impl PartialEq for ErrorExtensionValues {
+    ghost use Rattle.std.specs.Prelude.{◌≡◌, ◌↔◌, IsTrue};
+    ghost use Rattle.gql_base.specs.Same.{is_same, is_same_laws};
+    ghost use Rattle.gql_base.specs.contracts.error_extension_values.ErrorExtensionValues.{the_row};
+
+    ghost eq = { is_same the_row.coded };
+
+    ghost laws = { is_same_laws the_row.coded };
+
+    fn eq(&self, other: &ErrorExtensionValues) -> bool
+        ensures value { result ≡ is_same the_row.coded self.now other.now }
+        ensures decides { IsTrue result ↔ (self.now ≡ other.now) }
+    {
+        self.pairs.as_slice() == other.pairs.as_slice()
     }
 }
 
