@@ -3,3 +3,4 @@ pub mod SeparatedLemmas
 pub mod JsonLemmas
 pub mod ReadJsonLemmas
 pub mod InOrderLemmas
+pub mod SameLemmas
