@@ -9,3 +9,4 @@ pub mod formers
 pub mod PathSegment
 pub mod Variables
 pub mod ErrorExtensionValues
+pub mod ErrorJson
