@@ -18,6 +18,8 @@ mod path_segment;
 mod pos;
 mod read_json;
 mod server_error;
+#[cfg(test)]
+mod tests;
 mod text;
 mod type_ref;
 mod value;
