@@ -2,16 +2,12 @@
 use Rattle.std.specs.Prelude.{◌≡◌, ◌≢◌, ℕ, List, [], ◌∷◌, ◌++◌, All, map, codes}
 use Rattle.std.specs.Str.{chars}
 use Rattle.gql_base.specs.Pairs.{HasDistinctNames}
-use Rattle.gql_base.specs.declared.pos.Pos.{Pos}
+use Rattle.gql_tokens.specs.Place.{text_start}
 use Rattle.gql_tokens.specs.Lexer.{Lexes}
 use Rattle.gql_tokens.specs.declared.token.Lexeme.{Lexeme}
 use Rattle.gql_tokens.specs.declared.token.Lexeme.TheVariants as lexemes
 use Rattle.gql_tokens.specs.declared.token.Punctuator.TheVariants as punctuators
 use Rattle.gql_tokens.specs.declared.token.Token.{Token}
-
--- the place of a text's first character
-abbrev pub text_start : Pos
-text_start = record { line = 1; column = 1 }
 
 abbrev pub lexemes_of : List Token → List Lexeme
 lexemes_of tokens = map (λ token. token.lexeme) tokens
