@@ -1,6 +1,10 @@
 //! Whole runs, over memory and over a pipe.
-use crate::{MemorySink, MemorySource, StdSink, StdSource, SureSink, SureSource, run, run_alone};
-use gql_base::{Items, Made};
+use crate::{
+    Command, MemorySink, MemorySource, StdSink, StdSource, SureSink, SureSource, bench_of, run,
+    run_alone,
+};
+use gql_base::{Items, Made, Number, Value};
+use serde_json::Value as Json;
 use std::alloc::Global;
 use std::io::{Read, Write, pipe};
 use std::test::Fail;
@@ -87,5 +91,82 @@ fn through_pipes(rt: HostRuntime) -> Result<(), Fail> {
     written.read_to_end(&mut text)?;
     assert_eq!(rt; status, 3);
     assert_eq!(rt; text.as_slice(), b"bench: not built yet\n".as_slice());
+    Ok(())
+}
+
+/// The bench of an object type with an Int, a text and a Boolean, and this query.
+fn bench(alloc: Global, query: &str) -> Made<String> {
+    let fields = "{\"name\":\"value\",\"type\":\"Int\",\"answer\":{\"const\":100}},\
+{\"name\":\"text\",\"type\":\"String\",\"answer\":{\"const\":\"a\\\"b\"}},\
+{\"name\":\"none\",\"type\":\"Boolean\",\"answer\":{\"const\":null}}";
+    format!(in alloc;
+        "{{\"schema\":{{\"query\":\"Query\",\"types\":[{{\"kind\":\"object\",\"name\":\"Query\",\"fields\":[{fields}]}}]}},\
+\"request\":{{\"query\":\"{query}\"}}}}"
+    )
+}
+
+#[test]
+fn first_benches(rt: HostRuntime) -> Result<(), Fail> {
+    let alloc = rt.alloc();
+    let not_built = "bench: not built yet\n";
+    for (query, status, line) in [
+        (
+            "{ value text }",
+            0,
+            "{\"data\":{\"value\":100,\"text\":\"a\\\"b\"}}\n",
+        ),
+        (
+            "{text,none value}",
+            0,
+            "{\"data\":{\"text\":\"a\\\"b\",\"none\":null,\"value\":100}}\n",
+        ),
+        ("#comment\\n{ none } ", 0, "{\"data\":{\"none\":null}}\n"),
+        ("{ value value }", 3, not_built),
+        ("{ other }", 3, not_built),
+        ("{ __typename }", 3, not_built),
+        ("{ }", 3, not_built),
+        ("{ value } }", 3, not_built),
+    ] {
+        let input = bench(alloc, query)?;
+        let mut source = SureSource::new(Items::from_slice(alloc, input.as_bytes())?, 100);
+        let mut sink = SureSink::new(alloc, 7);
+        let words = execute(alloc)?;
+        let answered = run_alone(alloc, words.as_slice(), &mut source, &mut sink);
+        assert_eq!(rt; answered, status, "at {query}");
+        assert_eq!(rt; sink.held(), line.as_bytes(), "at {query}");
+    }
+    Ok(())
+}
+
+#[test]
+fn an_empty_source(rt: HostRuntime) -> Result<(), Fail> {
+    let alloc = rt.alloc();
+    let mut source = SureSource::new(Items::new(alloc), 1);
+    let mut sink = SureSink::new(alloc, 100);
+    let words = execute(alloc)?;
+    assert_eq!(rt;
+        run_alone(alloc, words.as_slice(), &mut source, &mut sink),
+        3
+    );
+    assert_eq!(rt; sink.held(), b"bench: not JSON\n".as_slice());
+    Ok(())
+}
+
+#[test]
+fn a_bench_and_its_tables(rt: HostRuntime) -> Result<(), Fail> {
+    let alloc = rt.alloc();
+    let json = Json::from_str(alloc, bench(alloc, "{ value }")?.as_str())?;
+    match bench_of(alloc, Command::Execute, &json)? {
+        Ok(made) => {
+            assert!(rt; made.constant("value") == Some(&Value::Number(Number::from_i64(100))));
+            assert!(rt; made.constant("other").is_none());
+            assert!(rt; made.has_fields());
+        }
+        Err(text) => panic!(rt; "{text}"),
+    }
+    match bench_of(alloc, Command::Execute, &Json::Null)? {
+        Ok(_) => panic!(rt; "null is no bench"),
+        Err(text) => assert_eq!(rt; text.as_str(), "not built yet"),
+    }
     Ok(())
 }
