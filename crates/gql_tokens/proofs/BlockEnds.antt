@@ -3,8 +3,9 @@ use Rattle.std.proofs.Common.{◌≡◌, ℕ, ◌≤◌, Bool, true, false, ◌�
 use Rattle.std.proofs.lemmas.List.{drop-append-le}
 use Rattle.std.specs.List.{starts_with}
 use Rattle.gql_tokens.specs.Characters.{quote, backslash, is_source}
-use Rattle.gql_tokens.specs.Block.{three_quotes, escaped_quotes, Piece, written, ArePieces, IsUnended, NoBlockEnds}
+use Rattle.gql_tokens.specs.Block.{three_quotes, escaped_quotes, Piece, written, ArePieces}
 use Rattle.gql_tokens.specs.Block.Piece.{itself, quotes}
+use Rattle.gql_tokens.specs.Parts.{IsUnended, NoBlockEnds}
 use Rattle.gql_tokens.proofs.Lists.{head_is, tail_is, fronts, Each, each_back, each_append}
 use Rattle.gql_tokens.proofs.BlockLaws.{starts_gives}
 

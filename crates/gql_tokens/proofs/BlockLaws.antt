@@ -5,8 +5,9 @@ use Rattle.std.specs.List.{starts_with}
 use lib.Pointwise.{pointwise}
 use Rattle.std.proofs.lemmas.List.{take-append-le, take_rest}
 use Rattle.gql_tokens.specs.Characters.{quote, backslash, is_source, begins}
-use Rattle.gql_tokens.specs.Block.{three_quotes, escaped_quotes, Piece, written, raw_of, ArePieces, IsUnended, IsBodyAt, IsBlockString}
+use Rattle.gql_tokens.specs.Block.{three_quotes, escaped_quotes, Piece, written, raw_of, ArePieces, IsBlockString}
 use Rattle.gql_tokens.specs.Block.Piece.{itself, quotes}
+use Rattle.gql_tokens.specs.Parts.{IsUnended, IsBodyAt}
 use Rattle.gql_tokens.proofs.Lists.{head_is, tail_is, begins_so}
 
 -- pieces are read in one way, up to the quotes that end them

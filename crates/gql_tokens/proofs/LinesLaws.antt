@@ -4,7 +4,8 @@ use Rattle.std.specs.List.{prefix_len, join_with_byte}
 use Rattle.std.proofs.lemmas.Bool.Decides.{nat_tests}
 use Rattle.std.proofs.lemmas.List.{reverse-append, reverse-reverse, take-append-le, take_rest}
 use Rattle.gql_tokens.specs.Characters.{line_feed, carriage_return, is_line_character, begins}
-use Rattle.gql_tokens.specs.Lines.{with_first, lines_of, is_blank_line, without_first_blank, without_last_blank, IsFirstLine, IsKept}
+use Rattle.gql_tokens.specs.Lines.{with_first, lines_of, is_blank_line, without_first_blank, without_last_blank}
+use Rattle.gql_tokens.specs.Parts.{IsFirstLine, IsKept}
 use Rattle.gql_tokens.proofs.Lists.{head_is, Each, each_same, run_passes, run_stops}
 
 -- a character within a line

@@ -8,7 +8,8 @@ use Rattle.std.proofs.lemmas.List.Sums.{prefix_len-le-length}
 use Rattle.std.proofs.lemmas.Bool.Decides.{nat_tests}
 use Rattle.std.proofs.lemmas.Bool.{false_from_ne_true}
 use Rattle.gql_tokens.specs.Characters.{minus, full_stop, begins}
-use Rattle.gql_tokens.specs.Number.{IsDigits, IsWhole, IsInteger, IsFraction, IsPower, IsExponent, IsFloatPart, IsFloat, Optional, OnlyFront, begins_exponent, is_bad_after_fraction, is_bad_after_number, natural_of, IsNumeral, IsNumeralAt}
+use Rattle.gql_tokens.specs.Number.{IsDigits, IsWhole, IsInteger, IsFraction, IsPower, IsExponent, IsFloatPart, IsFloat, Optional, begins_exponent, is_bad_after_number, natural_of}
+use Rattle.gql_tokens.specs.Parts.{OnlyFront, is_bad_after_fraction, IsNumeral, IsNumeralAt}
 use Rattle.gql_tokens.proofs.Lists.{tail_is, drop_at_item, Each, each_same, each_back, each_weaker, run_begins, run_passes, run_length}
 
 -- what an integer is written with

@@ -3,7 +3,8 @@ use Rattle.std.proofs.Common.{◌≡◌, ℕ, Bool, true, ◌||◌, ◌==◌, �
 use Rattle.std.specs.Char.{is_ascii_digit}
 use Rattle.std.proofs.lemmas.Bool.Decides.{nat_tests}
 use Rattle.gql_tokens.specs.Characters.{minus, full_stop}
-use Rattle.gql_tokens.specs.Number.{IsDigits, IsWhole, IsInteger, IsFraction, IsPower, IsExponent, IsFloatPart, IsNumeral, Optional, begins_exponent, is_bad_after_number}
+use Rattle.gql_tokens.specs.Number.{IsDigits, IsWhole, IsInteger, IsFraction, IsPower, IsExponent, IsFloatPart, Optional, begins_exponent, is_bad_after_number}
+use Rattle.gql_tokens.specs.Parts.{IsNumeral}
 use Rattle.gql_tokens.proofs.Lists.{head_is, tail_is, Each, each_same, each_weaker}
 
 -- what a number is written with beside signs

@@ -9,11 +9,12 @@ use Rattle.gql_tokens.specs.declared.token.Lexeme.{Lexeme}
 use Rattle.gql_tokens.specs.declared.token.Lexeme.TheVariants as lexemes
 use Rattle.gql_tokens.specs.Characters.{quote, full_stop, is_name_start, is_name_part, begins}
 use Rattle.gql_tokens.specs.Name.{IsName}
-use Rattle.gql_tokens.specs.Number.{IsInteger, IsFloat, IsNumeral, IsNumeralAt, IsSupported, integer_of, is_bad_after_number, OnlyFront}
-use Rattle.gql_tokens.specs.String.{IsString, NoString, IsStringAt}
-use Rattle.gql_tokens.specs.Block.{three_quotes, written, IsBlockString, IsUnended, IsBlockAt}
+use Rattle.gql_tokens.specs.Number.{IsInteger, IsFloat, IsSupported, integer_of, is_bad_after_number}
+use Rattle.gql_tokens.specs.String.{IsString}
+use Rattle.gql_tokens.specs.Block.{three_quotes, written, IsBlockString}
 use Rattle.gql_tokens.specs.Token.{characters_of, Spells, IsToken, MayPrecede}
-use Rattle.gql_tokens.specs.Lexer.{Finishes, StandsAt}
+use Rattle.gql_tokens.specs.Lexer.{Finishes}
+use Rattle.gql_tokens.specs.Parts.{IsNumeral, IsNumeralAt, OnlyFront, NoString, IsStringAt, IsUnended, IsBlockAt, StandsAt}
 use Rattle.gql_tokens.proofs.Lists.{head_is, tail_is, begins_so, begins_not, Each, each_back, begins_take, run_passes, run_stops, run_some}
 use Rattle.gql_tokens.proofs.NumeralLaws.{numeral_longer}
 use Rattle.gql_tokens.proofs.StringLaws.{string_unique}

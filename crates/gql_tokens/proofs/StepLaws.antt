@@ -8,9 +8,9 @@ use Rattle.gql_tokens.specs.declared.token.Token.{Token}
 use Rattle.gql_tokens.specs.Characters.{is_source}
 use Rattle.gql_tokens.specs.Gap.{IsGap}
 use Rattle.gql_tokens.specs.Place.{place_after}
-use Rattle.gql_tokens.specs.Block.{NoBlockEnds}
 use Rattle.gql_tokens.specs.Token.{IsToken, is_final}
-use Rattle.gql_tokens.specs.Lexer.{Finishes, StandsAt, Lexes, IsStep, EndFinally}
+use Rattle.gql_tokens.specs.Lexer.{Finishes, Lexes, EndFinally}
+use Rattle.gql_tokens.specs.Parts.{NoBlockEnds, StandsAt, IsStep}
 use Rattle.gql_tokens.proofs.Lists.{Each}
 use Rattle.gql_tokens.proofs.BlockEnds.{no_block_ends_behind}
 use Rattle.gql_tokens.proofs.SourceLaws.{gap_source, spelling_source}

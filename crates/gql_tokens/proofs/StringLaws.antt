@@ -4,7 +4,8 @@ use Rattle.std.proofs.lemmas.Str.{encodes-append}
 use Rattle.std.proofs.lemmas.List.{take_rest}
 use Rattle.std.proofs.lemmas.Bool.Decides.{nat_tests}
 use Rattle.gql_tokens.specs.Characters.{quote, backslash, begins}
-use Rattle.gql_tokens.specs.String.{is_plain, escaped, hexadecimal_of, WritesCharacter, WritesCharacters, IsString, NoString}
+use Rattle.gql_tokens.specs.String.{is_plain, escaped, hexadecimal_of, WritesCharacter, WritesCharacters, IsString}
+use Rattle.gql_tokens.specs.Parts.{NoString}
 use Rattle.gql_tokens.proofs.Lists.{head_is, tail_is}
 
 plain_not_backslash : (c : ℕ) → is_plain c ≡ true → c ≡ backslash → ⊥

@@ -1,4 +1,4 @@
--- Block strings (section 2.9.4): what stands between their quotes.
+-- Block strings (GraphQL, October 2021, section 2.9.4): what stands between their quotes.
 use Rattle.std.specs.Prelude.{◌≡◌, ℕ, ◌≤◌, true, false, List, [], ◌∷◌, ◌++◌, ◌==◌, nat_eq, length, take, encode_utf8_all}
 use Rattle.std.specs.List.{starts_with, AllByRecursion}
 use Rattle.gql_tokens.specs.declared.block.Found.{Found}
@@ -38,41 +38,8 @@ ArePieces (itself c ∷ pieces) rest =
     × ArePieces pieces rest
 ArePieces (quotes ∷ pieces) rest = ArePieces pieces rest
 
--- The text behind the quotes that open a block string has no end of one.
-abbrev pub IsUnended : List ℕ → Type 0
-IsUnended text =
-    (pieces : List Piece) (rest : List ℕ) → text ≡ written pieces ++ (three_quotes ++ rest)
-    → ArePieces pieces (three_quotes ++ rest) → ⊥
-
 -- a block string with this value
 abbrev pub IsBlockString : List ℕ → List ℕ → Type 0
 IsBlockString value cs =
     (pieces : List Piece) × (cs ≡ three_quotes ++ (written pieces ++ three_quotes)) × ArePieces pieces three_quotes
     × (value ≡ block_value (raw_of pieces))
-
--- what stands at a place in a block string, where `text` begins
-abbrev pub IsPieceAt : List ℕ → Found → Type 0
-IsPieceAt text founds.End = starts_with nat_eq text three_quotes ≡ true
-IsPieceAt text founds.Quotes = starts_with nat_eq text escaped_quotes ≡ true
-IsPieceAt text (founds.Itself c) =
-    (begins (λ d. d == c) text ≡ true) × (is_source c ≡ true) × (starts_with nat_eq text three_quotes ≡ false)
-    × (starts_with nat_eq text escaped_quotes ≡ false)
-IsPieceAt text founds.Nothing = begins is_source text ≡ false
-
--- a block string of this length begins the text, and this stands between its quotes
-abbrev pub IsBodyAt : List ℕ → List ℕ → ℕ → Type 0
-IsBodyAt text raw n =
-    (n ≤ length text)
-    × ((pieces : List Piece) × (take n text ≡ three_quotes ++ (written pieces ++ three_quotes)) × ArePieces pieces three_quotes
-    × (raw ≡ raw_of pieces))
-
--- a block string of this length begins the text, and its value is this in UTF-8
-abbrev pub IsBlockAt : List ℕ → List ℕ → ℕ → Type 0
-IsBlockAt text bytes n =
-    (n ≤ length text) × ((value : List ℕ) × IsBlockString value (take n text) × (bytes ≡ encode_utf8_all value))
-
--- No block string that begins in the text has an end, as far as the characters before it may stand in one.
-abbrev pub NoBlockEnds : List ℕ → Type 0
-NoBlockEnds text =
-    (front rest : List ℕ) → AllByRecursion (λ c. is_source c ≡ true) front → text ≡ front ++ (three_quotes ++ rest)
-    → IsUnended rest

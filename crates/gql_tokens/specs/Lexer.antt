@@ -1,4 +1,4 @@
--- The tokens of a text (section 2.1.6).
+-- The tokens of a text (GraphQL, October 2021, section 2.1.6).
 use Rattle.std.specs.Prelude.{◌≡◌, ◌≢◌, ℕ, Bool, true, false, ◌⊎◌, List, [], ◌∷◌, ◌++◌, ◌≤◌, ◌<◌, ◌+◌, ◌||◌, ◌==◌, length, take, drop}
 use Rattle.std.specs.Char.{is_ascii_digit}
 use Rattle.gql_tokens.specs.Characters.{minus}
@@ -9,10 +9,6 @@ use Rattle.gql_tokens.specs.declared.token.Token.{Token}
 use Rattle.gql_tokens.specs.Gap.{IsGap}
 use Rattle.gql_tokens.specs.Place.{place_after}
 use Rattle.gql_tokens.specs.Token.{IsToken, is_final}
-
--- the first character of a number
-abbrev pub begins_number : ℕ → Bool
-begins_number c = is_ascii_digit c || c == minus
 
 -- no token begins the text
 abbrev pub BeginsNoToken : List ℕ → Type 0
@@ -26,12 +22,6 @@ Finishes lexemes.Unexpected text = (text ≢ []) × BeginsNoToken text
 Finishes lexemes.Unsupported text =
     (cs : List ℕ) × (rest : List ℕ) × (text ≡ cs ++ rest) × IsToken lexemes.Unsupported cs rest
 Finishes _ text = ⊥
-
--- what stands at a text's front, where nothing is ignored: how the tokens end, or a token of this length
-abbrev pub StandsAt : Lexeme → ℕ → List ℕ → Type 0
-StandsAt lexeme n text =
-    Finishes lexeme text
-    ⊎ ((n ≤ length text) × IsToken lexeme (take n text) (drop n text) × (is_final lexeme ≡ false))
 
 -- The tokens of a text that begins at a place, each at the place of its first character. The last is the only final one.
 abbrev pub Lexes : Pos → List ℕ → List Token → Type 0
@@ -48,13 +38,3 @@ abbrev pub EndFinally : List Token → Type 0
 EndFinally [] = ⊥
 EndFinally (token ∷ []) = is_final token.lexeme ≡ true
 EndFinally (token ∷ next ∷ tokens) = (is_final token.lexeme ≡ false) × EndFinally (next ∷ tokens)
-
--- The first token of a text that begins at `place`, how far it reaches with what is ignored before it, and the place
--- behind it: it is the last, or whatever tokens stand behind it stand behind it in the text too.
-pub record IsStep (place : Pos) (text : List ℕ) (token : Token) (n : ℕ) (behind : Pos) : Type 0 where
-  pub within : n ≤ length text
-  pub last : is_final token.lexeme ≡ true → Lexes place text (token ∷ [])
-  pub some : is_final token.lexeme ≡ false → 0 < n
-  pub more : is_final token.lexeme ≡ false → (tokens : List Token) → Lexes behind (drop n text) tokens → Lexes place text (token ∷ tokens)
-  pub line : behind.line ≤ place.line + n
-  pub column : behind.column ≤ place.column + n

@@ -5,6 +5,7 @@ pub mod Lexer
 pub mod Lines
 pub mod Name
 pub mod Number
+pub mod Parts
 pub mod Place
 pub mod String
 pub mod Token

@@ -1,4 +1,4 @@
--- The lines of a block string, and its value (section 2.9.4, BlockStringValue).
+-- The lines of a block string, and its value (GraphQL, October 2021, section 2.9.4, BlockStringValue).
 use Rattle.std.specs.Prelude.{◌≡◌, ℕ, ◌≤◌, ◌<◌, List, [], ◌∷◌, ◌==◌, if◌then◌else◌, Bool, Option, Some, None, MatchOption, min, map, take, drop, reverse, fold, length, unwrap_or}
 use Rattle.std.specs.List.{prefix_len, join_with_byte}
 use Rattle.gql_tokens.specs.Characters.{line_feed, carriage_return, is_blank}
@@ -24,16 +24,16 @@ indent_of line = prefix_len is_blank line
 abbrev pub is_blank_line : List ℕ → Bool
 is_blank_line line = indent_of line == length line
 
--- the least indent, where there is one so far or none
+-- the least of an indent and those so far, if there are any
 abbrev pub least_with : Option ℕ → ℕ → ℕ
 least_with None indent = indent
 least_with (Some least) indent = min least indent
 
--- the same with the indent of one more line, where that holds another character
+-- the least indent so far and with one more line, where that holds another character than tabs and blanks
 abbrev pub with_line : Option ℕ → List ℕ → Option ℕ
 with_line least line = if is_blank_line line then least else Some (least_with least (indent_of line))
 
--- the least indent of the lines that hold another character, if there is such a line
+-- the least indent of the lines that hold another character than tabs and blanks, if there is such a line
 abbrev pub common_indent : List (List ℕ) → Option ℕ
 common_indent lines = fold with_line None lines
 
@@ -58,16 +58,3 @@ without_last_blank lines = reverse (without_first_blank (reverse lines))
 -- the value of a block string, from what stands between its quotes
 abbrev pub block_value : List ℕ → List ℕ
 block_value raw = join_with_byte line_feed (without_last_blank (without_first_blank (without_indent (lines_of raw))))
-
--- the length of a text's first line, and where the next one begins, if there is one
-abbrev pub IsFirstLine : List ℕ → ℕ → Option ℕ → Type 0
-IsFirstLine text line next =
-    (line ≤ length text)
-    × MatchOption next (lines_of text ≡ take line text ∷ [])
-    (λ n. (line < n) × (n ≤ length text) × (lines_of text ≡ take line text ∷ lines_of (drop n text)))
-
--- Some lines without the first blank ones, joined, of which this much stands before the last blank ones.
-pub record IsKept (text : List ℕ) (n : ℕ) (lines : List (List ℕ)) : Type 0 where
-  pub text_is : text ≡ join_with_byte line_feed (without_first_blank lines)
-  pub within : n ≤ length text
-  pub front_is : take n text ≡ join_with_byte line_feed (without_last_blank (without_first_blank lines))

@@ -1,4 +1,4 @@
--- Numbers (sections 2.9.1 and 2.9.2).
+-- Numbers (GraphQL, October 2021, sections 2.9.1 and 2.9.2).
 use Rattle.std.specs.Prelude.{◌≡◌, ◌≢◌, ℕ, ◌+◌, ◌*◌, ◌-◌, ◌^◌, ◌≤◌, Bool, true, false, ◌||◌, ◌⊎◌, List, [], ◌∷◌, ◌++◌, ◌==◌, if◌then◌else◌, Option, Some, None, length, take, drop, ℤ, pos, negsuc, neg_ℤ, ◌≤ℤ◌, ◌<ℤ◌, fold}
 use Rattle.std.specs.Char.{is_ascii_digit}
 use Rattle.std.specs.List.{AllByRecursion}
@@ -52,10 +52,6 @@ abbrev pub IsFloat : List ℕ → Type 0
 IsFloat cs =
     (integer : List ℕ) × (part : List ℕ) × (cs ≡ integer ++ part) × IsInteger integer × IsFloatPart part × (part ≢ [])
 
--- an integer or a float
-abbrev pub IsNumeral : List ℕ → Type 0
-IsNumeral cs = (integer : List ℕ) × (part : List ℕ) × (cs ≡ integer ++ part) × IsInteger integer × IsFloatPart part
-
 -- what may not follow a number: a digit, `.` and a name's first character
 abbrev pub is_bad_after_number : ℕ → Bool
 is_bad_after_number c = (is_ascii_digit c || c == full_stop) || is_name_start c
@@ -72,22 +68,3 @@ integer_of (c ∷ cs) = if c == minus then neg_ℤ (pos (natural_of cs)) else po
 -- the numbers that are supported: from -2^63 to 2^64-1
 abbrev pub IsSupported : ℤ → Type 0
 IsSupported n = (negsuc (2 ^ 63 - 1) ≤ℤ n) × (n <ℤ pos (2 ^ 64))
-
--- The fronts of a text that have this form and no bad character behind them: there is none, or none but the one of this
--- length.
-abbrev pub OnlyFront : (List ℕ → Type 0) → (bad : ℕ → Bool) → List ℕ → Option ℕ → Type 0
-OnlyFront Form bad text (Some n) =
-    (n ≤ length text) × Form (take n text)
-    × ((cs rest : List ℕ) → text ≡ cs ++ rest → Form cs → begins bad rest ≡ false → length cs ≡ n)
-OnlyFront Form bad text None = (cs rest : List ℕ) → text ≡ cs ++ rest → Form cs → begins bad rest ≡ false → ⊥
-
--- the lengths of an integer and of what makes it a float, at the front of a text
-pub record IsNumeralAt (text : List ℕ) (integer part : ℕ) : Type 0 where
-  pub within : integer + part ≤ length text
-  pub integer_is : IsInteger (take integer text)
-  pub part_is : IsFloatPart (take part (drop integer text))
-  pub ends : begins is_bad_after_number (drop (integer + part) text) ≡ false
-
--- a digit or `.`
-abbrev pub is_bad_after_fraction : ℕ → Bool
-is_bad_after_fraction c = is_ascii_digit c || c == full_stop

@@ -1,4 +1,4 @@
--- Strings between single quotation marks (section 2.9.4).
+-- Strings between single quotation marks (GraphQL, October 2021, section 2.9.4).
 use Rattle.std.specs.Prelude.{◌≡◌, ℕ, ◌+◌, ◌*◌, ◌<◌, Bool, true, not, ◌&&◌, ◌||◌, ◌⊎◌, List, [], ◌∷◌, ◌++◌, ◌==◌, if◌then◌else◌, Option, Some, None, fold, ◌≤◌, length, take, encode_utf8_all}
 use Rattle.std.specs.Char.{digit_value, IsScalar}
 use Rattle.std.specs.List.{AllByRecursion}
@@ -46,11 +46,3 @@ WritesCharacters (v ∷ vs) cs =
 -- a string with this value
 abbrev pub IsString : List ℕ → List ℕ → Type 0
 IsString value cs = (body : List ℕ) × (cs ≡ quote ∷ body ++ quote ∷ []) × WritesCharacters value body
-
--- no string begins the text
-abbrev pub NoString : List ℕ → Type 0
-NoString text = (value cs rest : List ℕ) → text ≡ cs ++ rest → IsString value cs → ⊥
-
--- a string of this length begins the text, and its value is this in UTF-8
-abbrev pub IsStringAt : List ℕ → List ℕ → ℕ → Type 0
-IsStringAt text bytes n = (n ≤ length text) × ((value : List ℕ) × IsString value (take n text) × (bytes ≡ encode_utf8_all value))

@@ -1,7 +1,8 @@
 ghost use Rattle.std.specs.Prelude.{◌≡◌, ◌==◌, ◌+◌, ◌++◌, ◌∷◌, [], true, false, ◌<◌, ◌≤◌, ℕ, List, nat_eq, length, take, drop, IfOk, IfSome, IfNone, OnOk, MatchOption, map, unwrap_or, encode_utf8_all};
 ghost use Rattle.std.specs.List.{starts_with, prefix_len};
 ghost use Rattle.gql_tokens.specs.Characters.{is_blank, is_source, begins};
-ghost use Rattle.gql_tokens.specs.Block.{three_quotes, escaped_quotes, raw_of, IsUnended, IsPieceAt, IsBodyAt, IsBlockAt};
+ghost use Rattle.gql_tokens.specs.Block.{three_quotes, escaped_quotes, raw_of};
+ghost use Rattle.gql_tokens.specs.Parts.{IsUnended, IsPieceAt, IsBodyAt, IsBlockAt};
 
 use crate::characters::is_source;
 use crate::lines::block_value;

@@ -5,10 +5,11 @@ ghost use Rattle.std.specs.Char.{is_ascii_digit};
 ghost use Rattle.gql_tokens.specs.declared.token.Punctuator.{Punctuator as Mark};
 ghost use Rattle.gql_tokens.specs.declared.token.Token.{Token as OneToken};
 ghost use Rattle.gql_tokens.specs.Characters.{quote, begins, is_name_start};
-ghost use Rattle.gql_tokens.specs.Block.{three_quotes, IsUnended, NoBlockEnds};
+ghost use Rattle.gql_tokens.specs.Block.{three_quotes};
 ghost use Rattle.gql_tokens.specs.Token.{characters_of, is_final};
-ghost use Rattle.gql_tokens.specs.Lexer.{begins_number, StandsAt, IsStep, Lexes, EndFinally};
+ghost use Rattle.gql_tokens.specs.Lexer.{Lexes, EndFinally};
 ghost use Rattle.gql_tokens.specs.Place.{text_start};
+ghost use Rattle.gql_tokens.specs.Parts.{IsUnended, NoBlockEnds, begins_number, StandsAt, IsStep};
 
 use crate::block::block_at;
 use crate::characters::{characters_of, is_name_start, text_of};

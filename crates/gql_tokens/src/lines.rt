@@ -1,7 +1,8 @@
 ghost use Rattle.std.specs.Prelude.{◌≡◌, ◌==◌, ◌++◌, ◌∷◌, [], ◌<◌, ◌≤◌, false, ℕ, List, length, take, drop, IfOk, OnOk, map, encode_utf8_all, nat_lt};
 ghost use Rattle.std.specs.List.{prefix_len};
 ghost use Rattle.gql_tokens.specs.Characters.{is_blank, is_line_character, begins};
-ghost use Rattle.gql_tokens.specs.Lines.{indent_of, lines_of, common_indent, without_common_indent, without_indent, block_value, least_with, IsFirstLine, IsKept};
+ghost use Rattle.gql_tokens.specs.Lines.{indent_of, lines_of, common_indent, without_common_indent, without_indent, block_value, least_with};
+ghost use Rattle.gql_tokens.specs.Parts.{IsFirstLine, IsKept};
 
 use crate::characters::{is_blank, is_line_end, text_of};
 use gql_base::{Made, Text};

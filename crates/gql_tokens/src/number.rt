@@ -2,7 +2,8 @@ ghost use Rattle.std.specs.Prelude.{◌≡◌, ◌+◌, ◌*◌, ◌-◌, ◌^�
 ghost use Rattle.std.specs.List.{prefix_len};
 ghost use Rattle.std.specs.Char.{is_ascii_digit};
 ghost use Rattle.gql_tokens.specs.Characters.{begins};
-ghost use Rattle.gql_tokens.specs.Number.{OnlyFront, Optional, IsDigits, IsWhole, IsInteger, IsFraction, IsPower, IsExponent, IsFloatPart, IsNumeral, IsNumeralAt, IsSupported, natural_of, integer_of, begins_exponent, is_bad_after_fraction, is_bad_after_number};
+ghost use Rattle.gql_tokens.specs.Number.{Optional, IsDigits, IsWhole, IsInteger, IsFraction, IsPower, IsExponent, IsFloatPart, IsSupported, natural_of, integer_of, begins_exponent, is_bad_after_number};
+ghost use Rattle.gql_tokens.specs.Parts.{OnlyFront, IsNumeral, IsNumeralAt, is_bad_after_fraction};
 
 use crate::characters::is_name_start;
 use gql_base::Number;

@@ -2,7 +2,8 @@ ghost use Rattle.std.specs.Prelude.{◌≡◌, ◌==◌, ◌++◌, ◌∷◌, []
 ghost use Rattle.std.specs.Char.{digit_value, IsScalar};
 ghost use Rattle.std.specs.List.{AllByRecursion};
 ghost use Rattle.gql_tokens.specs.Characters.{quote, begins};
-ghost use Rattle.gql_tokens.specs.String.{is_plain, escaped, hexadecimal_of, WritesCharacter, WritesCharacters, IsString, NoString, IsStringAt};
+ghost use Rattle.gql_tokens.specs.String.{is_plain, escaped, hexadecimal_of, WritesCharacter, WritesCharacters, IsString};
+ghost use Rattle.gql_tokens.specs.Parts.{NoString, IsStringAt};
 
 use crate::characters::{is_line_end, is_source};
 use gql_base::{Made, Text};

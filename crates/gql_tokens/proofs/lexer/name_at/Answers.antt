@@ -1,6 +1,6 @@
 use Rattle.std.proofs.Common.{sym, subst}
 use Rattle.gql_tokens.specs.declared.token.Lexeme.TheVariants as lexemes
-use Rattle.gql_tokens.specs.Lexer.{StandsAt}
+use Rattle.gql_tokens.specs.Parts.{StandsAt}
 use Rattle.gql_tokens.proofs.StandsLaws.{stands_name}
 use Rattle.gql_tokens.proofs.lexer.name_at.Goals as goal
 

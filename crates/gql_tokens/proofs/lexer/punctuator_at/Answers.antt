@@ -1,6 +1,6 @@
 use Rattle.std.proofs.Common.{sym, subst}
 use Rattle.gql_tokens.specs.declared.token.Lexeme.TheVariants as lexemes
-use Rattle.gql_tokens.specs.Lexer.{StandsAt}
+use Rattle.gql_tokens.specs.Parts.{StandsAt}
 use Rattle.gql_tokens.proofs.Lists.{drop_at_item}
 use Rattle.gql_tokens.proofs.StandsLaws.{stands_punctuator}
 use Rattle.gql_tokens.proofs.lexer.punctuator_at.Goals as goal

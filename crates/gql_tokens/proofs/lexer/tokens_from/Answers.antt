@@ -1,8 +1,8 @@
 use Rattle.std.proofs.Common.{◌++◌, drop, sym, ap, ◌∙◌, subst, arith, length-drop, drop-drop}
 use Rattle.std.proofs.lemmas.List.{take_rest}
-use Rattle.gql_tokens.specs.Lexer.{IsStep, Lexes}
-use Rattle.gql_tokens.specs.Block.{NoBlockEnds}
+use Rattle.gql_tokens.specs.Lexer.{Lexes}
 use Rattle.gql_tokens.specs.Place.{text_start}
+use Rattle.gql_tokens.specs.Parts.{IsStep, NoBlockEnds}
 use Rattle.gql_tokens.proofs.StepLaws.{more_tokens}
 use Rattle.gql_tokens.proofs.lexer.tokens_from.Goals as goal
 

@@ -1,8 +1,8 @@
 use Rattle.std.proofs.Common.{◌≡◌, ◌++◌, ◌+◌, ◌-◌, ◌≤◌, List, false, length, drop}
 use Rattle.gql_tokens.specs.declared.token.Token.{Token}
-use Rattle.gql_tokens.specs.Block.{NoBlockEnds}
 use Rattle.gql_tokens.specs.Lexer.{Lexes}
 use Rattle.gql_tokens.specs.Place.{text_start}
+use Rattle.gql_tokens.specs.Parts.{NoBlockEnds}
 use Rattle.gql_tokens.proofs.lexer.tokens_from.Given as goal
 
 -- whatever tokens the rest of the text has follow those so far

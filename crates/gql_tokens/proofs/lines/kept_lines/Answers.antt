@@ -1,6 +1,7 @@
 use Rattle.std.proofs.Common.{◌∷◌, [], take, sym, ap, ◌∙◌, subst}
 use Rattle.std.proofs.lemmas.List.{take_rest}
-use Rattle.gql_tokens.specs.Lines.{IsFirstLine, IsKept, without_indent, lines_of}
+use Rattle.gql_tokens.specs.Lines.{without_indent, lines_of}
+use Rattle.gql_tokens.specs.Parts.{IsFirstLine, IsKept}
 use Rattle.gql_tokens.proofs.LinesLaws.{nothing_kept}
 use Rattle.gql_tokens.proofs.lines.kept_lines.Goals as goal
 

@@ -2,7 +2,7 @@ use Rattle.std.proofs.Common.{◌≡◌, ◌++◌, ◌∷◌, [], length, sym, a
 use Rattle.std.proofs.lemmas.Bool.{eqb-false}
 use Rattle.std.proofs.lemmas.List.{nil_from_length}
 use Rattle.gql_tokens.specs.Characters.{line_feed}
-use Rattle.gql_tokens.specs.Lines.{IsKept}
+use Rattle.gql_tokens.specs.Parts.{IsKept}
 use Rattle.gql_tokens.proofs.LinesLaws.{kept_none, kept_first, kept_blank, kept_more}
 use Rattle.gql_tokens.proofs.lines.Kept.push.Goals as goal
 

@@ -1,5 +1,5 @@
 use Rattle.std.proofs.Common.{◌++◌, ◌∷◌, [], ◌+◌, ◌-◌, length, take, drop, ap, ◌∙◌, subst, append_assoc}
-use Rattle.gql_tokens.specs.Lines.{IsFirstLine, IsKept}
+use Rattle.gql_tokens.specs.Parts.{IsFirstLine, IsKept}
 use Rattle.gql_tokens.proofs.LinesLaws.{others_step}
 use Rattle.gql_tokens.proofs.lines.Kept.push_others.Goals as goal
 

@@ -1,5 +1,6 @@
 use Rattle.std.proofs.Common.{◌≡◌, ◌++◌, ◌≤◌, ◌-◌, ℕ, List, length, drop, map}
-use Rattle.gql_tokens.specs.Lines.{lines_of, IsKept}
+use Rattle.gql_tokens.specs.Lines.{lines_of}
+use Rattle.gql_tokens.specs.Parts.{IsKept}
 use Rattle.gql_tokens.proofs.lines.Kept.push_others.Given as goal
 
 -- the lines so far are kept, and those that are left are the others
