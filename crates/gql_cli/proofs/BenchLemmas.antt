@@ -8,12 +8,11 @@ use Rattle.gql_base.specs.Pairs.{under, HasDistinctNames}
 use Rattle.gql_base.specs.declared.value.Value.{Value}
 use Rattle.gql_tokens.specs.Place.{text_start}
 use Rattle.gql_tokens.proofs.LexerLaws.{lexes_unique}
-use Rattle.gql_cli.specs.Answer.{IsAnswered, Chooses, HasChosen, IsAnswer, response_line}
+use Rattle.gql_cli.specs.Answer.{Chooses, HasChosen, IsAnswer, response_line}
 use Rattle.gql_cli.specs.BenchAnswers.{bench_answers, IsBenchOf}
 use Rattle.gql_cli.specs.declared.tables.Bench.{Bench}
 use Rattle.gql_cli.specs.FirstBench.{IsField, IsShaped, schema_json, constants}
-use Rattle.gql_cli.specs.JsonShape.{object_of}
-use Rattle.gql_cli.specs.Query.{lexemes_of, selected, Selects}
+use Rattle.gql_cli.specs.Query.{lexemes_of, Selects}
 use Rattle.gql_cli.specs.declared.first_bench.FirstBench.{FirstBench}
 use Rattle.gql_cli.specs.declared.first_bench.FirstField.{FirstField}
 use Rattle.gql_cli.proofs.FirstBenchLemmas.{first-text, second-same, root-same, schema-same}

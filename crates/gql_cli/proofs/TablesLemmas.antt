@@ -10,7 +10,7 @@ use Rattle.gql_schema.specs.Object.{object_name, fields_of}
 use Rattle.gql_schema.specs.declared.field.Field.{Field}
 use Rattle.gql_schema.specs.declared.object.Object.{Object}
 use Rattle.gql_cli.specs.FirstBench.{constants}
-use Rattle.gql_cli.specs.Tables.{constant_of, field_constant, IsTabled, AddsField}
+use Rattle.gql_cli.specs.Tables.{constant_of, IsTabled, AddsField}
 use Rattle.gql_cli.specs.declared.first_bench.FirstField.{FirstField}
 use Rattle.gql_cli.specs.declared.rule.Rule.{Rule}
 use Rattle.gql_cli.specs.declared.rule.Rule.TheVariants as rules

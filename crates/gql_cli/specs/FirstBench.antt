@@ -1,5 +1,5 @@
 -- A first bench: one object type of constant fields, and a query for some of them.
-use Rattle.std.specs.Prelude.{◌≡◌, ◌≢◌, ◌⊎◌, ℕ, ℤ, pos, negsuc, ◌≤ℤ◌, List, [], ◌∷◌, ◌++◌, map, Some, codes}
+use Rattle.std.specs.Prelude.{◌≡◌, ◌⊎◌, ℕ, pos, negsuc, ◌≤ℤ◌, List, [], ◌∷◌, map, Some, codes}
 use Rattle.std.specs.List.{AllZip}
 use Rattle.serde_json.specs.Data.{Data, string}
 use Rattle.gql_base.specs.declared.value.Value.{Value, out-Value}

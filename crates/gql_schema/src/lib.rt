@@ -10,3 +10,6 @@ pub use field::Field;
 pub use object::Object;
 pub use schema_type::SchemaType;
 pub use types::Types;
+
+#[cfg(test)]
+mod tests;

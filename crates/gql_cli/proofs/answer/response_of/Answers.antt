@@ -1,4 +1,4 @@
-use Rattle.std.proofs.Common.{codes, ◌++◌, ap, sym, ◌∙◌, map}
+use Rattle.std.proofs.Common.{codes, ◌++◌, ap, ◌∙◌, map}
 use Rattle.gql_base.specs.Separated.{separated}
 use Rattle.gql_cli.specs.Answer.{shown}
 use Rattle.gql_cli.proofs.AnswerLemmas.{response-parts}

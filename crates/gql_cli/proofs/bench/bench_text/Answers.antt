@@ -1,7 +1,7 @@
 use Rattle.std.proofs.Common.{subst}
 use Rattle.serde_json.specs.View.{view}
 use Rattle.gql_cli.specs.Answer.{Chooses}
-use Rattle.gql_cli.specs.BenchAnswers.{bench_answers, IsBenchOf}
+use Rattle.gql_cli.specs.BenchAnswers.{bench_answers}
 use Rattle.gql_cli.proofs.BenchLemmas.{bench-answer}
 use Rattle.gql_cli.proofs.bench.bench_text.Goals as goal
 

@@ -1,4 +1,4 @@
-use Rattle.std.proofs.Common.{ap, sym, ◌∙◌, subst}
+use Rattle.std.proofs.Common.{sym, subst}
 use Rattle.serde_json.specs.View.{view}
 use Rattle.gql_cli.specs.Query.{Selects}
 use Rattle.gql_cli.proofs.BenchLemmas.{answer-parts, no-fields}

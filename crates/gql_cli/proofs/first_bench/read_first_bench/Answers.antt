@@ -1,7 +1,6 @@
-use Rattle.std.proofs.Common.{◌≡◌, sym, ◌∙◌, subst, map, codes}
+use Rattle.std.proofs.Common.{sym, ◌∙◌, subst, codes}
 use Rattle.std.specs.List.{AllZip}
-use Rattle.serde_json.specs.View.{view}
-use Rattle.gql_cli.specs.FirstBench.{IsField, schema_json}
+use Rattle.gql_cli.specs.FirstBench.{IsField}
 use Rattle.gql_cli.proofs.FirstBenchLemmas.{second-same, schema-same}
 use Rattle.gql_cli.proofs.first_bench.read_first_bench.Goals as goal
 

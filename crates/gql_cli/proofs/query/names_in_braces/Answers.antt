@@ -1,4 +1,4 @@
-use Rattle.std.proofs.Common.{◌≡◌, [], ◌∷◌, ◌++◌, map, sym, ◌∙◌}
+use Rattle.std.proofs.Common.{[], ◌∷◌, ◌++◌, map, sym, ◌∙◌}
 use Rattle.gql_tokens.specs.declared.token.Lexeme.TheVariants as lexemes
 use Rattle.gql_tokens.specs.declared.token.Punctuator.TheVariants as punctuators
 use Rattle.gql_cli.proofs.QueryLemmas.{before-end}

@@ -1,4 +1,4 @@
-use Rattle.std.proofs.Common.{◌≡◌, sym, ◌∙◌, ap, subst}
+use Rattle.std.proofs.Common.{sym, ◌∙◌, ap, subst}
 use Rattle.std.specs.Str.{chars}
 use Rattle.gql_cli.specs.Query.{lexemes_of, IsSelectable}
 use Rattle.gql_tokens.specs.Place.{text_start}

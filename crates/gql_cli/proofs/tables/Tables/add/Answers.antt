@@ -2,7 +2,6 @@ use Rattle.std.proofs.Common.{◌≡◌, [], ◌∷◌, ◌++◌, None, ap, sym,
 use Rattle.gql_base.specs.Pairs.{under}
 use Rattle.gql_schema.specs.Object.{fields_of}
 use Rattle.gql_cli.specs.Tables.{IsTabled}
-use Rattle.gql_cli.specs.declared.rule.Rule.TheVariants as rules
 use Rattle.gql_cli.proofs.TablesLemmas.{tabled-more, none-there}
 use Rattle.gql_cli.proofs.tables.Tables.add.Goals as goal
 
