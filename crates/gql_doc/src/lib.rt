@@ -1,0 +1,9 @@
+//! Executable documents of GraphQL and their grammar (GraphQL, October 2021, section 2).
+#![tactic(auto)]
+
+mod document;
+mod fault;
+mod tree;
+
+pub use document::OperationType;
+pub use fault::{ParseFault, ParseKind};
