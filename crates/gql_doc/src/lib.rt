@@ -4,6 +4,7 @@
 mod document;
 mod fault;
 mod tree;
+mod trouble;
 
 pub use document::OperationType;
 pub use fault::{ParseFault, ParseKind};
