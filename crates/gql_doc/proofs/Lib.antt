@@ -1,1 +1,3 @@
+pub mod Follows
 pub mod Readers
+pub mod Tokens
