@@ -1,5 +1,5 @@
 -- What stands behind a part of the grammar, as far as one token of sight shows it.
-use Rattle.std.proofs.Common.{◌≡◌, Bool, true, false, not, List, [], ◌∷◌, ◌++◌, Option, Some, None, inl, inr, refl, sym, ap, ◌∙◌, subst, append_assoc}
+use Rattle.std.proofs.Common.{◌≡◌, ℕ, true, false, not, List, [], ◌∷◌, ◌++◌, Option, Some, None, inl, inr, refl, sym, ap, ◌∙◌, subst, append_assoc}
 use denote.Enum.Bare.{sameb}
 use Rattle.gql_base.specs.declared.pos.Pos.{Pos}
 use Rattle.gql_tokens.specs.declared.token.Token.{Token}
@@ -7,7 +7,8 @@ use Rattle.gql_tokens.specs.declared.token.Lexeme.{Lexeme}
 use Rattle.gql_tokens.specs.declared.token.Lexeme.TheVariants as lexeme
 use Rattle.gql_tokens.specs.declared.token.Punctuator.{Punctuator}
 use Rattle.gql_tokens.specs.contracts.token.Punctuator as punctuator
-use Rattle.gql_doc.specs.Words.{Tokens, Word, Language, tokens_of, plain, ◌▸◌, Each, Maybe, OneAt, SignAt}
+use Rattle.gql_doc.specs.Words.{Tokens, Word, Language, tokens_of, ◌▸◌, Each, Maybe, One, SignAt, OpensAt}
+use Rattle.gql_doc.specs.Grammar.{IsName}
 use Rattle.gql_doc.specs.Readers.{begins}
 use Rattle.gql_doc.specs.Reading.{is_sign, says_sign, is_name, other_than}
 use Rattle.gql_doc.proofs.Readers.{Always, Pure, Seq, Map, Either, SomeOf, Starts, tokens_of-append}
@@ -30,7 +31,7 @@ abbrev pub NoneOf : List Punctuator → Punctuator → Type 0
 NoneOf [] sign = Unit {0}
 NoneOf (other ∷ others) sign = (sameb punctuator.the_type sign other ≡ false) × NoneOf others sign
 
-other_sign : (sign other : Punctuator) (rest : Tokens) → sameb punctuator.the_type sign other ≡ false → NextIs sign rest → begins (is_sign other) rest ≡ false
+pub other_sign : (sign other : Punctuator) (rest : Tokens) → sameb punctuator.the_type sign other ≡ false → NextIs sign rest → begins (is_sign other) rest ≡ false
 other_sign sign other [] e next = refl
 other_sign sign other (t ∷ rest) e next = ap (says_sign other) (sign_is sign t.lexeme next) ∙ e
 
@@ -104,3 +105,12 @@ before_sign sign signs G others pos ms rest here after = never_next signs sign (
 
 pub before_any : {A : Type 0} → (D : A → Language) (G : Tokens → Type 0) → Before D G Always
 before_any D G v ms rest d after = tt
+
+pub before_one : (l : Lexeme) (F : Tokens → Type 0) → ((pos : Pos) (rest : Tokens) → F (record { lexeme = l; pos = pos } ∷ rest)) → (ms : Word) (rest : Tokens) → One l ms → F (tokens_of ms ++ rest)
+before_one l F all ms rest (pos, here) = subst (λ w. F (tokens_of w ++ rest)) (sym here) (all pos rest)
+
+pub opens_next : (levels : ℕ) (sign : Punctuator) (pos : Pos) (ms : Word) (rest : Tokens) → OpensAt levels sign pos ms → NextIs sign (tokens_of ms ++ rest)
+opens_next levels sign pos ms rest here = subst (λ w. NextIs sign (tokens_of w ++ rest)) (sym here) (sign_same sign)
+
+pub before_name : (G : Tokens → Type 0) → Before IsName G NextIsName
+before_name G name ms rest here after = subst (λ w. NextIsName (tokens_of w ++ rest)) (sym here) refl

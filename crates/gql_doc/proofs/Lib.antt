@@ -1,3 +1,5 @@
+pub mod Deep
 pub mod Follows
 pub mod Readers
 pub mod Tokens
+pub mod Values

@@ -72,13 +72,6 @@ says_end _ = false
 abbrev pub before_end : Token → Bool
 before_end token = not (says_end token.lexeme)
 
-abbrev pub may_vary : Variables → Bool
-may_vary Allowed = true
-may_vary Forbidden = false
-
-abbrev pub begins_variable : Variables → Token → Bool
-begins_variable variables token = may_vary variables && is_sign sign.Dollar token
-
 -- What a token is taken for.
 
 abbrev pub if_so : {A : Type 0} → Bool → A → Option A
@@ -162,10 +155,14 @@ object_by value =
     past (take_sign sign.OpenBrace)
     (mapped Object (ended (many (other_than sign.CloseBrace) (member_by value)) (take_sign sign.CloseBrace)))
 
+-- a value that is no list and no object
+abbrev pub plain_value : Variables → Reader ValueTree
+plain_value Allowed = branch (is_sign sign.Dollar) variable_value take_scalar
+plain_value Forbidden = take_scalar
+
 abbrev pub value_by : Variables → Reader ValueTree → Reader ValueTree → Reader ValueTree
 value_by variables list object =
-    branch (is_sign sign.OpenBracket) list
-    (branch (is_sign sign.OpenBrace) object (branch (begins_variable variables) variable_value take_scalar))
+    branch (is_sign sign.OpenBracket) list (branch (is_sign sign.OpenBrace) object (plain_value variables))
 
 unfoldable pub value_at : Variables → ℕ → Reader ValueTree
 value_at variables zero tokens =
