@@ -1,3 +1,4 @@
+pub mod Arguments
 pub mod Deep
 pub mod Follows
 pub mod Readers
