@@ -3,4 +3,5 @@ pub mod Deep
 pub mod Follows
 pub mod Readers
 pub mod Tokens
+pub mod Types
 pub mod Values
