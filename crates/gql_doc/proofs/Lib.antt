@@ -5,3 +5,4 @@ pub mod Readers
 pub mod Tokens
 pub mod Types
 pub mod Values
+pub mod VariableDefinitions
