@@ -2,6 +2,7 @@ pub mod Arguments
 pub mod Deep
 pub mod Follows
 pub mod Readers
+pub mod Selections
 pub mod Tokens
 pub mod Types
 pub mod Values

@@ -70,7 +70,7 @@ abbrev IsRead : VariableTree → Language
 IsRead = Seq (SignAt sign.Dollar) (λ pos. Seq IsName (λ name v. SomeOf (SignAt sign.Colon) ▸ BehindColon pos name v))
 
 variable_to : (v : VariableTree) (ms : Word) → IsRead v ms → IsVariable v ms
-variable_to v ms (pos, a, b, e, dollar, (name, c, d, f, n, (g, h, i, colon, (ty, j, k, l, t, (default, m, o, p, def, (ds, is, dirs)))))) =
+variable_to v ms (pos, a, b, e, dollar, (name, c, d, f, n, (g, h, i, colon, (ty, j, k, l, t, (value, m, o, p, def, (ds, is, dirs)))))) =
     subst (λ w. IsVariable w ms) (sym is) (a, b, e, dollar, (c, d, f, n, (g, h, i, colon, (j, k, l, t, (m, o, p, def, dirs)))))
 
 variable_from : (v : VariableTree) (ms : Word) → IsVariable v ms → IsRead v ms

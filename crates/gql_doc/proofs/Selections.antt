@@ -1,0 +1,228 @@
+-- The readers of selections and their sets.
+use Rattle.std.proofs.Common.{◌≡◌, ◌≢◌, ℕ, zero, suc, pred, Bool, true, false, not, ◌&&◌, List, [], ◌∷◌, ◌++◌, Option, Some, None, inl, inr, refl, sym, ap, ◌∙◌, subst, append-nil}
+use Rattle.std.specs.Prelude.{codes}
+use mathlib.Core.Former.{Count}
+use denote.Hole.Carrier.{out}
+use Rattle.gql_base.specs.declared.pos.Pos.{Pos}
+use Rattle.gql_tokens.specs.declared.token.Lexeme.TheVariants as lexeme
+use Rattle.gql_tokens.specs.declared.token.Punctuator.TheVariants as sign
+use Rattle.gql_doc.specs.declared.tree.Variables.TheVariants.{Allowed}
+use Rattle.gql_doc.specs.declared.tree.NameTree.{NameTree}
+use Rattle.gql_doc.specs.declared.tree.ArgumentTree.{ArgumentTree}
+use Rattle.gql_doc.specs.declared.tree.DirectiveTree.{DirectiveTree}
+use Rattle.gql_doc.specs.declared.tree.SelectionTree.{SelectionTree, Field, Field', Spread, Inline, Inline', Row_of-SelectionTree, end_of-SelectionTree, more_of-SelectionTree, items-the_row-SelectionTree, items_hidden-the_row-SelectionTree-0, items_shown-the_row-SelectionTree-0, out-SelectionTree, roll-SelectionTree, roll-out-SelectionTree}
+use Rattle.gql_doc.specs.declared.tree.SelectionTree.TheBlock.{hidden-the_row-SelectionTree-0}
+use Rattle.gql_doc.specs.declared.tree.SelectionTree.TheViews.{rolls-Field, rolls-Inline}
+use Rattle.gql_doc.specs.declared.tree.SetTree.{SetTree}
+use Rattle.gql_doc.specs.Words.{Tokens, Word, Language, tokens_of, ◌▸◌, Each, Maybe, SignAt, OpensAt, KeywordAt, plain, Nothing}
+use Rattle.gql_doc.specs.Grammar.{IsName, IsFragmentName, IsCondition, IsHead, head_pos, AreArguments, AreDirectives, IsSelection, IsSetOrNone, IsSetOf, AreSelections, IsNonEmpty}
+use Rattle.gql_doc.specs.Readers.{Reader, begins, mapped, past, ended, branch, some, optional, gives, too_deep, ◌then◌}
+use Rattle.gql_doc.specs.Reading.{is_sign, is_name, is_word, is_fragment_name, other_than, take_sign, take_word, take_name, take_fragment_name, arguments, directives, head, condition, set_or_none, field_by, spread_behind, inline_behind, spread_by, selection_by, set_by, set_at}
+use Rattle.gql_doc.proofs.Readers.{Reads, Always, Pure, Seq, Map, Either, SomeOf, SomeWord, Starts, Apart, EachOfSome, convert, seq, mapped_reads, past_reads, ended_reads, choice, gives_any, some_reads, optional_reads}
+use Rattle.gql_doc.proofs.Tokens.{start, sign_reads, word_reads, name_reads, fragment_name_reads, text_differs}
+use Rattle.gql_doc.proofs.Follows.{NextIs, NextIsName, Never, Before, joined, never_next, never_name, none_is, other_is, other_sign, name_is_other, sign_next, opens_next, before_name, before_seq, before_map, before_maybe}
+use Rattle.gql_doc.proofs.Arguments.{arguments_reads, directives_reads, before_directives, before_parentheses}
+use Rattle.gql_doc.proofs.Deep.{deep_reads}
+
+-- Heads and conditions.
+
+pub condition_reads : Reads condition IsCondition Always
+unfolding condition
+condition_reads = past_reads (take_word (codes "on")) (KeywordAt (codes "on")) take_name IsName Always Always (word_reads (codes "on")) name_reads (λ v y rest q g. tt)
+
+abbrev Head : Type 0
+Head = Option NameTree × NameTree
+
+abbrev BehindName : NameTree → Head → Language
+BehindName first =
+    Either (λ h. SomeOf (SignAt sign.Colon) ▸ Map (λ name. (Some first, name)) IsName h) (Pure (None, first))
+
+abbrev IsHeadOf : Head → Language
+IsHeadOf h = IsHead h.0 h.1
+
+head_to : (v : Head) (ms : Word) → Seq IsName BehindName v ms → IsHeadOf v ms
+head_to v ms (first, x, y, e, n, inl (a, b, h, colon, (name, k, m))) = subst (λ w. IsHeadOf w ms) (sym k) (x, y, e, n, (a, b, h, colon, m))
+head_to v ms (first, x, y, e, n, inr (k, nil)) =
+    subst (λ w. IsHeadOf w ms) (sym k) (subst (IsName first) (sym (append-nil x) ∙ ap (λ w. x ++ w) (sym nil) ∙ sym e) n)
+
+head_from : (v : Head) (ms : Word) → IsHeadOf v ms → Seq IsName BehindName v ms
+head_from (None, name) ms n = (name, ms, [], sym (append-nil ms), n, inr (refl, refl))
+head_from (Some alias, name) ms (x, y, e, n, (a, b, h, colon, m)) = (alias, x, y, e, n, inl (a, b, h, colon, (name, refl, m)))
+
+behind_name : (first : NameTree) → Reads (branch (is_sign sign.Colon) (past (take_sign sign.Colon) (mapped (λ name. (Some first, name)) take_name)) (gives (None, first))) (BehindName first) (Never (sign.Colon ∷ []))
+behind_name first =
+    choice (is_sign sign.Colon) (past (take_sign sign.Colon) (mapped (λ name. (Some first, name)) take_name)) (gives (None, first)) (λ h. SomeOf (SignAt sign.Colon) ▸ Map (λ name. (Some first, name)) IsName h) (Pure (None, first)) Always (Never (sign.Colon ∷ [])) (Never (sign.Colon ∷ []))
+    (past_reads (take_sign sign.Colon) (SignAt sign.Colon) (mapped (λ name. (Some first, name)) take_name) (Map (λ name. (Some first, name)) IsName) Always Always (sign_reads sign.Colon) (mapped_reads (λ name. (Some first, name)) take_name IsName Always name_reads) (λ v y rest q g. tt))
+    (gives_any (None, first) (Never (sign.Colon ∷ [])))
+    (λ v ms rest (x, y, e, (pos, colon), h). joined (NextIs sign.Colon) ms x y rest e (sign_next sign.Colon Always pos x (tokens_of y ++ rest) colon tt))
+    (λ v ms rest (k, nil) g. subst (λ w. begins (is_sign sign.Colon) (tokens_of w ++ rest) ≡ false) (sym nil) g.0) (λ rest g. tt) (λ rest g. g)
+
+pub head_reads : Reads head IsHeadOf (Never (sign.Colon ∷ []))
+unfolding head
+head_reads =
+    convert head (Seq IsName BehindName) IsHeadOf (Never (sign.Colon ∷ [])) (Never (sign.Colon ∷ []))
+    (seq take_name IsName (λ first. branch (is_sign sign.Colon) (past (take_sign sign.Colon) (mapped (λ name. (Some first, name)) take_name)) (gives (None, first))) BehindName Always (Never (sign.Colon ∷ [])) name_reads behind_name (λ a v y rest q g. tt))
+    head_to head_from (λ rest g. g)
+
+pub head_next : (v : Head) (ms : Word) (rest : Tokens) → IsHeadOf v ms → NextIsName (tokens_of ms ++ rest)
+head_next v ms rest h = let s = head_from v ms h in joined NextIsName ms s.1 s.2 rest s.3 (before_name Always s.0 s.1 (tokens_of s.2 ++ rest) s.4 tt)
+
+-- Sets, with so many levels left.
+
+abbrev pub IsSetTree : ℕ → SetTree → Language
+IsSetTree levels set ms =
+    IsNonEmpty set.selections × (OpensAt levels sign.OpenBrace set.pos ▸ (Each (IsSelection (pred levels)) set.selections ▸ SomeOf (SignAt sign.CloseBrace))) ms
+
+selections_of_row : (levels : ℕ) (m : Count) (row : Row_of-SelectionTree m) (ms : Word) → AreSelections levels row ms → Each (IsSelection levels) (items-the_row-SelectionTree m row) ms
+selections_of_row levels _ end_of-SelectionTree ms nil = nil
+selections_of_row levels _ (more_of-SelectionTree v row) ms (x, y, e, d, ds) = (x, y, e, d, selections_of_row levels _ row y ds)
+
+row_of_selections : (levels : ℕ) (m : Count) (row : Row_of-SelectionTree m) (ms : Word) → Each (IsSelection levels) (items-the_row-SelectionTree m row) ms → AreSelections levels row ms
+row_of_selections levels _ end_of-SelectionTree ms nil = nil
+row_of_selections levels _ (more_of-SelectionTree v row) ms (x, y, e, d, ds) = (x, y, e, d, row_of_selections levels _ row y ds)
+
+abbrev tree : Pos → List SelectionTree → SetTree
+tree pos selections = record { pos = pos; selections = selections }
+
+set_of_row : (levels : ℕ) (set : Pos) (m : Count) (row : Row_of-SelectionTree m) (ms : Word) → IsSetOf levels set row ms → IsSetTree levels (tree set (items-the_row-SelectionTree m row)) ms
+set_of_row levels set _ end_of-SelectionTree ms none = absurd none
+set_of_row levels set _ (more_of-SelectionTree v row) ms (x, y, e, o, (a, b, h, (c, d, f, s, ss), close)) =
+    (tt, (x, y, e, o, (a, b, h, (c, d, f, s, selections_of_row (pred levels) _ row d ss), close)))
+
+row_of_set : (levels : ℕ) (set : Pos) (m : Count) (row : Row_of-SelectionTree m) (ms : Word) → IsSetTree levels (tree set (items-the_row-SelectionTree m row)) ms → IsSetOf levels set row ms
+row_of_set levels set _ end_of-SelectionTree ms (none, h) = absurd none
+row_of_set levels set _ (more_of-SelectionTree v row) ms (_, (x, y, e, o, (a, b, h, (c, d, f, s, ss), close))) =
+    (x, y, e, o, (a, b, h, (c, d, f, s, row_of_selections (pred levels) _ row d ss), close))
+
+-- a set, or none at the field's place
+abbrev IsSetIfAny : ℕ → Pos → SetTree → Language
+IsSetIfAny levels field = Either (IsSetTree levels) (Pure (tree field []))
+
+if_any_of_row : (levels : ℕ) (field set : Pos) (m : Count) (row : Row_of-SelectionTree m) (ms : Word) → IsSetOrNone levels field set row ms → IsSetIfAny levels field (tree set (items-the_row-SelectionTree m row)) ms
+if_any_of_row levels field set _ end_of-SelectionTree ms (k, nil) = inr (ap (λ p. tree p []) k, nil)
+if_any_of_row levels field set _ (more_of-SelectionTree v row) ms (x, y, e, o, (a, b, h, (c, d, f, s, ss), close)) =
+    inl (tt, (x, y, e, o, (a, b, h, (c, d, f, s, selections_of_row (pred levels) _ row d ss), close)))
+
+row_of_if_any : (levels : ℕ) (field set : Pos) (m : Count) (row : Row_of-SelectionTree m) (ms : Word) → IsSetIfAny levels field (tree set (items-the_row-SelectionTree m row)) ms → IsSetOrNone levels field set row ms
+row_of_if_any levels field set _ end_of-SelectionTree ms (inl (none, h)) = absurd none
+row_of_if_any levels field set _ end_of-SelectionTree ms (inr (k, nil)) = (ap (λ t. t.pos) k, nil)
+row_of_if_any levels field set _ (more_of-SelectionTree v row) ms (inl (_, (x, y, e, o, (a, b, h, (c, d, f, s, ss), close)))) =
+    (x, y, e, o, (a, b, h, (c, d, f, s, row_of_selections (pred levels) _ row d ss), close))
+row_of_if_any levels field set _ (more_of-SelectionTree v row) ms (inr (k, nil)) = absurd (cc (ap (λ t. t.selections) k))
+
+-- A selection in its parts.
+
+field_whole : (alias : Option NameTree) (name : NameTree) (arguments : List ArgumentTree) (directives : List DirectiveTree) (set : Pos) (s : _) (row : Row_of-SelectionTree _) → Field' alias name arguments directives set s row ≡ Field alias name arguments directives set (items-the_row-SelectionTree _ row)
+unfolding out-SelectionTree roll-SelectionTree out
+field_whole alias name arguments directives set s row =
+    sym (roll-out-SelectionTree (Field' alias name arguments directives set s row)) ∙ rolls-Field alias name arguments directives set _ ∙ ap (Field alias name arguments directives set) (items_shown-the_row-SelectionTree-0 s row)
+
+inline_whole : (pos : Pos) (condition : Option NameTree) (directives : List DirectiveTree) (set : Pos) (s : _) (row : Row_of-SelectionTree _) → Inline' pos condition directives set s row ≡ Inline pos condition directives set (items-the_row-SelectionTree _ row)
+unfolding out-SelectionTree roll-SelectionTree out
+inline_whole pos condition directives set s row =
+    sym (roll-out-SelectionTree (Inline' pos condition directives set s row)) ∙ rolls-Inline pos condition directives set _ ∙ ap (Inline pos condition directives set) (items_shown-the_row-SelectionTree-0 s row)
+
+abbrev make_field : Head → List ArgumentTree → List DirectiveTree → SetTree → SelectionTree
+make_field h arguments directives set = Field h.0 h.1 arguments directives set.pos set.selections
+
+abbrev make_inline : Pos → Option NameTree → List DirectiveTree → SetTree → SelectionTree
+make_inline pos condition directives set = Inline pos condition directives set.pos set.selections
+
+-- what may not follow a selection
+abbrev pub AfterSelection : Tokens → Type 0
+AfterSelection = Never (sign.OpenBrace ∷ sign.At ∷ sign.OpenParen ∷ sign.Colon ∷ [])
+
+module _ (levels : ℕ) where
+  abbrev BehindDirectives : Head → List ArgumentTree → List DirectiveTree → SelectionTree → Language
+  BehindDirectives h arguments directives = Map (make_field h arguments directives) (IsSetIfAny levels (head_pos h.0 h.1))
+
+  abbrev BehindArguments : Head → List ArgumentTree → SelectionTree → Language
+  BehindArguments h arguments = Seq (AreDirectives Allowed) (BehindDirectives h arguments)
+
+  abbrev BehindHead : Head → SelectionTree → Language
+  BehindHead h = Seq (AreArguments Allowed) (BehindArguments h)
+
+  abbrev IsField : SelectionTree → Language
+  IsField = Seq IsHeadOf BehindHead
+
+  abbrev IsSpreadBehind : Pos → SelectionTree → Language
+  IsSpreadBehind pos = Seq IsFragmentName (λ name. Map (λ directives. Spread pos name directives) (AreDirectives Allowed))
+
+  abbrev BehindCondition : Pos → Option NameTree → SelectionTree → Language
+  BehindCondition pos condition = Seq (AreDirectives Allowed) (λ directives. Map (make_inline pos condition directives) (IsSetTree levels))
+
+  abbrev IsInlineBehind : Pos → SelectionTree → Language
+  IsInlineBehind pos = Seq (Maybe IsCondition) (BehindCondition pos)
+
+  abbrev IsSpread : SelectionTree → Language
+  IsSpread = Seq (SignAt sign.Spread) (λ pos. Either (IsSpreadBehind pos) (IsInlineBehind pos))
+
+  selection_to : (v : SelectionTree) (ms : Word) → Either IsSpread IsField v ms → IsSelection levels v ms
+  selection_to v ms (inl (pos, x, y, e, dots, inl (name, a, b, h, n, (ds, k, dirs)))) =
+      subst (λ w. IsSelection levels w ms) (sym k) (x, y, e, dots, (a, b, h, n, dirs))
+  selection_to v ms (inl (pos, x, y, e, dots, inr (c, a, b, h, cond', (ds, d, f, g, dirs, (set, k, body))))) =
+      subst (λ w. IsSelection levels w ms) (sym k)
+      (x, y, e, dots, (a, b, h, cond', (d, f, g, dirs, row_of_set levels set.pos _ (hidden-the_row-SelectionTree-0 set.selections) f (subst (λ us. IsSetTree levels (tree set.pos us) f) (sym (items_hidden-the_row-SelectionTree-0 set.selections)) body))))
+  selection_to v ms (inr (hd, x, y, e, h, (args, a, b, f, as', (ds, c, d, g, dirs, (set, k, body))))) =
+      subst (λ w. IsSelection levels w ms) (sym k)
+      (x, y, e, h, (a, b, f, as', (c, d, g, dirs, row_of_if_any levels (head_pos hd.0 hd.1) set.pos _ (hidden-the_row-SelectionTree-0 set.selections) d (subst (λ us. IsSetIfAny levels (head_pos hd.0 hd.1) (tree set.pos us) d) (sym (items_hidden-the_row-SelectionTree-0 set.selections)) body))))
+
+  selection_from : (v : SelectionTree) (ms : Word) → IsSelection levels v ms → Either IsSpread IsField v ms
+  selection_from (Field' alias name arguments directives set s row) ms (x, y, e, h, (a, b, f, as', (c, d, g, dirs, body))) =
+      inr ((alias, name), x, y, e, h, (arguments, a, b, f, as', (directives, c, d, g, dirs, (tree set (items-the_row-SelectionTree _ row), field_whole alias name arguments directives set s row, if_any_of_row levels (head_pos alias name) set _ row d body))))
+  selection_from (Spread pos name directives) ms (x, y, e, dots, (a, b, h, n, dirs)) =
+      inl (pos, x, y, e, dots, inl (name, a, b, h, n, (directives, refl, dirs)))
+  selection_from (Inline' pos condition directives set s row) ms (x, y, e, dots, (a, b, h, c, (d, f, g, dirs, body))) =
+      inl (pos, x, y, e, dots, inr (condition, a, b, h, c, (directives, d, f, g, dirs, (tree set (items-the_row-SelectionTree _ row), inline_whole pos condition directives set s row, set_of_row levels set _ row f body))))
+
+  -- Fields.
+
+  brace_next : (v : SetTree) (ms : Word) (rest : Tokens) → IsSetTree levels v ms → NextIs sign.OpenBrace (tokens_of ms ++ rest)
+  brace_next v ms rest (_, (x, y, e, o, h)) = joined (NextIs sign.OpenBrace) ms x y rest e (opens_next levels sign.OpenBrace v.pos x (tokens_of y ++ rest) o)
+
+  -- a set, or what follows
+  before_set : (field : Pos) (F : Tokens → Type 0) → ((rest : Tokens) → NextIs sign.OpenBrace rest → F rest) → Before (IsSetIfAny levels field) F F
+  before_set field F opens v ms rest (inl h) g = opens (tokens_of ms ++ rest) (brace_next v ms rest h)
+  before_set field F opens v ms rest (inr (k, nil)) g = subst (λ w. F (tokens_of w ++ rest)) (sym nil) g
+
+  module _ (set : Reader SetTree) (sets : Reads set (IsSetTree levels) Always) where
+    if_any_reads : (field : Pos) → Reads (set_or_none field set) (IsSetIfAny levels field) (Never (sign.OpenBrace ∷ []))
+    if_any_reads field =
+        choice (is_sign sign.OpenBrace) set (gives (tree field [])) (IsSetTree levels) (Pure (tree field [])) Always (Never (sign.OpenBrace ∷ [])) (Never (sign.OpenBrace ∷ [])) sets (gives_any (tree field []) (Never (sign.OpenBrace ∷ []))) brace_next
+        (λ v ms rest (k, nil) g. subst (λ w. begins (is_sign sign.OpenBrace) (tokens_of w ++ rest) ≡ false) (sym nil) g.0) (λ rest g. tt) (λ rest g. g)
+
+    module _ (h : Head) where
+      behind_directives : (args : List ArgumentTree) (ds : List DirectiveTree) → Reads (mapped (make_field h args ds) (set_or_none (head_pos h.0 h.1) set)) (BehindDirectives h args ds) AfterSelection
+      behind_directives args ds =
+          convert (mapped (make_field h args ds) (set_or_none (head_pos h.0 h.1) set)) (BehindDirectives h args ds) (BehindDirectives h args ds) (Never (sign.OpenBrace ∷ [])) AfterSelection
+          (mapped_reads (make_field h args ds) (set_or_none (head_pos h.0 h.1) set) (IsSetIfAny levels (head_pos h.0 h.1)) (Never (sign.OpenBrace ∷ [])) (if_any_reads (head_pos h.0 h.1))) (λ v ms k. k) (λ v ms k. k) (λ rest g. (g.0, tt))
+
+      before_directives_of : (args : List ArgumentTree) (ds : List DirectiveTree) → Before (BehindDirectives h args ds) AfterSelection (Never (sign.At ∷ sign.OpenParen ∷ sign.Colon ∷ []))
+      before_directives_of args ds =
+          before_map (make_field h args ds) (IsSetIfAny levels (head_pos h.0 h.1)) AfterSelection (Never (sign.At ∷ sign.OpenParen ∷ sign.Colon ∷ []))
+          (λ v ms rest k g. before_set (head_pos h.0 h.1) (Never (sign.At ∷ sign.OpenParen ∷ sign.Colon ∷ [])) (λ rest. never_next (sign.At ∷ sign.OpenParen ∷ sign.Colon ∷ []) sign.OpenBrace rest (refl, (refl, (refl, tt)))) v ms rest k g.1)
+
+      behind_arguments : (args : List ArgumentTree) → Reads (directives Allowed then (λ ds. mapped (make_field h args ds) (set_or_none (head_pos h.0 h.1) set))) (BehindArguments h args) AfterSelection
+      behind_arguments args =
+          seq (directives Allowed) (AreDirectives Allowed) (λ ds. mapped (make_field h args ds) (set_or_none (head_pos h.0 h.1) set)) (BehindDirectives h args) (Never (sign.At ∷ sign.OpenParen ∷ [])) AfterSelection (directives_reads Allowed) (behind_directives args)
+          (λ ds v y rest q g. let k = before_directives_of args ds v y rest q g in (k.0, (k.1.0, tt)))
+
+      before_arguments : (args : List ArgumentTree) → Before (BehindArguments h args) AfterSelection (Never (sign.OpenParen ∷ sign.Colon ∷ []))
+      before_arguments args =
+          before_seq (AreDirectives Allowed) (BehindDirectives h args) AfterSelection (Never (sign.OpenParen ∷ sign.Colon ∷ [])) (Never (sign.OpenParen ∷ sign.Colon ∷ []))
+          (before_directives Allowed (Never (sign.OpenParen ∷ sign.Colon ∷ [])) (λ rest. never_next (sign.OpenParen ∷ sign.Colon ∷ []) sign.At rest (refl, (refl, tt))))
+          (λ ds v ms rest k g. (before_directives_of args ds v ms rest k g).1)
+
+      behind_head : Reads (arguments Allowed then (λ args. directives Allowed then (λ ds. mapped (make_field h args ds) (set_or_none (head_pos h.0 h.1) set)))) (BehindHead h) AfterSelection
+      behind_head =
+          seq (arguments Allowed) (AreArguments Allowed) (λ args. directives Allowed then (λ ds. mapped (make_field h args ds) (set_or_none (head_pos h.0 h.1) set))) (BehindArguments h) (Never (sign.OpenParen ∷ [])) AfterSelection (arguments_reads Allowed) behind_arguments
+          (λ args v y rest q g. let k = before_arguments args v y rest q g in (k.0, tt))
+
+      before_head : Before (BehindHead h) AfterSelection (Never (sign.Colon ∷ []))
+      before_head =
+          before_seq (AreArguments Allowed) (BehindArguments h) AfterSelection (Never (sign.Colon ∷ [])) (Never (sign.Colon ∷ []))
+          (before_parentheses _ (Never (sign.Colon ∷ [])) (λ rest. never_next (sign.Colon ∷ []) sign.OpenParen rest (refl, tt)))
+          (λ args v ms rest k g. (before_arguments args v ms rest k g).1)
+
+    field_reads : Reads (field_by set) IsField AfterSelection
+    field_reads = seq head IsHeadOf (λ h. arguments Allowed then (λ args. directives Allowed then (λ ds. mapped (make_field h args ds) (set_or_none (head_pos h.0 h.1) set)))) BehindHead (Never (sign.Colon ∷ [])) AfterSelection head_reads behind_head before_head
