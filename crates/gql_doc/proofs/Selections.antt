@@ -4,7 +4,9 @@ use Rattle.std.specs.Prelude.{codes}
 use mathlib.Core.Former.{Count}
 use denote.Hole.Carrier.{out}
 use Rattle.gql_base.specs.declared.pos.Pos.{Pos}
+use Rattle.gql_tokens.specs.declared.token.Lexeme.{Lexeme}
 use Rattle.gql_tokens.specs.declared.token.Lexeme.TheVariants as lexeme
+use Rattle.gql_tokens.specs.declared.token.Punctuator.{Punctuator}
 use Rattle.gql_tokens.specs.declared.token.Punctuator.TheVariants as sign
 use Rattle.gql_doc.specs.declared.tree.Variables.TheVariants.{Allowed}
 use Rattle.gql_doc.specs.declared.tree.NameTree.{NameTree}
@@ -17,9 +19,9 @@ use Rattle.gql_doc.specs.declared.tree.SetTree.{SetTree}
 use Rattle.gql_doc.specs.Words.{Tokens, Word, Language, tokens_of, ◌▸◌, Each, Maybe, SignAt, OpensAt, KeywordAt, plain, Nothing}
 use Rattle.gql_doc.specs.Grammar.{IsName, IsFragmentName, IsCondition, IsHead, head_pos, AreArguments, AreDirectives, IsSelection, IsSetOrNone, IsSetOf, AreSelections, IsNonEmpty}
 use Rattle.gql_doc.specs.Readers.{Reader, begins, mapped, past, ended, branch, some, optional, gives, too_deep, ◌then◌}
-use Rattle.gql_doc.specs.Reading.{is_sign, is_name, is_word, is_fragment_name, other_than, take_sign, take_word, take_name, take_fragment_name, arguments, directives, head, condition, set_or_none, field_by, spread_behind, inline_behind, spread_by, selection_by, set_by, set_at}
+use Rattle.gql_doc.specs.Reading.{is_sign, says_word, says_name, is_word, is_fragment_name, other_than, take_sign, take_word, take_name, take_fragment_name, arguments, directives, head, condition, set_or_none, field_by, spread_behind, inline_behind, spread_by, selection_by, set_by, set_at}
 use Rattle.gql_doc.proofs.Readers.{Reads, Always, Pure, Seq, Map, Either, SomeOf, SomeWord, Starts, Apart, EachOfSome, convert, seq, mapped_reads, past_reads, ended_reads, choice, gives_any, some_reads, optional_reads}
-use Rattle.gql_doc.proofs.Tokens.{start, sign_reads, word_reads, name_reads, fragment_name_reads, text_differs}
+use Rattle.gql_doc.proofs.Tokens.{start, sign_is, sign_reads, word_reads, name_reads, fragment_name_reads, text_differs}
 use Rattle.gql_doc.proofs.Follows.{NextIs, NextIsName, Never, Before, joined, never_next, never_name, none_is, other_is, other_sign, name_is_other, sign_next, opens_next, before_name, before_seq, before_map, before_maybe}
 use Rattle.gql_doc.proofs.Arguments.{arguments_reads, directives_reads, before_directives, before_parentheses}
 use Rattle.gql_doc.proofs.Deep.{deep_reads}
@@ -128,6 +130,56 @@ make_field h arguments directives set = Field h.0 h.1 arguments directives set.p
 abbrev make_inline : Pos → Option NameTree → List DirectiveTree → SetTree → SelectionTree
 make_inline pos condition directives set = Inline pos condition directives set.pos set.selections
 
+abbrev says_some_sign : Lexeme → Bool
+says_some_sign (lexeme.Punctuator sign) = true
+says_some_sign _ = false
+
+-- the next token is a sign
+abbrev NextIsSign : Tokens → Type 0
+NextIsSign rest = begins (λ token. says_some_sign token.lexeme) rest ≡ true
+
+next_sign : (sign : Punctuator) (rest : Tokens) → NextIs sign rest → NextIsSign rest
+next_sign sign [] next = absurd (cc next)
+next_sign sign (t ∷ rest) next = ap says_some_sign (sign_is sign t.lexeme next)
+
+sign_no_word : (word : List ℕ) (l : Lexeme) → says_some_sign l ≡ true → says_word word l ≡ false
+sign_no_word word (lexeme.Punctuator sign) e = refl
+sign_no_word word (lexeme.Name text) e = absurd (cc e)
+sign_no_word word (lexeme.Number number) e = absurd (cc e)
+sign_no_word word (lexeme.String text) e = absurd (cc e)
+sign_no_word word lexeme.End e = absurd (cc e)
+sign_no_word word lexeme.Unexpected e = absurd (cc e)
+sign_no_word word lexeme.Unsupported e = absurd (cc e)
+
+sign_no_name : (l : Lexeme) → says_some_sign l ≡ true → says_name l ≡ false
+sign_no_name (lexeme.Punctuator sign) e = refl
+sign_no_name (lexeme.Name text) e = absurd (cc e)
+sign_no_name (lexeme.Number number) e = absurd (cc e)
+sign_no_name (lexeme.String text) e = absurd (cc e)
+sign_no_name lexeme.End e = absurd (cc e)
+sign_no_name lexeme.Unexpected e = absurd (cc e)
+sign_no_name lexeme.Unsupported e = absurd (cc e)
+
+no_word : (word : List ℕ) (rest : Tokens) → NextIsSign rest → begins (is_word word) rest ≡ false
+no_word word [] next = refl
+no_word word (t ∷ rest) next = sign_no_word word t.lexeme next
+
+on_next : Starts (is_word (codes "on")) IsCondition
+on_next v ms rest (x, y, e, (pos, on), n) =
+    joined (λ ts. begins (is_word (codes "on")) ts ≡ true) ms x y rest e (subst (λ w. begins (is_word (codes "on")) (tokens_of w ++ (tokens_of y ++ rest)) ≡ true) (sym on) refl)
+
+fragment_name_next : (name : NameTree) (ms : Word) (rest : Tokens) → IsFragmentName name ms → begins is_fragment_name (tokens_of ms ++ rest) ≡ true
+fragment_name_next name ms rest (other, n) =
+    subst (λ w. begins is_fragment_name (tokens_of w ++ rest) ≡ true) (sym n) (ap not (text_differs name.text (codes "on") other))
+
+sign_no_fragment : (rest : Tokens) → NextIsSign rest → begins is_fragment_name rest ≡ false
+sign_no_fragment [] next = refl
+sign_no_fragment (t ∷ rest) next = ap (λ b. b && not (is_word (codes "on") t)) (sign_no_name t.lexeme next)
+
+condition_no_fragment : (v : NameTree) (ms : Word) (rest : Tokens) → IsCondition v ms → begins is_fragment_name (tokens_of ms ++ rest) ≡ false
+condition_no_fragment v ms rest (x, y, e, (pos, on), n) =
+    joined (λ ts. begins is_fragment_name ts ≡ false) ms x y rest e (subst (λ w. begins is_fragment_name (tokens_of w ++ (tokens_of y ++ rest)) ≡ false) (sym on) refl)
+
 -- what may not follow a selection
 abbrev pub AfterSelection : Tokens → Type 0
 AfterSelection = Never (sign.OpenBrace ∷ sign.At ∷ sign.OpenParen ∷ sign.Colon ∷ [])
@@ -185,6 +237,9 @@ module _ (levels : ℕ) where
   before_set field F opens v ms rest (inl h) g = opens (tokens_of ms ++ rest) (brace_next v ms rest h)
   before_set field F opens v ms rest (inr (k, nil)) g = subst (λ w. F (tokens_of w ++ rest)) (sym nil) g
 
+  dots_next : (v : SelectionTree) (ms : Word) (rest : Tokens) → IsSpread v ms → NextIs sign.Spread (tokens_of ms ++ rest)
+  dots_next v ms rest (pos, x, y, e, dots, h) = joined (NextIs sign.Spread) ms x y rest e (sign_next sign.Spread Always pos x (tokens_of y ++ rest) dots tt)
+
   module _ (set : Reader SetTree) (sets : Reads set (IsSetTree levels) Always) where
     if_any_reads : (field : Pos) → Reads (set_or_none field set) (IsSetIfAny levels field) (Never (sign.OpenBrace ∷ []))
     if_any_reads field =
@@ -226,3 +281,59 @@ module _ (levels : ℕ) where
 
     field_reads : Reads (field_by set) IsField AfterSelection
     field_reads = seq head IsHeadOf (λ h. arguments Allowed then (λ args. directives Allowed then (λ ds. mapped (make_field h args ds) (set_or_none (head_pos h.0 h.1) set)))) BehindHead (Never (sign.Colon ∷ [])) AfterSelection head_reads behind_head before_head
+
+    -- Spreads and inline fragments.
+
+    spread_behind_reads : (pos : Pos) → Reads (spread_behind pos) (IsSpreadBehind pos) (Never (sign.At ∷ sign.OpenParen ∷ []))
+    spread_behind_reads pos =
+        seq take_fragment_name IsFragmentName (λ name. mapped (λ ds. Spread pos name ds) (directives Allowed)) (λ name. Map (λ ds. Spread pos name ds) (AreDirectives Allowed)) Always (Never (sign.At ∷ sign.OpenParen ∷ [])) fragment_name_reads
+        (λ name. mapped_reads (λ ds. Spread pos name ds) (directives Allowed) (AreDirectives Allowed) (Never (sign.At ∷ sign.OpenParen ∷ [])) (directives_reads Allowed)) (λ a v y rest q g. tt)
+
+    behind_condition : (pos : Pos) (c : Option NameTree) → Reads (directives Allowed then (λ ds. mapped (make_inline pos c ds) set)) (BehindCondition pos c) Always
+    behind_condition pos c =
+        seq (directives Allowed) (AreDirectives Allowed) (λ ds. mapped (make_inline pos c ds) set) (λ ds. Map (make_inline pos c ds) (IsSetTree levels)) (Never (sign.At ∷ sign.OpenParen ∷ [])) Always (directives_reads Allowed)
+        (λ ds. mapped_reads (make_inline pos c ds) set (IsSetTree levels) Always sets)
+        (λ ds v y rest (s, k, h) g. never_next (sign.At ∷ sign.OpenParen ∷ []) sign.OpenBrace (tokens_of y ++ rest) (refl, (refl, tt)) (brace_next s y rest h))
+
+    before_condition : (pos : Pos) (c : Option NameTree) → Before (BehindCondition pos c) Always NextIsSign
+    before_condition pos c =
+        before_seq (AreDirectives Allowed) (λ ds. Map (make_inline pos c ds) (IsSetTree levels)) Always NextIsSign NextIsSign
+        (before_directives Allowed NextIsSign (λ rest. next_sign sign.At rest))
+        (λ ds v ms rest (s, k, h) g. next_sign sign.OpenBrace (tokens_of ms ++ rest) (brace_next s ms rest h))
+
+    no_fragment_name : (pos : Pos) (c : Option NameTree) (v : SelectionTree) (x y : Word) (rest : Tokens) → Maybe IsCondition c x → BehindCondition pos c v y → begins is_fragment_name (tokens_of x ++ (tokens_of y ++ rest)) ≡ false
+    no_fragment_name pos None v x y rest nil h = subst (λ w. begins is_fragment_name (tokens_of w ++ (tokens_of y ++ rest)) ≡ false) (sym nil) (sign_no_fragment (tokens_of y ++ rest) (before_condition pos None v y rest h tt))
+    no_fragment_name pos (Some c) v x y rest on h = condition_no_fragment c x (tokens_of y ++ rest) on
+
+    inline_reads : (pos : Pos) → Reads (inline_behind pos set) (IsInlineBehind pos) Always
+    inline_reads pos =
+        seq (optional (is_word (codes "on")) condition) (Maybe IsCondition) (λ c. directives Allowed then (λ ds. mapped (make_inline pos c ds) set)) (BehindCondition pos) NextIsSign Always
+        (optional_reads (is_word (codes "on")) condition IsCondition Always NextIsSign condition_reads on_next (λ rest g. tt) (no_word (codes "on"))) (behind_condition pos) (before_condition pos)
+
+    behind_dots : (pos : Pos) → Reads (branch is_fragment_name (spread_behind pos) (inline_behind pos set)) (Either (IsSpreadBehind pos) (IsInlineBehind pos)) (Never (sign.At ∷ sign.OpenParen ∷ []))
+    behind_dots pos =
+        choice is_fragment_name (spread_behind pos) (inline_behind pos set) (IsSpreadBehind pos) (IsInlineBehind pos) (Never (sign.At ∷ sign.OpenParen ∷ [])) Always (Never (sign.At ∷ sign.OpenParen ∷ [])) (spread_behind_reads pos) (inline_reads pos)
+        (λ v ms rest (name, x, y, e, n, h). joined (λ ts. begins is_fragment_name ts ≡ true) ms x y rest e (fragment_name_next name x (tokens_of y ++ rest) n))
+        (λ v ms rest (c, x, y, e, k, h) g. joined (λ ts. begins is_fragment_name ts ≡ false) ms x y rest e (no_fragment_name pos c v x y rest k h)) (λ rest g. g) (λ rest g. tt)
+
+    spread_reads : Reads (spread_by set) IsSpread (Never (sign.At ∷ sign.OpenParen ∷ []))
+    spread_reads =
+        seq (take_sign sign.Spread) (SignAt sign.Spread) (λ pos. branch is_fragment_name (spread_behind pos) (inline_behind pos set)) (λ pos. Either (IsSpreadBehind pos) (IsInlineBehind pos)) Always (Never (sign.At ∷ sign.OpenParen ∷ [])) (sign_reads sign.Spread) behind_dots (λ a v y rest q g. tt)
+
+    pub selection_reads : Reads (selection_by set) (IsSelection levels) AfterSelection
+    selection_reads =
+        convert (selection_by set) (Either IsSpread IsField) (IsSelection levels) AfterSelection AfterSelection
+        (choice (is_sign sign.Spread) (spread_by set) (field_by set) IsSpread IsField (Never (sign.At ∷ sign.OpenParen ∷ [])) AfterSelection AfterSelection spread_reads field_reads
+        (λ v ms rest. dots_next v ms rest)
+        (λ v ms rest (h, x, y, e, hd, k) g. (never_name (sign.Spread ∷ []) (tokens_of ms ++ rest) (joined NextIsName ms x y rest e (head_next h x (tokens_of y ++ rest) hd))).0)
+        (λ rest g. (g.1.0, (g.1.1.0, tt))) (λ rest g. g))
+        selection_to selection_from (λ rest g. g)
+
+  -- The first token of a selection.
+
+  before_selection : (F : Tokens → Type 0) → ((rest : Tokens) → NextIs sign.Spread rest → F rest) → ((rest : Tokens) → NextIsName rest → F rest) → (v : SelectionTree) (ms : Word) (rest : Tokens) → IsSelection levels v ms → F (tokens_of ms ++ rest)
+  before_selection F dots name v ms rest h = first (selection_from v ms h)
+    where
+      first : Either IsSpread IsField v ms → F (tokens_of ms ++ rest)
+      first (inl spread) = dots (tokens_of ms ++ rest) (dots_next v ms rest spread)
+      first (inr (hd, x, y, e, h, k)) = name (tokens_of ms ++ rest) (joined NextIsName ms x y rest e (head_next hd x (tokens_of y ++ rest) h))
