@@ -337,3 +337,50 @@ module _ (levels : ℕ) where
       first : Either IsSpread IsField v ms → F (tokens_of ms ++ rest)
       first (inl spread) = dots (tokens_of ms ++ rest) (dots_next v ms rest spread)
       first (inr (hd, x, y, e, h, k)) = name (tokens_of ms ++ rest) (joined NextIsName ms x y rest e (head_next hd x (tokens_of y ++ rest) h))
+
+-- Sets.
+
+abbrev IsInBraces : (List SelectionTree → Language) → List SelectionTree → Language
+IsInBraces Selections selections ms = ((λ w. IsNonEmpty selections × Selections selections w) ▸ SomeOf (SignAt sign.CloseBrace)) ms
+
+module _ (levels : ℕ) where
+  -- what stands behind the brace of a set
+  abbrev SetRest : Pos → SetTree → Language
+  SetRest pos = Map (tree pos) (IsInBraces (Each (IsSelection (pred levels))))
+
+  set_to : (v : SetTree) (ms : Word) → Seq (OpensAt levels sign.OpenBrace) SetRest v ms → IsSetTree levels v ms
+  set_to v ms (pos, x, y, e, o, (ss, k, (a, b, h, (some, each), close))) =
+      subst (λ w. IsSetTree levels w ms) (sym k) (some, (x, y, e, o, (a, b, h, each, close)))
+
+  set_from : (v : SetTree) (ms : Word) → IsSetTree levels v ms → Seq (OpensAt levels sign.OpenBrace) SetRest v ms
+  set_from v ms (some, (x, y, e, o, (a, b, h, each, close))) = (v.pos, x, y, e, o, (v.selections, refl, (a, b, h, (some, each), close)))
+
+selections_reads : (n : ℕ) (selection : Reader SelectionTree) → Reads selection (IsSelection n) AfterSelection → Reads (ended (some (other_than sign.CloseBrace) selection) (take_sign sign.CloseBrace)) (IsInBraces (Each (IsSelection n))) Always
+selections_reads n selection reads =
+    ended_reads (some (other_than sign.CloseBrace) selection) (EachOfSome (other_than sign.CloseBrace) selection (IsSelection n)) (take_sign sign.CloseBrace) (SignAt sign.CloseBrace) (NextIs sign.CloseBrace) Always
+    (some_reads (other_than sign.CloseBrace) selection (IsSelection n) AfterSelection (NextIs sign.CloseBrace) reads
+    (before_selection n (λ ts. begins (other_than sign.CloseBrace) ts ≡ true) (λ rest. none_is sign.Spread sign.CloseBrace rest refl) (name_is_other sign.CloseBrace))
+    (before_selection n AfterSelection (λ rest. never_next (sign.OpenBrace ∷ sign.At ∷ sign.OpenParen ∷ sign.Colon ∷ []) sign.Spread rest (refl, (refl, (refl, (refl, tt))))) (never_name (sign.OpenBrace ∷ sign.At ∷ sign.OpenParen ∷ sign.Colon ∷ [])))
+    (λ rest. never_next (sign.OpenBrace ∷ sign.At ∷ sign.OpenParen ∷ sign.Colon ∷ []) sign.CloseBrace rest (refl, (refl, (refl, (refl, tt))))) (other_is sign.CloseBrace))
+    (sign_reads sign.CloseBrace) (sign_next sign.CloseBrace Always)
+
+some_set : (pos : Pos) → SomeWord (SetRest 0 pos)
+some_set pos =
+    let dots : Word = plain (record { lexeme = lexeme.Punctuator sign.Spread; pos = start }) ∷ [] in
+    let name : Word = plain (record { lexeme = lexeme.Name []; pos = start }) ∷ [] in
+    let close : Word = plain (record { lexeme = lexeme.Punctuator sign.CloseBrace; pos = start }) ∷ [] in
+    let spread : SelectionTree = Spread start (record { text = []; pos = start }) [] in
+    let other : [] ≢ codes "on" = λ e. cc e in
+    let written : IsSelection 0 spread (dots ++ name) = (dots, name, refl, refl, (name, [], refl, (other, refl), refl)) in
+    (tree pos (spread ∷ []), (dots ++ name) ++ close, (spread ∷ [], refl, (dots ++ name, close, refl, (tt, (dots ++ name, [], refl, written, refl)), (start, refl))))
+
+pub set_reads : (levels : ℕ) → Reads (set_at levels) (IsSetTree levels) Always
+unfolding set_at
+set_reads zero =
+    convert (too_deep (is_sign sign.OpenBrace)) (Seq (OpensAt 0 sign.OpenBrace) (SetRest 0)) (IsSetTree 0) Always Always (deep_reads sign.OpenBrace (SetRest 0) some_set) (set_to 0) (set_from 0) (λ rest g. g)
+set_reads (suc n) =
+    convert (set_by (selection_by (set_at n))) (Seq (OpensAt (suc n) sign.OpenBrace) (SetRest (suc n))) (IsSetTree (suc n)) Always Always
+    (seq (take_sign sign.OpenBrace) (SignAt sign.OpenBrace) (λ pos. mapped (tree pos) (ended (some (other_than sign.CloseBrace) (selection_by (set_at n))) (take_sign sign.CloseBrace))) (SetRest (suc n)) Always Always (sign_reads sign.OpenBrace)
+    (λ pos. mapped_reads (tree pos) (ended (some (other_than sign.CloseBrace) (selection_by (set_at n))) (take_sign sign.CloseBrace)) (IsInBraces (Each (IsSelection n))) Always (selections_reads n (selection_by (set_at n)) (selection_reads n (set_at n) (set_reads n))))
+    (λ a v y rest q g. tt))
+    (set_to (suc n)) (set_from (suc n)) (λ rest g. g)
