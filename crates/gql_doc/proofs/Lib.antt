@@ -1,5 +1,6 @@
 pub mod Arguments
 pub mod Deep
+pub mod Definitions
 pub mod Follows
 pub mod Readers
 pub mod Selections

@@ -3,11 +3,9 @@ use Rattle.std.proofs.Common.{◌≡◌, ℕ, zero, suc, ◌+◌, ◌≤◌, ◌
 use Rattle.std.proofs.lemmas.List.{append_cancel_right}
 use Rattle.gql_base.specs.declared.pos.Pos.{Pos}
 use Rattle.gql_tokens.specs.declared.token.Token.{Token}
-use Rattle.gql_tokens.specs.declared.token.Lexeme.{Lexeme}
-use Rattle.gql_tokens.specs.declared.token.Lexeme.TheVariants as lexeme
 use Rattle.gql_doc.specs.declared.trouble.Trouble.{Trouble}
 use Rattle.gql_doc.specs.declared.trouble.Trouble.TheVariants.{Unexpected, TooDeep}
-use Rattle.gql_doc.specs.Words.{Tokens, Marked, Word, Language, tokens_of, NoneDeep, FirstAt, plain, ◌▸◌, Each, Maybe, Nothing}
+use Rattle.gql_doc.specs.Words.{Tokens, Marked, IsFinal, Word, Language, tokens_of, NoneDeep, FirstAt, plain, ◌▸◌, Each, Maybe, Nothing}
 use Rattle.gql_doc.specs.Grammar.{IsNonEmpty}
 use Rattle.gql_doc.specs.Readers.{Reading, Reader, go_on, ◌then◌, gives, mapped, past, ended, begins, picked, take_one, choose, branch, many_at, many, some, optional, place_of, placed, too_deep}
 
@@ -39,13 +37,6 @@ Complete {A} f D F = (v : A) (ms : Word) (rest : Tokens) → D v ms → F rest �
 -- what stands behind the token of sight doesn't count
 abbrev pub Local : {A : Type 0} → Reader A → Type 0
 Local {A} f = (x : Tokens) (t : Token) (r s d : Tokens) (o : Result A Trouble) → f (x ++ t ∷ r) ≡ (o, d ++ t ∷ r) → f (x ++ t ∷ s) ≡ (o, d ++ t ∷ s)
-
--- the tokens that end a text
-abbrev pub IsFinal : Lexeme → Type 0
-IsFinal lexeme.End = Unit {0}
-IsFinal lexeme.Unexpected = Unit {0}
-IsFinal lexeme.Unsupported = Unit {0}
-IsFinal _ = ⊥
 
 abbrev pub EndsBehind : Token → Tokens → Type 0
 EndsBehind t [] = IsFinal t.lexeme
@@ -483,7 +474,7 @@ module _ {A : Type 0} (pick : Token → Option A) where
   taken_sound t a e u tokens (Some v) k = (plain u ∷ [], refl, (refl, tt), (u, k, refl))
   taken_sound t a e u tokens None k = ([], refl, tt, a, plain t ∷ [], (t, e, refl))
 
-  one_sound : (t : Token) (a : A) → pick t ≡ Some a → Sound (take_one pick) (Taken pick)
+  pub one_sound : (t : Token) (a : A) → pick t ≡ Some a → Sound (take_one pick) (Taken pick)
   one_sound t a e [] = ([], refl, tt, a, plain t ∷ [], (t, e, refl))
   one_sound t a e (u ∷ tokens) = taken_sound t a e u tokens (pick u) refl
 
@@ -502,7 +493,7 @@ module _ {A : Type 0} (pick : Token → Option A) where
       let k : [] ≡ d = append_cancel_right [] d (t ∷ r) (ap (λ reading. reading.1) e) in
       λ i. ((e i).0, k i ++ t ∷ s)
 
-  one_local : Local (take_one pick)
+  pub one_local : Local (take_one pick)
   one_local [] t r s d o e = here_local t r s d o (pick t) e
   one_local (u ∷ x) t r s d o e = taken_local u x t r s d o (pick u) e
 

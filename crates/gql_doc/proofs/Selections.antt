@@ -130,15 +130,15 @@ make_field h arguments directives set = Field h.0 h.1 arguments directives set.p
 abbrev make_inline : Pos → Option NameTree → List DirectiveTree → SetTree → SelectionTree
 make_inline pos condition directives set = Inline pos condition directives set.pos set.selections
 
-abbrev says_some_sign : Lexeme → Bool
+abbrev pub says_some_sign : Lexeme → Bool
 says_some_sign (lexeme.Punctuator sign) = true
 says_some_sign _ = false
 
 -- the next token is a sign
-abbrev NextIsSign : Tokens → Type 0
+abbrev pub NextIsSign : Tokens → Type 0
 NextIsSign rest = begins (λ token. says_some_sign token.lexeme) rest ≡ true
 
-next_sign : (sign : Punctuator) (rest : Tokens) → NextIs sign rest → NextIsSign rest
+pub next_sign : (sign : Punctuator) (rest : Tokens) → NextIs sign rest → NextIsSign rest
 next_sign sign [] next = absurd (cc next)
 next_sign sign (t ∷ rest) next = ap says_some_sign (sign_is sign t.lexeme next)
 
@@ -151,7 +151,7 @@ sign_no_word word lexeme.End e = absurd (cc e)
 sign_no_word word lexeme.Unexpected e = absurd (cc e)
 sign_no_word word lexeme.Unsupported e = absurd (cc e)
 
-sign_no_name : (l : Lexeme) → says_some_sign l ≡ true → says_name l ≡ false
+pub sign_no_name : (l : Lexeme) → says_some_sign l ≡ true → says_name l ≡ false
 sign_no_name (lexeme.Punctuator sign) e = refl
 sign_no_name (lexeme.Name text) e = absurd (cc e)
 sign_no_name (lexeme.Number number) e = absurd (cc e)
@@ -229,7 +229,7 @@ module _ (levels : ℕ) where
 
   -- Fields.
 
-  brace_next : (v : SetTree) (ms : Word) (rest : Tokens) → IsSetTree levels v ms → NextIs sign.OpenBrace (tokens_of ms ++ rest)
+  pub brace_next : (v : SetTree) (ms : Word) (rest : Tokens) → IsSetTree levels v ms → NextIs sign.OpenBrace (tokens_of ms ++ rest)
   brace_next v ms rest (_, (x, y, e, o, h)) = joined (NextIs sign.OpenBrace) ms x y rest e (opens_next levels sign.OpenBrace v.pos x (tokens_of y ++ rest) o)
 
   -- a set, or what follows

@@ -12,6 +12,23 @@ infixr 6 ◌▸◌
 abbrev pub Tokens : Type 0
 Tokens = List Token
 
+-- the lexemes that end a list of tokens
+abbrev pub IsFinal : Lexeme → Type 0
+IsFinal lexeme.End = Unit {0}
+IsFinal lexeme.Unexpected = Unit {0}
+IsFinal lexeme.Unsupported = Unit {0}
+IsFinal _ = ⊥
+
+-- from this token on, the last is a final one, and no other is
+abbrev pub AreTokensFrom : Token → Tokens → Type 0
+AreTokensFrom token [] = IsFinal token.lexeme
+AreTokensFrom token (next ∷ tokens) = (¬ IsFinal token.lexeme) × AreTokensFrom next tokens
+
+-- the last token is a final one, and no other is
+abbrev pub AreTokens : Tokens → Type 0
+AreTokens [] = ⊥
+AreTokens (token ∷ tokens) = AreTokensFrom token tokens
+
 -- a token, and whether it opens what is nested too deep
 pub record Marked : Type 0 where
   pub token : Token
