@@ -125,9 +125,9 @@ IsRead = Either (Map make_shorthand IsSet) (Either IsFragmentRead IsOperationRea
 definition_to : (v : DefinitionTree) (ms : Word) → IsRead v ms → IsDefinition v ms
 definition_to v ms (inl (s, k, h)) =
     subst (λ w. IsDefinition w ms) (sym k) (inl (record { query = refl; anonymous = refl; no_variables = refl; no_directives = refl; place = refl; set = h }))
-definition_to v ms (inr (inl (pos, a, b, e, word, (name, c, d, f, n, (cond', g, h, i, on, (ds, j, k, l, dirs, (set, is, body))))))) =
+definition_to v ms (inr (inl (pos, a, b, e, word, (name, c, d, f, n, (cond', g, h, i, on, (ds, j, k, l, dirs, (s, is, body))))))) =
     subst (λ w. IsDefinition w ms) (sym is) (a, b, e, word, (c, d, f, n, (g, h, i, on, (j, k, l, dirs, body))))
-definition_to v ms (inr (inr (kind, a, b, e, word, (name, c, d, f, n, (vs, g, h, i, vars, (ds, j, k, l, dirs, (set, is, body))))))) =
+definition_to v ms (inr (inr (kind, a, b, e, word, (name, c, d, f, n, (vs, g, h, i, vars, (ds, j, k, l, dirs, (s, is, body))))))) =
     subst (λ w. IsDefinition w ms) (sym is) (inr (a, b, e, word, (c, d, f, n, (g, h, i, vars, (j, k, l, dirs, body)))))
 
 definition_from : (v : DefinitionTree) (ms : Word) → IsDefinition v ms → IsRead v ms

@@ -4,6 +4,7 @@ pub mod Definitions
 pub mod Follows
 pub mod Readers
 pub mod Selections
+pub mod Texts
 pub mod Tokens
 pub mod Types
 pub mod Values
