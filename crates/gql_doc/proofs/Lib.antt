@@ -1,4 +1,5 @@
 pub mod Arguments
+pub mod Classify
 pub mod Deep
 pub mod Definitions
 pub mod Follows

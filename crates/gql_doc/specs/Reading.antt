@@ -1,5 +1,5 @@
 -- One reader for each part of the grammar.
-use Rattle.std.specs.Prelude.{ℕ, zero, suc, Bool, true, false, not, ◌&&◌, nat_eq, List, [], ◌∷◌, Option, Some, None, codes, if◌then◌else◌}
+use Rattle.std.specs.Prelude.{ℕ, zero, suc, Bool, true, false, not, ◌&&◌, nat_eq, List, [], ◌∷◌, Option, Some, None, Result, Ok, Err, codes, if◌then◌else◌}
 use Rattle.std.specs.Cmp.Lexicographic.{pointwise}
 use denote.Enum.Bare.{sameb}
 use Rattle.gql_base.specs.declared.pos.Pos.{Pos}
@@ -29,9 +29,16 @@ use Rattle.gql_doc.specs.declared.tree.OperationTree.{OperationTree}
 use Rattle.gql_doc.specs.declared.tree.FragmentTree.{FragmentTree}
 use Rattle.gql_doc.specs.declared.tree.DefinitionTree.{DefinitionTree}
 use Rattle.gql_doc.specs.declared.tree.DefinitionTree.TheVariants.{Operation, Fragment}
+use Rattle.gql_doc.specs.declared.trouble.Trouble.{Trouble}
+use Rattle.gql_doc.specs.declared.trouble.Trouble.TheVariants.{Unexpected, TooDeep}
+use Rattle.gql_doc.specs.declared.fault.ParseKind.{ParseKind}
+use Rattle.gql_doc.specs.declared.fault.ParseKind.TheVariants.{Nesting}
+use Rattle.gql_doc.specs.declared.fault.ParseKind.TheVariants as kind
+use Rattle.gql_doc.specs.declared.fault.ParseFault.{ParseFault}
 use Rattle.gql_doc.specs.Words.{Tokens}
+use Rattle.gql_doc.specs.Spelling.{kind_of}
 use Rattle.gql_doc.specs.Grammar.{max_levels, head_pos}
-use Rattle.gql_doc.specs.Readers.{Reader, ◌then◌, gives, mapped, past, ended, take_one, branch, many, some, optional, placed, too_deep}
+use Rattle.gql_doc.specs.Readers.{Reader, ◌then◌, gives, mapped, past, ended, take_one, branch, many, some, optional, place_of, placed, too_deep}
 
 -- Tests of a token.
 
@@ -314,3 +321,20 @@ document = ended (some before_end definition) take_end
 
 unfoldable pub type_text : Reader TypeTree
 type_text = ended (type_at max_levels) take_end
+
+-- Faults.
+
+-- the kind of trouble at the next token
+abbrev pub kind_at : Trouble → Tokens → ParseKind
+kind_at TooDeep rest = Nesting
+kind_at Unexpected [] = kind.Token
+kind_at Unexpected (token ∷ rest) = kind_of token.lexeme
+
+-- the value, or the fault at the place where the reading stopped
+abbrev pub parsed : {A : Type 0} → Result A Trouble → Tokens → Result A ParseFault
+parsed (Ok value) rest = Ok value
+parsed (Err trouble) rest = Err (record { kind = kind_at trouble rest; pos = place_of rest })
+
+-- what the tokens of a text are read as
+abbrev pub parsed_by : {A : Type 0} → Reader A → Tokens → Result A ParseFault
+parsed_by f tokens = parsed (f tokens).0 (f tokens).1

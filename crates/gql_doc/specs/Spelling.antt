@@ -1,6 +1,6 @@
 -- Which tokens spell a tree, and which fault is the first one of tokens that spell none. `D` is the grammar's part that
 -- is read, as whole documents: which words each tree is written as.
-use Rattle.std.specs.Prelude.{◌≡◌, true, List, [], ◌∷◌, ◌++◌}
+use Rattle.std.specs.Prelude.{◌≡◌, true, List, [], ◌∷◌, ◌++◌, Result, Ok, Err}
 use Rattle.gql_tokens.specs.declared.token.Token.{Token}
 use Rattle.gql_tokens.specs.declared.token.Lexeme.{Lexeme}
 use Rattle.gql_tokens.specs.declared.token.Lexeme.TheVariants as lexeme
@@ -8,6 +8,13 @@ use Rattle.gql_doc.specs.declared.fault.ParseKind.{ParseKind}
 use Rattle.gql_doc.specs.declared.fault.ParseKind.TheVariants as kind
 use Rattle.gql_doc.specs.declared.fault.ParseFault.{ParseFault}
 use Rattle.gql_doc.specs.Words.{Tokens, Word, Language, tokens_of, NoneDeep}
+
+-- which kind of fault an unexpected token is: no token begins where the last one would, a number is not supported, or
+-- it is a token in the wrong place
+abbrev pub kind_of : Lexeme → ParseKind
+kind_of lexeme.Unexpected = kind.Character
+kind_of lexeme.Unsupported = kind.Number
+kind_of _ = kind.Token
 
 module _ {A : Type 0} (D : A → Language) where
   -- the tokens spell the tree, within the limits of nesting
@@ -34,13 +41,6 @@ module _ {A : Type 0} (D : A → Language) where
     pub same : tokens_of before ≡ front
     pub within : NoneDeep before
 
-  -- which kind of fault an unexpected token is: no token begins where the last one would, a number is not supported, or
-  -- it is a token in the wrong place
-  abbrev pub kind_of : Lexeme → ParseKind
-  kind_of lexeme.Unexpected = kind.Character
-  kind_of lexeme.Unsupported = kind.Number
-  kind_of _ = kind.Token
-
   -- what is wrong with a token behind these
   abbrev pub IsWrong : Tokens → Token → ParseKind → Type 0
   IsWrong front token kind.Nesting = OpensTooDeep front token
@@ -58,3 +58,8 @@ module _ {A : Type 0} (D : A → Language) where
     pub wrong : IsWrong front token fault.kind
     pub begun : Begins front
     pub shallow : (x : Tokens) (t : Token) (y : Tokens) → front ≡ x ++ t ∷ y → ¬ OpensTooDeep x t
+
+  -- these tokens give a tree, or the first fault
+  abbrev pub Settles : Tokens → Result A ParseFault → Type 0
+  Settles tokens (Ok tree) = Spells tokens tree
+  Settles tokens (Err fault) = IsFault tokens fault
