@@ -44,3 +44,13 @@ impl<T: Drop> Boxed<T> {
         Ok(Boxed { held })
     }
 }
+
+impl<T: PartialEq> PartialEq for Boxed<T> {
+    ghost eq = { T.eq };
+
+    ghost laws = { T.laws };
+
+    fn eq(&self, other: &Boxed<T>) -> bool {
+        self.get() == other.get()
+    }
+}

@@ -1,4 +1,4 @@
-ghost use Rattle.std.specs.Prelude.{◌≡◌, ◌↔◌, IsTrue, IfOk};
+ghost use Rattle.std.specs.Prelude.{◌≡◌, ◌↔◌, IsTrue, IfOk, string_bytes};
 
 use crate::made::Made;
 use std::alloc::Global;
@@ -36,6 +36,14 @@ impl Name {
         ensures { result.now ≡ self.now }
     {
         self.inner.as_str()
+    }
+
+    /// The name as a string, moved.
+    pub fn into_string(self) -> String
+        ensures { string_bytes result ≡ self }
+    {
+        let Name { inner } = self;
+        inner
     }
 }
 

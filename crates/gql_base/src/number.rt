@@ -2,6 +2,7 @@ ghost use Rattle.std.specs.Prelude.{◌≡◌, pos, FitsSigned, SomeIff};
 ghost use Rattle.std.specs.Int.{w64};
 ghost use Rattle.gql_base.specs.Number.{unsigned_of};
 
+use std::fmt;
 use std::marker::Model;
 
 /// A whole number from -2^63 to 2^64-1. Contracts see it as that number.
@@ -56,5 +57,17 @@ impl Number {
         ensures { result ≡ unsigned_of self.now }
     {
         u64::try_from(self.value).ok()
+    }
+}
+
+impl fmt::Display for Number {
+    ghost use Rattle.std.specs.Prelude.{Some};
+    ghost use Rattle.std.specs.Fmt.{signed_decimal};
+
+    ghost output = { λ number. Some (signed_decimal number) };
+
+    fn fmt<W: fmt::Write>(&self, f: &mut fmt::Formatter<W>) -> fmt::Result {
+        let value = self.value;
+        write!(f, "{value}")
     }
 }

@@ -1,0 +1,9 @@
+pub mod Block
+pub mod Characters
+pub mod Gap
+pub mod Lexer
+pub mod Name
+pub mod Number
+pub mod Place
+pub mod String
+pub mod Token

@@ -1,0 +1,4 @@
+pub mod PairLemmas
+pub mod SeparatedLemmas
+pub mod JsonLemmas
+pub mod ReadJsonLemmas

@@ -1,0 +1,102 @@
+ghost use Rattle.std.specs.Prelude.{◌≡◌, IfOk, map, take};
+ghost use Rattle.gql_base.specs.Pairs.{names_of};
+
+use crate::items::Items;
+use crate::made::Made;
+use crate::name::Name;
+use crate::pairs::Pairs;
+use crate::text::Text;
+use crate::value::Value;
+use std::alloc::Global;
+
+/// What can be copied, where a copy may want memory.
+pub trait Copied: Sized {
+    /// A copy, which equals its source.
+    fn try_clone(&self, alloc: Global) -> Made<Self>
+        ensures { IfOk result (λ copy. copy ≡ self.now) };
+}
+
+impl Copied for i64 {
+    fn try_clone(&self, _alloc: Global) -> Made<i64> {
+        Ok(*self)
+    }
+}
+
+impl Copied for Text {
+    fn try_clone(&self, alloc: Global) -> Made<Text> {
+        Text::new(alloc, self.as_str())
+    }
+}
+
+impl Copied for Name {
+    fn try_clone(&self, alloc: Global) -> Made<Name> {
+        Name::new(alloc, self.as_str())
+    }
+}
+
+impl<T: Copied + Drop> Copied for Items<T> {
+    fn try_clone(&self, alloc: Global) -> Made<Items<T>> {
+        let mut copies = Items::new(alloc);
+        for item in self.as_slice() {
+            copies.push(item.try_clone(alloc)?)?;
+        }
+        Ok(copies)
+    }
+}
+
+impl<T: Copied + Drop> Copied for Pairs<T> {
+    #[tactic(auto, using(crate::proofs::PairLemmas::put_more))]
+    fn try_clone(&self, alloc: Global) -> Made<Pairs<T>> {
+        let mut copies = Pairs::new(alloc);
+        for place in 0..self.len() {
+            let (name, value) = self.at(place);
+            copies.add(Name::new(alloc, name)?, value.try_clone(alloc)?)?;
+        }
+        Ok(copies)
+    }
+}
+
+impl Copied for Value {
+    fn try_clone(&self, alloc: Global) -> Made<Value> {
+        copy_value(alloc, self)
+    }
+}
+
+#[cycle(copy)]
+fn copy_value(alloc: Global, value: &Value) -> Made<Value>
+    ensures { IfOk result (λ copy. copy ≡ value.now) }
+{
+    match value {
+        Value::Null => Ok(Value::Null),
+        Value::Boolean(truth) => Ok(Value::Boolean(*truth)),
+        Value::Number(number) => Ok(Value::Number(*number)),
+        Value::String(text) => Ok(Value::String(text.try_clone(alloc)?)),
+        Value::Enum(name) => Ok(Value::Enum(name.try_clone(alloc)?)),
+        Value::List(items) => Ok(Value::List(copy_items(alloc, items.as_slice())?)),
+        Value::Object(members) => Ok(Value::Object(copy_members(alloc, members)?)),
+    }
+}
+
+#[cycle(copy)]
+fn copy_items(alloc: Global, items: &[Value]) -> Made<Items<Value>>
+    ensures { IfOk result (λ copies. copies ≡ items.now) }
+{
+    let mut copies = Items::new(alloc);
+    for item in items {
+        copies.push(copy_value(alloc, item)?)?;
+    }
+    Ok(copies)
+}
+
+#[cycle(copy)]
+#[tactic(auto, using(crate::proofs::PairLemmas::put_more))]
+fn copy_members(alloc: Global, members: &Pairs<Value>) -> Made<Pairs<Value>>
+    ensures { IfOk result (λ copies. copies ≡ members.now) }
+{
+    let mut copies = Pairs::new(alloc);
+    for place in 0..members.len() {
+        let (name, value) = members.at(place);
+        copies.add(Name::new(alloc, name)?, copy_value(alloc, value)?)?;
+    }
+    Ok(copies)
+}

@@ -1,0 +1,4 @@
+pub mod Field
+pub mod Object
+pub mod Table
+pub mod Types

@@ -1,0 +1,65 @@
+-- Lists that are cut in two ways, and the runs that they begin with.
+use Rattle.std.proofs.Common.{◌≡◌, ℕ, Bool, true, false, ◌⊎◌, List, [], ◌∷◌, ◌++◌, refl, sym, ap, ◌∙◌, inl, inr, arith, subst, ◌+◌, ◌<◌, length, take, drop, get_or}
+use Rattle.std.proofs.lemmas.List.{drop_more, take_more}
+use Rattle.std.specs.List.{AllByRecursion}
+use Rattle.gql_tokens.specs.Characters.{begins}
+
+pub head_is : {A : Type 0} {c d : A} {cs ds : List A} → c ∷ cs ≡ d ∷ ds → c ≡ d
+head_is e = cc
+
+pub tail_is : {A : Type 0} {c d : A} {cs ds : List A} → c ∷ cs ≡ d ∷ ds → cs ≡ ds
+tail_is e = cc
+
+-- two lists with one head and one tail, beside what follows
+pub with_head : {A : Type 0} {c d : A} {a b x y : List A} → c ≡ d → (a ≡ b) × (x ≡ y) → (c ∷ a ≡ d ∷ b) × (x ≡ y)
+with_head h (same, rest) = ((cc), rest)
+
+-- of two fronts of a list one is a front of the other
+pub fronts : {A : Type 0} (a b x y : List A) → a ++ x ≡ b ++ y
+    → ((m : List A) × (b ≡ a ++ m) × (x ≡ m ++ y)) ⊎ ((c : A) × (m : List A) × (a ≡ b ++ c ∷ m) × (y ≡ c ∷ m ++ x))
+fronts [] b x y e = inl (b, refl, e)
+fronts (c ∷ a) [] x y e = inr (c, a, refl, sym e)
+fronts (c ∷ a) (d ∷ b) x y e =
+    elim (fronts a b x y (tail_is e)) [
+      inl w ↦ inl (w.0, (let h = head_is e in let t = w.1 in cc), w.2)
+      | inr w ↦ inr (w.0, w.1, (let h = head_is e in let t = w.2 in cc), w.3)
+    ]
+
+-- what doesn't begin so begins with another character
+pub begins_not : (test : ℕ → Bool) (text : List ℕ) (c : ℕ) (cs : List ℕ) → begins test text ≡ false → text ≡ c ∷ cs → test c ≡ false
+begins_not test text c cs h e = sym (ap (begins test) e) ∙ h
+
+-- a run of characters that pass, as long as can be, is one
+pub run_unique : (test : ℕ → Bool) (a b x y : List ℕ) → AllByRecursion (λ c. test c ≡ true) a → AllByRecursion (λ c. test c ≡ true) b
+    → begins test x ≡ false → begins test y ≡ false → a ++ x ≡ b ++ y → (a ≡ b) × (x ≡ y)
+run_unique test [] [] x y p q r s e = (refl, e)
+run_unique test [] (d ∷ b) x y p q r s e = let h = begins_not test x d (b ++ y) r e in let t = q.0 in cc
+run_unique test (c ∷ a) [] x y p q r s e = let h = begins_not test y c (a ++ x) s (sym e) in let t = p.0 in cc
+run_unique test (c ∷ a) (d ∷ b) x y p q r s e =
+    let (same, rest) = run_unique test a b x y p.1 q.1 r s (tail_is e) in
+    ((let h = head_is e in cc), rest)
+
+-- what each character of a list passes
+abbrev Each : (ℕ → Bool) → List ℕ → Type 0
+Each test cs = AllByRecursion (λ c. test c ≡ true) cs
+
+pub each_weaker : (p q : ℕ → Bool) (cs : List ℕ) → ((c : ℕ) → p c ≡ true → q c ≡ true) → Each p cs → Each q cs
+each_weaker p q [] f h = tt
+each_weaker p q (c ∷ cs) f h = (f c h.0, each_weaker p q cs f h.1)
+
+pub each_back : (p : ℕ → Bool) (a b : List ℕ) → Each p (a ++ b) → Each p b
+each_back p [] b h = h
+each_back p (c ∷ a) b h = each_back p a b h.1
+
+pub each_same : (p : ℕ → Bool) {a b : List ℕ} → a ≡ b → Each p a → Each p b
+each_same p e h = subst (Each p) e h
+
+-- what a list begins with behind its first elements
+pub drop_at_item : (text : List ℕ) (i c : ℕ) → i < length text → c ≡ get_or text i c → drop i text ≡ c ∷ drop (i + 1) text
+drop_at_item text i c h e = drop_more text i c h ∙ ap (λ d. d ∷ drop (i + 1) text) (sym e)
+
+pub take_at_item : (text : List ℕ) (i c : ℕ) → i < length text → c ≡ get_or text i c → take (i + 1) text ≡ take i text ++ c ∷ []
+take_at_item text i c h e = take_more text i c h ∙ ap (λ d. take i text ++ d ∷ []) (sym e)
+
+pub begins_at : (test : ℕ → Bool) (text : List ℕ) (i c : ℕ) → i < length text → c ≡ get_or text i c → begins test (drop i text) ≡ test c
+begins_at test text i c h e = ap (begins test) (drop_at_item text i c h e)

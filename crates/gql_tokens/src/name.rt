@@ -1,0 +1,12 @@
+ghost use Rattle.std.specs.Prelude.{◌≡◌};
+ghost use Rattle.std.specs.List.{prefix_len};
+ghost use Rattle.gql_tokens.specs.Characters.{is_name_part};
+
+use crate::characters::is_name_part;
+
+/// How many characters at the text's front may be part of a name.
+pub fn name_length(text: &[char]) -> usize
+    ensures { result ≡ prefix_len is_name_part text.now }
+{
+    text.iter().take_while(|c| is_name_part(**c)).count()
+}
