@@ -3,6 +3,7 @@ use Rattle.std.proofs.Common.{◌≡◌, ℕ, ◌+◌, ◌≤◌, ◌<◌, Bool,
 use mathlib.Core.List.{tail-eq_of_cons-eq}
 use Rattle.gql_base.specs.declared.pos.Pos.{Pos}
 use Rattle.gql_tokens.specs.declared.token.Token.{Token}
+use Rattle.gql_tokens.specs.Token.{is_final}
 use Rattle.gql_tokens.specs.declared.token.Lexeme.{Lexeme}
 use Rattle.gql_tokens.specs.declared.token.Lexeme.TheVariants as lexeme
 use Rattle.gql_doc.specs.declared.trouble.Trouble.{Trouble}
@@ -10,7 +11,7 @@ use Rattle.gql_doc.specs.declared.trouble.Trouble.TheVariants.{Unexpected, TooDe
 use Rattle.gql_doc.specs.declared.fault.ParseKind.{ParseKind}
 use Rattle.gql_doc.specs.declared.fault.ParseKind.TheVariants as kind
 use Rattle.gql_doc.specs.declared.fault.ParseFault.{ParseFault}
-use Rattle.gql_doc.specs.Words.{Tokens, AreTokens, AreTokensFrom, IsFinal, Word, Language, tokens_of, NoneDeep, plain}
+use Rattle.gql_doc.specs.Words.{Tokens, AreTokens, AreTokensFrom, Word, Language, tokens_of, NoneDeep, plain}
 use Rattle.gql_doc.specs.Spelling.{Spells, Begins, OpensTooDeep, kind_of, IsWrong, IsFault, Settles}
 use Rattle.gql_doc.specs.Readers.{Reading, Reader, place_of}
 use Rattle.gql_doc.specs.Reading.{kind_at, parsed, parsed_by}
@@ -28,9 +29,9 @@ are_end [] none = absurd none
 are_end (t ∷ ts) more = ends_behind t ts more
 
 -- nothing stands behind a final token
-pub final_last : (front : Tokens) (t : Token) (rest : Tokens) → AreTokens (front ++ t ∷ rest) → IsFinal t.lexeme → rest ≡ []
+pub final_last : (front : Tokens) (t : Token) (rest : Tokens) → AreTokens (front ++ t ∷ rest) → is_final t.lexeme ≡ true → rest ≡ []
 final_last [] t [] are final = refl
-final_last [] t (u ∷ us) (other, more) final = absurd (other final)
+final_last [] t (u ∷ us) (other, more) final = absurd (cc (other, final))
 final_last (s ∷ []) t rest (other, more) final = final_last [] t rest more final
 final_last (s ∷ u ∷ front) t rest (other, more) final = final_last (u ∷ front) t rest more final
 
@@ -134,7 +135,7 @@ module _ {A : Type 0} (f : Reader A) (D : A → Language) (reads : ReadsText f D
       let last = reads.ends v c d in
       let end : Token = record { lexeme = lexeme.End; pos = last.1 } in
       let whole : tokens ≡ tokens_of last.0 ++ end ∷ rest = same ∙ ap (λ w. tokens_of w ++ rest) last.2 ∙ ap (λ ts. ts ++ rest) (tokens_of-append last.0 (plain end ∷ [])) ∙ append_assoc (tokens_of last.0) (end ∷ []) rest in
-      let none : rest ≡ [] = final_last (tokens_of last.0) end rest (subst AreTokens whole are) tt in
+      let none : rest ≡ [] = final_last (tokens_of last.0) end rest (subst AreTokens whole are) refl in
       record { word = c; derived = d; same = sym (same ∙ ap (λ ts. tokens_of c ++ ts) none ∙ append-nil (tokens_of c)); within = n }
 
   settled_at : (tokens : Tokens) → AreTokens tokens → (o : Result A Trouble) (rest : Tokens) → f tokens ≡ (o, rest) → Settles D tokens (parsed o rest)

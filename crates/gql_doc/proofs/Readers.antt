@@ -3,9 +3,10 @@ use Rattle.std.proofs.Common.{◌≡◌, ℕ, zero, suc, ◌+◌, ◌≤◌, ◌
 use Rattle.std.proofs.lemmas.List.{append_cancel_right}
 use Rattle.gql_base.specs.declared.pos.Pos.{Pos}
 use Rattle.gql_tokens.specs.declared.token.Token.{Token}
+use Rattle.gql_tokens.specs.Token.{is_final}
 use Rattle.gql_doc.specs.declared.trouble.Trouble.{Trouble}
 use Rattle.gql_doc.specs.declared.trouble.Trouble.TheVariants.{Unexpected, TooDeep}
-use Rattle.gql_doc.specs.Words.{Tokens, Marked, IsFinal, Word, Language, tokens_of, NoneDeep, FirstAt, plain, ◌▸◌, Each, Maybe, Nothing}
+use Rattle.gql_doc.specs.Words.{Tokens, Marked, Word, Language, tokens_of, NoneDeep, FirstAt, plain, ◌▸◌, Each, Maybe, Nothing}
 use Rattle.gql_doc.specs.Grammar.{IsNonEmpty}
 use Rattle.gql_doc.specs.Readers.{Reading, Reader, go_on, ◌then◌, gives, mapped, past, ended, begins, picked, take_one, choose, branch, many_at, many, some, optional, place_of, placed, too_deep}
 
@@ -39,7 +40,7 @@ abbrev pub Local : {A : Type 0} → Reader A → Type 0
 Local {A} f = (x : Tokens) (t : Token) (r s d : Tokens) (o : Result A Trouble) → f (x ++ t ∷ r) ≡ (o, d ++ t ∷ r) → f (x ++ t ∷ s) ≡ (o, d ++ t ∷ s)
 
 abbrev pub EndsBehind : Token → Tokens → Type 0
-EndsBehind t [] = IsFinal t.lexeme
+EndsBehind t [] = is_final t.lexeme ≡ true
 EndsBehind t (u ∷ us) = EndsBehind u us
 
 -- the last token is a final one
@@ -501,13 +502,13 @@ module _ {A : Type 0} (pick : Token → Option A) where
   taken_live t u tokens (Some a) ends = ends
   taken_live t u tokens None ends = ends
 
-  one_live : ((t : Token) → IsFinal t.lexeme → pick t ≡ None) → Live (take_one pick)
+  one_live : ((t : Token) → is_final t.lexeme ≡ true → pick t ≡ None) → Live (take_one pick)
   one_live final [] ends = absurd ends
   one_live final (t ∷ []) ends = subst (λ p. Ends (picked p t []).1) (sym (final t ends)) ends
   one_live final (t ∷ u ∷ tokens) ends = taken_live t u tokens (pick t) ends
 
   -- a token that may be picked is named, and a final token isn't picked
-  pub one_reads : (t : Token) (a : A) → pick t ≡ Some a → ((t : Token) → IsFinal t.lexeme → pick t ≡ None) → Reads (take_one pick) (Taken pick) Always
+  pub one_reads : (t : Token) (a : A) → pick t ≡ Some a → ((t : Token) → is_final t.lexeme ≡ true → pick t ≡ None) → Reads (take_one pick) (Taken pick) Always
   one_reads t a e final = record {
     sound = one_sound t a e;
     complete = λ v ms rest (u, k, here) _. subst (λ w. take_one pick (tokens_of w ++ rest) ≡ outcome v w rest) (sym here) (ap (λ p. picked p u rest) k);

@@ -2,13 +2,14 @@
 use Rattle.std.proofs.Common.{◌≡◌, ℕ, Bool, true, false, List, [], ◌∷◌, ◌++◌, Option, Some, None, Result, Ok, Err, inl, inr, refl, sym, ap, ◌∙◌, subst, append_assoc}
 use Rattle.gql_base.specs.declared.pos.Pos.{Pos}
 use Rattle.gql_tokens.specs.declared.token.Token.{Token}
+use Rattle.gql_tokens.specs.Token.{is_final}
 use Rattle.gql_tokens.specs.declared.token.Lexeme.{Lexeme}
 use Rattle.gql_tokens.specs.declared.token.Lexeme.TheVariants as lexeme
 use Rattle.gql_tokens.specs.declared.token.Punctuator.TheVariants as sign
 use Rattle.gql_doc.specs.declared.trouble.Trouble.{Trouble}
 use Rattle.gql_doc.specs.declared.tree.DefinitionTree.{DefinitionTree}
 use Rattle.gql_doc.specs.declared.tree.TypeTree.{TypeTree}
-use Rattle.gql_doc.specs.Words.{Tokens, AreTokens, AreTokensFrom, IsFinal, Word, Language, tokens_of, NoneDeep, plain, ◌▸◌, Each, One, OneAt}
+use Rattle.gql_doc.specs.Words.{Tokens, AreTokens, AreTokensFrom, Word, Language, tokens_of, NoneDeep, plain, ◌▸◌, Each, One, OneAt}
 use Rattle.gql_doc.specs.Grammar.{IsDocument, IsDefinition, IsTypeText, IsType, IsNonEmpty, max_levels}
 use Rattle.gql_doc.specs.Readers.{Reading, Reader, go_on, begins, gives, mapped, ended, picked, take_one, some, ◌then◌}
 use Rattle.std.specs.Prelude.{not}

@@ -5,6 +5,7 @@ use Rattle.std.specs.Cmp.Lexicographic.{bytes_decides}
 use denote.Enum.Bare.{sameb, same_true, true_same}
 use Rattle.gql_base.specs.declared.pos.Pos.{Pos}
 use Rattle.gql_tokens.specs.declared.token.Token.{Token}
+use Rattle.gql_tokens.specs.Token.{is_final}
 use Rattle.gql_tokens.specs.declared.token.Lexeme.{Lexeme}
 use Rattle.gql_tokens.specs.declared.token.Lexeme.TheVariants as lexeme
 use Rattle.gql_tokens.specs.declared.token.Punctuator.{Punctuator}
@@ -13,7 +14,7 @@ use Rattle.gql_doc.specs.declared.tree.NameTree.{NameTree}
 use Rattle.gql_doc.specs.declared.tree.ValueTree.{ValueTree, Variable, Number, String, Boolean, Null, Enum, List', Object'}
 use Rattle.gql_doc.specs.declared.document.OperationType.{OperationType}
 use Rattle.gql_doc.specs.declared.document.OperationType.TheVariants.{Query, Mutation, Subscription}
-use Rattle.gql_doc.specs.Words.{IsFinal, Word, Language, plain, OneAt, One, SignAt, Keyword, KeywordAt}
+use Rattle.gql_doc.specs.Words.{Word, Language, plain, OneAt, One, SignAt, Keyword, KeywordAt}
 use Rattle.gql_doc.specs.Grammar.{IsName, IsFragmentName, IsEnumName, keyword}
 use Rattle.gql_doc.specs.Readers.{take_one}
 use Rattle.gql_doc.specs.Reading.{says_sign, is_sign, says_word, is_word, same_text, if_so, name_in, fragment_name_in, scalar_in, operation_in, operation_named, with_pos, take_sign, take_word, take_name, take_fragment_name, take_scalar, take_operation}
@@ -40,11 +41,11 @@ sign_is sign lexeme.Unsupported e = absurd (cc e)
 pub sign_same : (sign : Punctuator) → says_sign sign (lexeme.Punctuator sign) ≡ true
 sign_same sign = true_same punctuator.the_type sign sign refl
 
-sign_final : (sign : Punctuator) (l : Lexeme) (p : Pos) → IsFinal l → if_so (says_sign sign l) p ≡ None
-sign_final sign (lexeme.Punctuator found) p final = absurd final
-sign_final sign (lexeme.Name text) p final = absurd final
-sign_final sign (lexeme.Number number) p final = absurd final
-sign_final sign (lexeme.String text) p final = absurd final
+sign_final : (sign : Punctuator) (l : Lexeme) (p : Pos) → is_final l ≡ true → if_so (says_sign sign l) p ≡ None
+sign_final sign (lexeme.Punctuator found) p final = absurd (cc final)
+sign_final sign (lexeme.Name text) p final = absurd (cc final)
+sign_final sign (lexeme.Number number) p final = absurd (cc final)
+sign_final sign (lexeme.String text) p final = absurd (cc final)
 sign_final sign lexeme.End p final = refl
 sign_final sign lexeme.Unexpected p final = refl
 sign_final sign lexeme.Unsupported p final = refl
@@ -74,11 +75,11 @@ word_is word lexeme.Unsupported e = absurd (cc e)
 pub text_same : (text : List ℕ) → same_text text text ≡ true
 text_same text = (bytes_decides text text).1 refl
 
-word_final : (word : List ℕ) (l : Lexeme) (p : Pos) → IsFinal l → if_so (says_word word l) p ≡ None
-word_final word (lexeme.Punctuator found) p final = absurd final
-word_final word (lexeme.Name text) p final = absurd final
-word_final word (lexeme.Number number) p final = absurd final
-word_final word (lexeme.String text) p final = absurd final
+word_final : (word : List ℕ) (l : Lexeme) (p : Pos) → is_final l ≡ true → if_so (says_word word l) p ≡ None
+word_final word (lexeme.Punctuator found) p final = absurd (cc final)
+word_final word (lexeme.Name text) p final = absurd (cc final)
+word_final word (lexeme.Number number) p final = absurd (cc final)
+word_final word (lexeme.String text) p final = absurd (cc final)
 word_final word lexeme.End p final = refl
 word_final word lexeme.Unexpected p final = refl
 word_final word lexeme.Unsupported p final = refl
@@ -93,11 +94,11 @@ word_reads word =
 
 -- Names.
 
-name_final : (l : Lexeme) (p : Pos) → IsFinal l → name_in l p ≡ None
-name_final (lexeme.Punctuator found) p final = absurd final
-name_final (lexeme.Name text) p final = absurd final
-name_final (lexeme.Number number) p final = absurd final
-name_final (lexeme.String text) p final = absurd final
+name_final : (l : Lexeme) (p : Pos) → is_final l ≡ true → name_in l p ≡ None
+name_final (lexeme.Punctuator found) p final = absurd (cc final)
+name_final (lexeme.Name text) p final = absurd (cc final)
+name_final (lexeme.Number number) p final = absurd (cc final)
+name_final (lexeme.String text) p final = absurd (cc final)
 name_final lexeme.End p final = refl
 name_final lexeme.Unexpected p final = refl
 name_final lexeme.Unsupported p final = refl
@@ -133,11 +134,11 @@ text_differs text word other = differs (same_text text word) refl
 pub text_other : (text word : List ℕ) → same_text text word ≡ false → text ≢ word
 text_other text word e k = absurd (cc (e, (bytes_decides text word).1 k))
 
-fragment_name_final : (l : Lexeme) (p : Pos) → IsFinal l → fragment_name_in l p ≡ None
-fragment_name_final (lexeme.Punctuator found) p final = absurd final
-fragment_name_final (lexeme.Name text) p final = absurd final
-fragment_name_final (lexeme.Number number) p final = absurd final
-fragment_name_final (lexeme.String text) p final = absurd final
+fragment_name_final : (l : Lexeme) (p : Pos) → is_final l ≡ true → fragment_name_in l p ≡ None
+fragment_name_final (lexeme.Punctuator found) p final = absurd (cc final)
+fragment_name_final (lexeme.Name text) p final = absurd (cc final)
+fragment_name_final (lexeme.Number number) p final = absurd (cc final)
+fragment_name_final (lexeme.String text) p final = absurd (cc final)
 fragment_name_final lexeme.End p final = refl
 fragment_name_final lexeme.Unexpected p final = refl
 fragment_name_final lexeme.Unsupported p final = refl
@@ -179,11 +180,11 @@ IsScalar (Enum name) = λ ms. IsEnumName name × One (lexeme.Name name) ms
 IsScalar (List' _ values) = λ _. ⊥
 IsScalar (Object' _ members) = λ _. ⊥
 
-scalar_final : (l : Lexeme) → IsFinal l → scalar_in l ≡ None
-scalar_final (lexeme.Punctuator found) final = absurd final
-scalar_final (lexeme.Name text) final = absurd final
-scalar_final (lexeme.Number number) final = absurd final
-scalar_final (lexeme.String text) final = absurd final
+scalar_final : (l : Lexeme) → is_final l ≡ true → scalar_in l ≡ None
+scalar_final (lexeme.Punctuator found) final = absurd (cc final)
+scalar_final (lexeme.Name text) final = absurd (cc final)
+scalar_final (lexeme.Number number) final = absurd (cc final)
+scalar_final (lexeme.String text) final = absurd (cc final)
 scalar_final lexeme.End final = refl
 scalar_final lexeme.Unexpected final = refl
 scalar_final lexeme.Unsupported final = refl
@@ -226,11 +227,11 @@ scalar_reads =
 
 -- Words of operations.
 
-operation_final : (l : Lexeme) (p : Pos) → IsFinal l → operation_in l p ≡ None
-operation_final (lexeme.Punctuator found) p final = absurd final
-operation_final (lexeme.Name text) p final = absurd final
-operation_final (lexeme.Number number) p final = absurd final
-operation_final (lexeme.String text) p final = absurd final
+operation_final : (l : Lexeme) (p : Pos) → is_final l ≡ true → operation_in l p ≡ None
+operation_final (lexeme.Punctuator found) p final = absurd (cc final)
+operation_final (lexeme.Name text) p final = absurd (cc final)
+operation_final (lexeme.Number number) p final = absurd (cc final)
+operation_final (lexeme.String text) p final = absurd (cc final)
 operation_final lexeme.End p final = refl
 operation_final lexeme.Unexpected p final = refl
 operation_final lexeme.Unsupported p final = refl

@@ -7,22 +7,16 @@ use Rattle.gql_tokens.specs.declared.token.Token.{Token}
 use Rattle.gql_tokens.specs.declared.token.Lexeme.{Lexeme}
 use Rattle.gql_tokens.specs.declared.token.Lexeme.TheVariants as lexeme
 use Rattle.gql_tokens.specs.declared.token.Punctuator.{Punctuator}
+use Rattle.gql_tokens.specs.Token.{is_final}
 
 infixr 6 ◌▸◌
 abbrev pub Tokens : Type 0
 Tokens = List Token
 
--- the lexemes that end a list of tokens
-abbrev pub IsFinal : Lexeme → Type 0
-IsFinal lexeme.End = Unit {0}
-IsFinal lexeme.Unexpected = Unit {0}
-IsFinal lexeme.Unsupported = Unit {0}
-IsFinal _ = ⊥
-
 -- from this token on, the last is a final one, and no other is
 abbrev pub AreTokensFrom : Token → Tokens → Type 0
-AreTokensFrom token [] = IsFinal token.lexeme
-AreTokensFrom token (next ∷ tokens) = (¬ IsFinal token.lexeme) × AreTokensFrom next tokens
+AreTokensFrom token [] = is_final token.lexeme ≡ true
+AreTokensFrom token (next ∷ tokens) = (is_final token.lexeme ≡ false) × AreTokensFrom next tokens
 
 -- the last token is a final one, and no other is
 abbrev pub AreTokens : Tokens → Type 0
