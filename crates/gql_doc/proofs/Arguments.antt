@@ -3,9 +3,7 @@ use Rattle.std.proofs.Common.{◌≡◌, ℕ, Bool, true, false, List, [], ◌�
 use Rattle.gql_base.specs.declared.pos.Pos.{Pos}
 use Rattle.gql_tokens.specs.declared.token.Punctuator.TheVariants as sign
 use Rattle.gql_doc.specs.declared.tree.Variables.{Variables}
-use Rattle.gql_doc.specs.declared.tree.NameTree.{NameTree}
 use Rattle.gql_doc.specs.declared.tree.ValueTree.{ValueTree}
-use Rattle.gql_doc.specs.declared.tree.PlacedValue.{PlacedValue}
 use Rattle.gql_doc.specs.declared.tree.ArgumentTree.{ArgumentTree}
 use Rattle.gql_doc.specs.declared.tree.DirectiveTree.{DirectiveTree}
 use Rattle.gql_doc.specs.Words.{Tokens, Word, Language, tokens_of, ◌▸◌, Each, SignAt, Nothing}
@@ -16,6 +14,7 @@ use Rattle.gql_doc.proofs.Readers.{Reads, Always, Pure, Seq, Map, Either, SomeOf
 use Rattle.gql_doc.proofs.Tokens.{sign_reads, name_reads}
 use Rattle.gql_doc.proofs.Follows.{NextIs, Never, Before, joined, never_next, sign_next, other_is, none_is, before_each, before_pure}
 use Rattle.gql_doc.proofs.Values.{value_reads, value_starts, name_starts}
+use Rattle.gql_doc.specs.Words.{PlacedName, PlacedValue}
 
 -- A value with its place.
 
@@ -24,10 +23,10 @@ unfolding placed_value
 placed_value_reads variables =
     convert (placed_value variables) (PlacedBy make (IsValue variables max_levels)) (IsPlacedValue variables) Always Always
     (placed_reads make (other_than sign.CloseBracket) (value_at variables max_levels) (IsValue variables max_levels) (value_starts variables max_levels) Always (value_reads variables max_levels))
-    (λ v ms (p, a, k, d, first). subst (λ w. IsPlacedValue variables w ms) (sym k) (d, first)) (λ v ms (d, first). (v.pos, v.value, refl, d, first)) (λ rest g. g)
+    (λ v ms (p, a, k, d, first). subst (λ w. IsPlacedValue variables w ms) (sym k) (d, first)) (λ v ms (d, first). (v.pos, v.node, refl, d, first)) (λ rest g. g)
   where
     make : Pos → ValueTree → PlacedValue
-    make = λ pos value. record { pos = pos; value = value }
+    make = λ pos value. record { pos = pos; node = value }
 
 -- Arguments.
 
@@ -85,7 +84,7 @@ arguments_reads variables = in_parentheses_reads (argument variables) (IsArgumen
 -- Directives.
 
 module _ (variables : Variables) where
-  abbrev make_directive : Pos → NameTree → List ArgumentTree → DirectiveTree
+  abbrev make_directive : Pos → PlacedName → List ArgumentTree → DirectiveTree
   make_directive pos name arguments = record { pos = pos; name = name; arguments = arguments }
 
   pub directive_reads : Reads (directive variables) (IsDirective variables) (Never (sign.OpenParen ∷ []))

@@ -75,7 +75,7 @@ module _ {A : Type 0} (f : Reader A) (D : A → Language) (reads : ReadsText f D
   deep_here x t s o =
       let w = o.before ++ deep_token t ∷ o.after in
       let same : tokens_of w ++ [] ≡ x ++ t ∷ (tokens_of o.after ++ []) =
-          ap (λ ts. ts ++ []) (tokens_of-append o.before (deep_token t ∷ o.after)) ∙ append_assoc (tokens_of o.before) (t ∷ tokens_of o.after) [] ∙ ap (λ ts. ts ++ t ∷ (tokens_of o.after ++ [])) o.same in
+      ap (λ ts. ts ++ []) (tokens_of-append o.before (deep_token t ∷ o.after)) ∙ append_assoc (tokens_of o.before) (t ∷ tokens_of o.after) [] ∙ ap (λ ts. ts ++ t ∷ (tokens_of o.after ++ [])) o.same in
       let one : f (tokens_of w ++ []) ≡ (Err TooDeep, t ∷ (tokens_of o.after ++ [])) = reads.complete o.tree w [] o.derived tt ∙ outcome-deep o.tree o.before o.after t [] o.within in
       reads.local x t (tokens_of o.after ++ []) s [] (Err TooDeep) (ap f (sym same) ∙ one)
 
@@ -83,7 +83,7 @@ module _ {A : Type 0} (f : Reader A) (D : A → Language) (reads : ReadsText f D
   unexpected_here : (c : Tokens) (t : Token) (r : Tokens) → f (c ++ t ∷ r) ≡ (Err Unexpected, t ∷ r) → Begins D (c ++ t ∷ []) → ⊥
   unexpected_here c t r e b =
       let same : tokens_of b.word ++ [] ≡ c ++ t ∷ (b.more ++ []) =
-          ap (λ ts. ts ++ []) b.same ∙ append_assoc (c ++ t ∷ []) b.more [] ∙ append_assoc c (t ∷ []) (b.more ++ []) in
+      ap (λ ts. ts ++ []) b.same ∙ append_assoc (c ++ t ∷ []) b.more [] ∙ append_assoc c (t ∷ []) (b.more ++ []) in
       never_unexpected b.tree b.word [] (t ∷ (b.more ++ [])) (sym (reads.complete b.tree b.word [] b.derived tt) ∙ ap f same ∙ reads.local c t r (b.more ++ []) [] (Err Unexpected) e)
 
   -- where the reading stops, nothing before opens too deep

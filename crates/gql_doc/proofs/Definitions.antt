@@ -7,7 +7,6 @@ use Rattle.gql_tokens.specs.declared.token.Punctuator.TheVariants as sign
 use Rattle.gql_doc.specs.declared.document.OperationType.{OperationType}
 use Rattle.gql_doc.specs.declared.document.OperationType.TheVariants.{Query, Mutation, Subscription}
 use Rattle.gql_doc.specs.declared.tree.Variables.TheVariants.{Allowed}
-use Rattle.gql_doc.specs.declared.tree.NameTree.{NameTree}
 use Rattle.gql_doc.specs.declared.tree.DirectiveTree.{DirectiveTree}
 use Rattle.gql_doc.specs.declared.tree.VariableTree.{VariableTree}
 use Rattle.gql_doc.specs.declared.tree.SetTree.{SetTree}
@@ -23,6 +22,7 @@ use Rattle.gql_doc.proofs.Follows.{NextIs, NextIsName, Never, Before, joined, ne
 use Rattle.gql_doc.proofs.Arguments.{directives_reads, before_directives, before_parentheses}
 use Rattle.gql_doc.proofs.VariableDefinitions.{variables_reads}
 use Rattle.gql_doc.proofs.Selections.{IsSetTree, NextIsSign, next_sign, sign_no_name, brace_next, condition_reads, set_reads}
+use Rattle.gql_doc.specs.Words.{PlacedName}
 
 pub definition_set_reads : Reads set IsSet Always
 unfolding set
@@ -49,20 +49,20 @@ module _ (make : List DirectiveTree → SetTree → DefinitionTree) where
 abbrev Kind : Type 0
 Kind = Pos × OperationType
 
-abbrev make_operation : Kind → Option NameTree → List VariableTree → List DirectiveTree → SetTree → DefinitionTree
+abbrev make_operation : Kind → Option PlacedName → List VariableTree → List DirectiveTree → SetTree → DefinitionTree
 make_operation kind name variables directives set =
     Operation (record { pos = kind.0; ty = kind.1; name = name; variables = variables; directives = directives; set = set })
 
 module _ (kind : Kind) where
-  abbrev BehindName : Option NameTree → DefinitionTree → Language
+  abbrev BehindName : Option PlacedName → DefinitionTree → Language
   BehindName name = Seq AreVariables (λ variables. IsBody (make_operation kind name variables))
 
-  behind_name : (name : Option NameTree) → Reads (variables then (λ vs. directives Allowed then (λ ds. mapped (make_operation kind name vs ds) set))) (BehindName name) Always
+  behind_name : (name : Option PlacedName) → Reads (variables then (λ vs. directives Allowed then (λ ds. mapped (make_operation kind name vs ds) set))) (BehindName name) Always
   behind_name name =
       seq variables AreVariables (λ vs. directives Allowed then (λ ds. mapped (make_operation kind name vs ds) set)) (λ vs. IsBody (make_operation kind name vs)) (Never (sign.OpenParen ∷ [])) Always variables_reads (λ vs. body_reads (make_operation kind name vs))
       (λ vs. before_body (make_operation kind name vs) (Never (sign.OpenParen ∷ [])) (λ rest. never_next (sign.OpenParen ∷ []) sign.At rest (refl, tt)) (λ rest. never_next (sign.OpenParen ∷ []) sign.OpenBrace rest (refl, tt)))
 
-  before_name_behind : (name : Option NameTree) → Before (BehindName name) Always NextIsSign
+  before_name_behind : (name : Option PlacedName) → Before (BehindName name) Always NextIsSign
   before_name_behind name =
       before_seq AreVariables (λ vs. IsBody (make_operation kind name vs)) Always NextIsSign NextIsSign (before_parentheses _ NextIsSign (next_sign sign.OpenParen))
       (λ vs. before_body (make_operation kind name vs) NextIsSign (next_sign sign.At) (next_sign sign.OpenBrace))
@@ -98,11 +98,11 @@ shorthand_reads = mapped_reads make_shorthand set IsSet Always definition_set_re
 
 -- Fragments.
 
-abbrev make_fragment : Pos → NameTree → NameTree → List DirectiveTree → SetTree → DefinitionTree
+abbrev make_fragment : Pos → PlacedName → PlacedName → List DirectiveTree → SetTree → DefinitionTree
 make_fragment pos name condition directives set =
     Fragment (record { pos = pos; name = name; condition = condition; directives = directives; set = set })
 
-abbrev BehindFragmentName : Pos → NameTree → DefinitionTree → Language
+abbrev BehindFragmentName : Pos → PlacedName → DefinitionTree → Language
 BehindFragmentName pos name = Seq IsCondition (λ condition. IsBody (make_fragment pos name condition))
 
 abbrev IsFragmentRead : DefinitionTree → Language

@@ -460,6 +460,7 @@ optional_reads {A} test f D F G reads starts weaker ends =
     to : (v : Option A) (ms : Word) → Either (Map Some D) (Pure None) v ms → Maybe D v ms
     to v ms (inl (a, k, d)) = subst (λ w. Maybe D w ms) (sym k) d
     to v ms (inr (k, nil)) = subst (λ w. Maybe D w ms) (sym k) nil
+
     from : (v : Option A) (ms : Word) → Maybe D v ms → Either (Map Some D) (Pure None) v ms
     from None ms nil = inr (refl, nil)
     from (Some a) ms d = inl (a, refl, d)

@@ -9,7 +9,6 @@ use Rattle.gql_tokens.specs.declared.token.Lexeme.TheVariants as lexeme
 use Rattle.gql_tokens.specs.declared.token.Punctuator.{Punctuator}
 use Rattle.gql_tokens.specs.declared.token.Punctuator.TheVariants as sign
 use Rattle.gql_doc.specs.declared.tree.Variables.TheVariants.{Allowed}
-use Rattle.gql_doc.specs.declared.tree.NameTree.{NameTree}
 use Rattle.gql_doc.specs.declared.tree.ArgumentTree.{ArgumentTree}
 use Rattle.gql_doc.specs.declared.tree.DirectiveTree.{DirectiveTree}
 use Rattle.gql_doc.specs.declared.tree.SelectionTree.{SelectionTree, Field, Field', Spread, Inline, Inline', Row_of-SelectionTree, end_of-SelectionTree, more_of-SelectionTree, items-the_row-SelectionTree, items_hidden-the_row-SelectionTree-0, items_shown-the_row-SelectionTree-0, out-SelectionTree, roll-SelectionTree, roll-out-SelectionTree}
@@ -25,6 +24,7 @@ use Rattle.gql_doc.proofs.Tokens.{start, sign_is, sign_reads, word_reads, name_r
 use Rattle.gql_doc.proofs.Follows.{NextIs, NextIsName, Never, Before, joined, never_next, never_name, none_is, other_is, other_sign, name_is_other, sign_next, opens_next, before_name, before_seq, before_map, before_maybe}
 use Rattle.gql_doc.proofs.Arguments.{arguments_reads, directives_reads, before_directives, before_parentheses}
 use Rattle.gql_doc.proofs.Deep.{deep_reads}
+use Rattle.gql_doc.specs.Words.{PlacedName}
 
 -- Heads and conditions.
 
@@ -33,9 +33,9 @@ unfolding condition
 condition_reads = past_reads (take_word (codes "on")) (KeywordAt (codes "on")) take_name IsName Always Always (word_reads (codes "on")) name_reads (λ v y rest q g. tt)
 
 abbrev Head : Type 0
-Head = Option NameTree × NameTree
+Head = Option PlacedName × PlacedName
 
-abbrev BehindName : NameTree → Head → Language
+abbrev BehindName : PlacedName → Head → Language
 BehindName first =
     Either (λ h. SomeOf (SignAt sign.Colon) ▸ Map (λ name. (Some first, name)) IsName h) (Pure (None, first))
 
@@ -51,7 +51,7 @@ head_from : (v : Head) (ms : Word) → IsHeadOf v ms → Seq IsName BehindName v
 head_from (None, name) ms n = (name, ms, [], sym (append-nil ms), n, inr (refl, refl))
 head_from (Some alias, name) ms (x, y, e, n, (a, b, h, colon, m)) = (alias, x, y, e, n, inl (a, b, h, colon, (name, refl, m)))
 
-behind_name : (first : NameTree) → Reads (branch (is_sign sign.Colon) (past (take_sign sign.Colon) (mapped (λ name. (Some first, name)) take_name)) (gives (None, first))) (BehindName first) (Never (sign.Colon ∷ []))
+behind_name : (first : PlacedName) → Reads (branch (is_sign sign.Colon) (past (take_sign sign.Colon) (mapped (λ name. (Some first, name)) take_name)) (gives (None, first))) (BehindName first) (Never (sign.Colon ∷ []))
 behind_name first =
     choice (is_sign sign.Colon) (past (take_sign sign.Colon) (mapped (λ name. (Some first, name)) take_name)) (gives (None, first)) (λ h. SomeOf (SignAt sign.Colon) ▸ Map (λ name. (Some first, name)) IsName h) (Pure (None, first)) Always (Never (sign.Colon ∷ [])) (Never (sign.Colon ∷ []))
     (past_reads (take_sign sign.Colon) (SignAt sign.Colon) (mapped (λ name. (Some first, name)) take_name) (Map (λ name. (Some first, name)) IsName) Always Always (sign_reads sign.Colon) (mapped_reads (λ name. (Some first, name)) take_name IsName Always name_reads) (λ v y rest q g. tt))
@@ -114,12 +114,12 @@ row_of_if_any levels field set _ (more_of-SelectionTree v row) ms (inr (k, nil))
 
 -- A selection in its parts.
 
-field_whole : (alias : Option NameTree) (name : NameTree) (arguments : List ArgumentTree) (directives : List DirectiveTree) (set : Pos) (s : _) (row : Row_of-SelectionTree _) → Field' alias name arguments directives set s row ≡ Field alias name arguments directives set (items-the_row-SelectionTree _ row)
+field_whole : (alias : Option PlacedName) (name : PlacedName) (arguments : List ArgumentTree) (directives : List DirectiveTree) (set : Pos) (s : _) (row : Row_of-SelectionTree _) → Field' alias name arguments directives set s row ≡ Field alias name arguments directives set (items-the_row-SelectionTree _ row)
 unfolding out-SelectionTree roll-SelectionTree out
 field_whole alias name arguments directives set s row =
     sym (roll-out-SelectionTree (Field' alias name arguments directives set s row)) ∙ rolls-Field alias name arguments directives set _ ∙ ap (Field alias name arguments directives set) (items_shown-the_row-SelectionTree-0 s row)
 
-inline_whole : (pos : Pos) (condition : Option NameTree) (directives : List DirectiveTree) (set : Pos) (s : _) (row : Row_of-SelectionTree _) → Inline' pos condition directives set s row ≡ Inline pos condition directives set (items-the_row-SelectionTree _ row)
+inline_whole : (pos : Pos) (condition : Option PlacedName) (directives : List DirectiveTree) (set : Pos) (s : _) (row : Row_of-SelectionTree _) → Inline' pos condition directives set s row ≡ Inline pos condition directives set (items-the_row-SelectionTree _ row)
 unfolding out-SelectionTree roll-SelectionTree out
 inline_whole pos condition directives set s row =
     sym (roll-out-SelectionTree (Inline' pos condition directives set s row)) ∙ rolls-Inline pos condition directives set _ ∙ ap (Inline pos condition directives set) (items_shown-the_row-SelectionTree-0 s row)
@@ -127,7 +127,7 @@ inline_whole pos condition directives set s row =
 abbrev make_field : Head → List ArgumentTree → List DirectiveTree → SetTree → SelectionTree
 make_field h arguments directives set = Field h.0 h.1 arguments directives set.pos set.selections
 
-abbrev make_inline : Pos → Option NameTree → List DirectiveTree → SetTree → SelectionTree
+abbrev make_inline : Pos → Option PlacedName → List DirectiveTree → SetTree → SelectionTree
 make_inline pos condition directives set = Inline pos condition directives set.pos set.selections
 
 abbrev pub says_some_sign : Lexeme → Bool
@@ -168,15 +168,15 @@ on_next : Starts (is_word (codes "on")) IsCondition
 on_next v ms rest (x, y, e, (pos, on), n) =
     joined (λ ts. begins (is_word (codes "on")) ts ≡ true) ms x y rest e (subst (λ w. begins (is_word (codes "on")) (tokens_of w ++ (tokens_of y ++ rest)) ≡ true) (sym on) refl)
 
-fragment_name_next : (name : NameTree) (ms : Word) (rest : Tokens) → IsFragmentName name ms → begins is_fragment_name (tokens_of ms ++ rest) ≡ true
+fragment_name_next : (name : PlacedName) (ms : Word) (rest : Tokens) → IsFragmentName name ms → begins is_fragment_name (tokens_of ms ++ rest) ≡ true
 fragment_name_next name ms rest (other, n) =
-    subst (λ w. begins is_fragment_name (tokens_of w ++ rest) ≡ true) (sym n) (ap not (text_differs name.text (codes "on") other))
+    subst (λ w. begins is_fragment_name (tokens_of w ++ rest) ≡ true) (sym n) (ap not (text_differs name.node (codes "on") other))
 
 sign_no_fragment : (rest : Tokens) → NextIsSign rest → begins is_fragment_name rest ≡ false
 sign_no_fragment [] next = refl
 sign_no_fragment (t ∷ rest) next = ap (λ b. b && not (is_word (codes "on") t)) (sign_no_name t.lexeme next)
 
-condition_no_fragment : (v : NameTree) (ms : Word) (rest : Tokens) → IsCondition v ms → begins is_fragment_name (tokens_of ms ++ rest) ≡ false
+condition_no_fragment : (v : PlacedName) (ms : Word) (rest : Tokens) → IsCondition v ms → begins is_fragment_name (tokens_of ms ++ rest) ≡ false
 condition_no_fragment v ms rest (x, y, e, (pos, on), n) =
     joined (λ ts. begins is_fragment_name ts ≡ false) ms x y rest e (subst (λ w. begins is_fragment_name (tokens_of w ++ (tokens_of y ++ rest)) ≡ false) (sym on) refl)
 
@@ -200,7 +200,7 @@ module _ (levels : ℕ) where
   abbrev IsSpreadBehind : Pos → SelectionTree → Language
   IsSpreadBehind pos = Seq IsFragmentName (λ name. Map (λ directives. Spread pos name directives) (AreDirectives Allowed))
 
-  abbrev BehindCondition : Pos → Option NameTree → SelectionTree → Language
+  abbrev BehindCondition : Pos → Option PlacedName → SelectionTree → Language
   BehindCondition pos condition = Seq (AreDirectives Allowed) (λ directives. Map (make_inline pos condition directives) (IsSetTree levels))
 
   abbrev IsInlineBehind : Pos → SelectionTree → Language
@@ -289,19 +289,19 @@ module _ (levels : ℕ) where
         seq take_fragment_name IsFragmentName (λ name. mapped (λ ds. Spread pos name ds) (directives Allowed)) (λ name. Map (λ ds. Spread pos name ds) (AreDirectives Allowed)) Always (Never (sign.At ∷ sign.OpenParen ∷ [])) fragment_name_reads
         (λ name. mapped_reads (λ ds. Spread pos name ds) (directives Allowed) (AreDirectives Allowed) (Never (sign.At ∷ sign.OpenParen ∷ [])) (directives_reads Allowed)) (λ a v y rest q g. tt)
 
-    behind_condition : (pos : Pos) (c : Option NameTree) → Reads (directives Allowed then (λ ds. mapped (make_inline pos c ds) set)) (BehindCondition pos c) Always
+    behind_condition : (pos : Pos) (c : Option PlacedName) → Reads (directives Allowed then (λ ds. mapped (make_inline pos c ds) set)) (BehindCondition pos c) Always
     behind_condition pos c =
         seq (directives Allowed) (AreDirectives Allowed) (λ ds. mapped (make_inline pos c ds) set) (λ ds. Map (make_inline pos c ds) (IsSetTree levels)) (Never (sign.At ∷ sign.OpenParen ∷ [])) Always (directives_reads Allowed)
         (λ ds. mapped_reads (make_inline pos c ds) set (IsSetTree levels) Always sets)
         (λ ds v y rest (s, k, h) g. never_next (sign.At ∷ sign.OpenParen ∷ []) sign.OpenBrace (tokens_of y ++ rest) (refl, (refl, tt)) (brace_next s y rest h))
 
-    before_condition : (pos : Pos) (c : Option NameTree) → Before (BehindCondition pos c) Always NextIsSign
+    before_condition : (pos : Pos) (c : Option PlacedName) → Before (BehindCondition pos c) Always NextIsSign
     before_condition pos c =
         before_seq (AreDirectives Allowed) (λ ds. Map (make_inline pos c ds) (IsSetTree levels)) Always NextIsSign NextIsSign
         (before_directives Allowed NextIsSign (λ rest. next_sign sign.At rest))
         (λ ds v ms rest (s, k, h) g. next_sign sign.OpenBrace (tokens_of ms ++ rest) (brace_next s ms rest h))
 
-    no_fragment_name : (pos : Pos) (c : Option NameTree) (v : SelectionTree) (x y : Word) (rest : Tokens) → Maybe IsCondition c x → BehindCondition pos c v y → begins is_fragment_name (tokens_of x ++ (tokens_of y ++ rest)) ≡ false
+    no_fragment_name : (pos : Pos) (c : Option PlacedName) (v : SelectionTree) (x y : Word) (rest : Tokens) → Maybe IsCondition c x → BehindCondition pos c v y → begins is_fragment_name (tokens_of x ++ (tokens_of y ++ rest)) ≡ false
     no_fragment_name pos None v x y rest nil h = subst (λ w. begins is_fragment_name (tokens_of w ++ (tokens_of y ++ rest)) ≡ false) (sym nil) (sign_no_fragment (tokens_of y ++ rest) (before_condition pos None v y rest h tt))
     no_fragment_name pos (Some c) v x y rest on h = condition_no_fragment c x (tokens_of y ++ rest) on
 
@@ -369,7 +369,7 @@ some_set pos =
     let dots : Word = plain (record { lexeme = lexeme.Punctuator sign.Spread; pos = start }) ∷ [] in
     let name : Word = plain (record { lexeme = lexeme.Name []; pos = start }) ∷ [] in
     let close : Word = plain (record { lexeme = lexeme.Punctuator sign.CloseBrace; pos = start }) ∷ [] in
-    let spread : SelectionTree = Spread start (record { text = []; pos = start }) [] in
+    let spread : SelectionTree = Spread start (record { pos = start; node = [] }) [] in
     let other : [] ≢ codes "on" = λ e. cc e in
     let written : IsSelection 0 spread (dots ++ name) = (dots, name, refl, refl, (name, [], refl, (other, refl), refl)) in
     (tree pos (spread ∷ []), (dots ++ name) ++ close, (spread ∷ [], refl, (dots ++ name, close, refl, (tt, (dots ++ name, [], refl, written, refl)), (start, refl))))

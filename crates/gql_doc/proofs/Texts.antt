@@ -8,7 +8,7 @@ use Rattle.gql_tokens.specs.declared.token.Lexeme.TheVariants as lexeme
 use Rattle.gql_tokens.specs.declared.token.Punctuator.TheVariants as sign
 use Rattle.gql_doc.specs.declared.trouble.Trouble.{Trouble}
 use Rattle.gql_doc.specs.declared.tree.DefinitionTree.{DefinitionTree}
-use Rattle.gql_doc.specs.declared.tree.TypeTree.{TypeTree}
+use Rattle.gql_base.specs.declared.type_ref.TypeRef.{TypeRef}
 use Rattle.gql_doc.specs.Words.{Tokens, AreTokens, AreTokensFrom, Word, Language, tokens_of, NoneDeep, plain, ◌▸◌, Each, One, OneAt}
 use Rattle.gql_doc.specs.Grammar.{IsDocument, IsDefinition, IsTypeText, IsType, IsNonEmpty, max_levels}
 use Rattle.gql_doc.specs.Readers.{Reading, Reader, go_on, begins, gives, mapped, ended, picked, take_one, some, ◌then◌}
@@ -112,9 +112,6 @@ text_convert f D E reads to from = record {
 }
 
 -- Documents.
-
-
-
 
 end_stops : (rest : Tokens) → NextIsEnd rest → begins before_end rest ≡ false
 end_stops [] next = refl

@@ -10,7 +10,6 @@ use Rattle.gql_tokens.specs.declared.token.Lexeme.{Lexeme}
 use Rattle.gql_tokens.specs.declared.token.Lexeme.TheVariants as lexeme
 use Rattle.gql_tokens.specs.declared.token.Punctuator.{Punctuator}
 use Rattle.gql_tokens.specs.contracts.token.Punctuator as punctuator
-use Rattle.gql_doc.specs.declared.tree.NameTree.{NameTree}
 use Rattle.gql_doc.specs.declared.tree.ValueTree.{ValueTree, Variable, Number, String, Boolean, Null, Enum, List', Object'}
 use Rattle.gql_doc.specs.declared.document.OperationType.{OperationType}
 use Rattle.gql_doc.specs.declared.document.OperationType.TheVariants.{Query, Mutation, Subscription}
@@ -19,6 +18,7 @@ use Rattle.gql_doc.specs.Grammar.{IsName, IsFragmentName, IsEnumName, keyword}
 use Rattle.gql_doc.specs.Readers.{take_one}
 use Rattle.gql_doc.specs.Reading.{says_sign, is_sign, says_word, is_word, same_text, if_so, name_in, fragment_name_in, scalar_in, operation_in, operation_named, with_pos, take_sign, take_word, take_name, take_fragment_name, take_scalar, take_operation}
 use Rattle.gql_doc.proofs.Readers.{Reads, Always, Taken, convert, one_reads}
+use Rattle.gql_doc.specs.Words.{PlacedName}
 
 pub start : Pos
 start = record { line = 1; column = 1 }
@@ -104,11 +104,11 @@ name_final lexeme.Unexpected p final = refl
 name_final lexeme.Unsupported p final = refl
 
 -- the one token of a name
-name_taken : (l : Lexeme) (p : Pos) (name : NameTree) → name_in l p ≡ Some name → IsName name (plain (record { lexeme = l; pos = p }) ∷ [])
+name_taken : (l : Lexeme) (p : Pos) (name : PlacedName) → name_in l p ≡ Some name → IsName name (plain (record { lexeme = l; pos = p }) ∷ [])
 name_taken (lexeme.Punctuator found) p name e = absurd (cc e)
 name_taken (lexeme.Name text) p name e =
-    let k : record { text = text; pos = p } ≡ name = ap (λ o. unwrap_or o name) e in
-    λ i. plain (record { lexeme = lexeme.Name (k i).text; pos = (k i).pos }) ∷ []
+    let k : record { pos = p; node = text } ≡ name = ap (λ o. unwrap_or o name) e in
+    λ i. plain (record { lexeme = lexeme.Name (k i).node; pos = (k i).pos }) ∷ []
 name_taken (lexeme.Number number) p name e = absurd (cc e)
 name_taken (lexeme.String text) p name e = absurd (cc e)
 name_taken lexeme.End p name e = absurd (cc e)
@@ -119,8 +119,8 @@ pub name_reads : Reads take_name IsName Always
 unfolding take_name
 name_reads =
     convert take_name (Taken (λ token. name_in token.lexeme token.pos)) IsName Always Always
-    (one_reads (λ token. name_in token.lexeme token.pos) (record { lexeme = lexeme.Name []; pos = start }) (record { text = []; pos = start }) refl (λ t final. name_final t.lexeme t.pos final))
-    (λ name ms (t, e, k). k ∙ name_taken t.lexeme t.pos name e) (λ name ms k. (record { lexeme = lexeme.Name name.text; pos = name.pos }, refl, k)) (λ rest after. after)
+    (one_reads (λ token. name_in token.lexeme token.pos) (record { lexeme = lexeme.Name []; pos = start }) (record { pos = start; node = [] }) refl (λ t final. name_final t.lexeme t.pos final))
+    (λ name ms (t, e, k). k ∙ name_taken t.lexeme t.pos name e) (λ name ms k. (record { lexeme = lexeme.Name name.node; pos = name.pos }, refl, k)) (λ rest after. after)
 
 -- Names of fragments.
 
@@ -147,12 +147,12 @@ not_true : (b : Bool) → not b ≡ true → b ≡ false
 not_true true e = absurd (cc e)
 not_true false e = refl
 
-fragment_name_taken : (l : Lexeme) (p : Pos) (name : NameTree) → fragment_name_in l p ≡ Some name → IsFragmentName name (plain (record { lexeme = l; pos = p }) ∷ [])
+fragment_name_taken : (l : Lexeme) (p : Pos) (name : PlacedName) → fragment_name_in l p ≡ Some name → IsFragmentName name (plain (record { lexeme = l; pos = p }) ∷ [])
 fragment_name_taken (lexeme.Punctuator found) p name e = absurd (cc e)
 fragment_name_taken (lexeme.Name text) p name e =
-    let so = if_so_is (not (same_text text (codes "on"))) (record { text = text; pos = p }) name e in
+    let so = if_so_is (not (same_text text (codes "on"))) (record { pos = p; node = text }) name e in
     let other : text ≢ codes "on" = text_other text (codes "on") (not_true (same_text text (codes "on")) so.0) in
-    (subst (λ (n : NameTree). n.text ≢ codes "on") so.1 other, λ i. plain (record { lexeme = lexeme.Name (so.1 i).text; pos = (so.1 i).pos }) ∷ [])
+    (subst (λ (n : PlacedName). n.node ≢ codes "on") so.1 other, λ i. plain (record { lexeme = lexeme.Name (so.1 i).node; pos = (so.1 i).pos }) ∷ [])
 fragment_name_taken (lexeme.Number number) p name e = absurd (cc e)
 fragment_name_taken (lexeme.String text) p name e = absurd (cc e)
 fragment_name_taken lexeme.End p name e = absurd (cc e)
@@ -163,9 +163,9 @@ pub fragment_name_reads : Reads take_fragment_name IsFragmentName Always
 unfolding take_fragment_name
 fragment_name_reads =
     convert take_fragment_name (Taken (λ token. fragment_name_in token.lexeme token.pos)) IsFragmentName Always Always
-    (one_reads (λ token. fragment_name_in token.lexeme token.pos) (record { lexeme = lexeme.Name []; pos = start }) (record { text = []; pos = start }) refl (λ t final. fragment_name_final t.lexeme t.pos final))
+    (one_reads (λ token. fragment_name_in token.lexeme token.pos) (record { lexeme = lexeme.Name []; pos = start }) (record { pos = start; node = [] }) refl (λ t final. fragment_name_final t.lexeme t.pos final))
     (λ name ms (t, e, k). let n = fragment_name_taken t.lexeme t.pos name e in (n.0, k ∙ n.1))
-    (λ name ms (other, k). (record { lexeme = lexeme.Name name.text; pos = name.pos }, ap (λ b. if_so (not b) name) (text_differs name.text (codes "on") other), k)) (λ rest after. after)
+    (λ name ms (other, k). (record { lexeme = lexeme.Name name.node; pos = name.pos }, ap (λ b. if_so (not b) name) (text_differs name.node (codes "on") other), k)) (λ rest after. after)
 
 -- Values of one token.
 

@@ -5,12 +5,10 @@ use denote.Hole.Carrier.{out, shown, hidden}
 use Rattle.gql_base.specs.declared.pos.Pos.{Pos}
 use Rattle.gql_tokens.specs.declared.token.Lexeme.TheVariants as lexeme
 use Rattle.gql_tokens.specs.declared.token.Punctuator.TheVariants as sign
-use Rattle.gql_doc.specs.declared.tree.NameTree.{NameTree}
-use Rattle.gql_doc.specs.declared.tree.TypeTree as type
-use Rattle.gql_doc.specs.declared.tree.TypeTree.{TypeTree, Row_of-TypeTree, end_of-TypeTree, more_of-TypeTree, out-TypeTree, roll-TypeTree, roll-out-TypeTree}
-use Rattle.gql_doc.specs.declared.tree.TypeTree.TheBlock.{shape-the_row-TypeTree-0, hidden-the_row-TypeTree-0, shown-the_row-TypeTree-0}
-use Rattle.gql_doc.specs.declared.tree.TypeTree.TheViews.{rolls-List, rolls-NonNull}
-use Rattle.gql_doc.specs.declared.tree.PlacedType.{PlacedType}
+use Rattle.gql_base.specs.declared.type_ref.TypeRef as type
+use Rattle.gql_base.specs.declared.type_ref.TypeRef.{TypeRef, Row_of-TypeRef, end_of-TypeRef, more_of-TypeRef, out-TypeRef, roll-TypeRef, roll-out-TypeRef}
+use Rattle.gql_base.specs.declared.type_ref.TypeRef.TheBlock.{shape-the_row-TypeRef-0, hidden-the_row-TypeRef-0, shown-the_row-TypeRef-0}
+use Rattle.gql_base.specs.declared.type_ref.TypeRef.TheViews.{rolls-List, rolls-NonNull}
 use Rattle.gql_doc.specs.Words.{Tokens, Word, Language, tokens_of, ◌▸◌, SignAt, OpensAt, Sign, plain, Nothing}
 use Rattle.gql_doc.specs.Grammar.{IsType, IsNullableType, IsTypeIn, IsNullableIn, IsPlacedType, IsName, max_levels}
 use Rattle.gql_doc.specs.Readers.{Reader, begins, mapped, past, ended, branch, gives, placed, too_deep, ◌then◌}
@@ -19,105 +17,106 @@ use Rattle.gql_doc.proofs.Readers.{Reads, Always, Pure, Seq, Map, Either, SomeOf
 use Rattle.gql_doc.proofs.Tokens.{start, sign_reads, name_reads}
 use Rattle.gql_doc.proofs.Follows.{NextIs, Never, Before, joined, before_name, opens_next, sign_next, none_is, other_sign, never_next, never_name, name_is_other}
 use Rattle.gql_doc.proofs.Deep.{deep_past_reads}
+use Rattle.gql_doc.specs.Words.{PlacedName, PlacedType}
 
 -- The type in a box.
 
-inner_of : Row_of-TypeTree (one_more none_left) → TypeTree
-inner_of (more_of-TypeTree t rest) = t
+inner_of : Row_of-TypeRef (one_more none_left) → TypeRef
+inner_of (more_of-TypeRef t rest) = t
 
-list_whole : (s : Unit {0}) (row : Row_of-TypeTree (one_more none_left)) → type.List' s row ≡ type.List (inner_of row)
-unfolding inner_of out-TypeTree roll-TypeTree out shown-the_row-TypeTree-0 shown
-list_whole s (more_of-TypeTree t rest) = sym (roll-out-TypeTree (type.List' s (more_of-TypeTree t rest))) ∙ rolls-List t
+list_whole : (s : Unit {0}) (row : Row_of-TypeRef (one_more none_left)) → type.List' s row ≡ type.List (inner_of row)
+unfolding inner_of out-TypeRef roll-TypeRef out shown-the_row-TypeRef-0 shown
+list_whole s (more_of-TypeRef t rest) = sym (roll-out-TypeRef (type.List' s (more_of-TypeRef t rest))) ∙ rolls-List t
 
-non_null_whole : (s : Unit {0}) (row : Row_of-TypeTree (one_more none_left)) → type.NonNull' s row ≡ type.NonNull (inner_of row)
-unfolding inner_of out-TypeTree roll-TypeTree out shown-the_row-TypeTree-0 shown
-non_null_whole s (more_of-TypeTree t rest) = sym (roll-out-TypeTree (type.NonNull' s (more_of-TypeTree t rest))) ∙ rolls-NonNull t
+non_null_whole : (s : Unit {0}) (row : Row_of-TypeRef (one_more none_left)) → type.NonNull' s row ≡ type.NonNull (inner_of row)
+unfolding inner_of out-TypeRef roll-TypeRef out shown-the_row-TypeRef-0 shown
+non_null_whole s (more_of-TypeRef t rest) = sym (roll-out-TypeRef (type.NonNull' s (more_of-TypeRef t rest))) ∙ rolls-NonNull t
 
-type_in : (levels : ℕ) (row : Row_of-TypeTree (one_more none_left)) (ms : Word) → IsTypeIn levels row ms → IsType levels (inner_of row) ms
+type_in : (levels : ℕ) (row : Row_of-TypeRef (one_more none_left)) (ms : Word) → IsTypeIn levels row ms → IsType levels (inner_of row) ms
 unfolding inner_of
-type_in levels (more_of-TypeTree t rest) ms h = h
+type_in levels (more_of-TypeRef t rest) ms h = h
 
-nullable_in : (levels : ℕ) (row : Row_of-TypeTree (one_more none_left)) (ms : Word) → IsNullableIn levels row ms → IsNullableType levels (inner_of row) ms
+nullable_in : (levels : ℕ) (row : Row_of-TypeRef (one_more none_left)) (ms : Word) → IsNullableIn levels row ms → IsNullableType levels (inner_of row) ms
 unfolding inner_of
-nullable_in levels (more_of-TypeTree t rest) ms h = h
+nullable_in levels (more_of-TypeRef t rest) ms h = h
 
-list_written : (levels : ℕ) (t : TypeTree) (ms : Word) → (SomeOf (OpensAt levels sign.OpenBracket) ▸ (IsType (pred levels) t ▸ SomeOf (SignAt sign.CloseBracket))) ms → IsNullableType levels (type.List t) ms
-unfolding hidden-the_row-TypeTree-0 shape-the_row-TypeTree-0 hidden
+list_written : (levels : ℕ) (t : TypeRef) (ms : Word) → (SomeOf (OpensAt levels sign.OpenBracket) ▸ (IsType (pred levels) t ▸ SomeOf (SignAt sign.CloseBracket))) ms → IsNullableType levels (type.List t) ms
+unfolding hidden-the_row-TypeRef-0 shape-the_row-TypeRef-0 hidden
 list_written levels t ms h = h
 
-non_null_written : (levels : ℕ) (t : TypeTree) (ms : Word) → (IsNullableType levels t ▸ SomeOf (SignAt sign.Bang)) ms → IsType levels (type.NonNull t) ms
-unfolding hidden-the_row-TypeTree-0 shape-the_row-TypeTree-0 hidden
+non_null_written : (levels : ℕ) (t : TypeRef) (ms : Word) → (IsNullableType levels t ▸ SomeOf (SignAt sign.Bang)) ms → IsType levels (type.NonNull t) ms
+unfolding hidden-the_row-TypeRef-0 shape-the_row-TypeRef-0 hidden
 non_null_written levels t ms h = h
 
 -- Types without a `!` at their end.
 
-abbrev IsNamedType : TypeTree → Language
-IsNamedType = Map (λ (name : NameTree). type.Named name.text) IsName
+abbrev IsNamedType : TypeRef → Language
+IsNamedType = Map (λ (name : PlacedName). type.Named name.node) IsName
 
 module _ (levels : ℕ) where
   -- what stands behind the bracket of a list type
-  abbrev ListTypeRest : TypeTree → Language
+  abbrev ListTypeRest : TypeRef → Language
   ListTypeRest = Map type.List (λ t. IsType (pred levels) t ▸ SomeOf (SignAt sign.CloseBracket))
 
-  abbrev IsListType : TypeTree → Language
+  abbrev IsListType : TypeRef → Language
   IsListType v = SomeOf (OpensAt levels sign.OpenBracket) ▸ ListTypeRest v
 
-  nullable_to : (v : TypeTree) (ms : Word) → Either IsListType IsNamedType v ms → IsNullableType levels v ms
+  nullable_to : (v : TypeRef) (ms : Word) → Either IsListType IsNamedType v ms → IsNullableType levels v ms
   nullable_to v ms (inl (x, y, e, bracket, (t, k, h))) =
       subst (λ w. IsNullableType levels w ms) (sym k) (list_written levels t ms (x, y, e, bracket, h))
   nullable_to v ms (inr (name, k, n)) = subst (λ w. IsNullableType levels w ms) (sym k) (name.pos, n)
 
-  nullable_from : (v : TypeTree) (ms : Word) → IsNullableType levels v ms → Either IsListType IsNamedType v ms
-  nullable_from (type.Named name) ms (p, n) = inr (record { text = name; pos = p }, refl, n)
+  nullable_from : (v : TypeRef) (ms : Word) → IsNullableType levels v ms → Either IsListType IsNamedType v ms
+  nullable_from (type.Named name) ms (p, n) = inr (record { pos = p; node = name }, refl, n)
   nullable_from (type.List' s row) ms (x, y, e, bracket, (a, b, h, inner, close)) =
       inl (x, y, e, bracket, (inner_of row, list_whole s row, (a, b, h, type_in (pred levels) row a inner, close)))
   nullable_from (type.NonNull' s row) ms none = absurd none
 
-  bracket_next : (v : TypeTree) (ms : Word) (rest : Tokens) → IsListType v ms → NextIs sign.OpenBracket (tokens_of ms ++ rest)
+  bracket_next : (v : TypeRef) (ms : Word) (rest : Tokens) → IsListType v ms → NextIs sign.OpenBracket (tokens_of ms ++ rest)
   bracket_next v ms rest (x, y, e, (pos, bracket), h) = joined (NextIs sign.OpenBracket) ms x y rest e (opens_next levels sign.OpenBracket pos x (tokens_of y ++ rest) bracket)
 
-  named_apart : (v : TypeTree) (ms : Word) (rest : Tokens) → IsNamedType v ms → Always rest → begins (is_sign sign.OpenBracket) (tokens_of ms ++ rest) ≡ false
+  named_apart : (v : TypeRef) (ms : Word) (rest : Tokens) → IsNamedType v ms → Always rest → begins (is_sign sign.OpenBracket) (tokens_of ms ++ rest) ≡ false
   named_apart v ms rest (name, k, n) g = (never_name (sign.OpenBracket ∷ []) (tokens_of ms ++ rest) (before_name Always name ms rest n tt)).0
 
-  named_reads : Reads (mapped (λ (name : NameTree). type.Named name.text) take_name) IsNamedType Always
-  named_reads = mapped_reads (λ (name : NameTree). type.Named name.text) take_name IsName Always name_reads
+  named_reads : Reads (mapped (λ (name : PlacedName). type.Named name.node) take_name) IsNamedType Always
+  named_reads = mapped_reads (λ (name : PlacedName). type.Named name.node) take_name IsName Always name_reads
 
-  nullable_reads : (list : Reader TypeTree) → Reads list IsListType Always → Reads (bare_type_by list) (IsNullableType levels) Always
+  nullable_reads : (list : Reader TypeRef) → Reads list IsListType Always → Reads (bare_type_by list) (IsNullableType levels) Always
   nullable_reads list lists =
       convert (bare_type_by list) (Either IsListType IsNamedType) (IsNullableType levels) Always Always
-      (choice (is_sign sign.OpenBracket) list (mapped (λ (name : NameTree). type.Named name.text) take_name) IsListType IsNamedType Always Always Always lists named_reads bracket_next named_apart (λ rest g. g) (λ rest g. g))
+      (choice (is_sign sign.OpenBracket) list (mapped (λ (name : PlacedName). type.Named name.node) take_name) IsListType IsNamedType Always Always Always lists named_reads bracket_next named_apart (λ rest g. g) (λ rest g. g))
       nullable_to nullable_from (λ rest g. g)
 
   -- A `!` behind it.
 
-  abbrev Behind : TypeTree → TypeTree → Language
+  abbrev Behind : TypeRef → TypeRef → Language
   Behind t = Either (Map (λ _. type.NonNull t) (SignAt sign.Bang)) (Pure t)
 
-  behind_reads : (t : TypeTree) → Reads (null_or_not t) (Behind t) (Never (sign.Bang ∷ []))
+  behind_reads : (t : TypeRef) → Reads (null_or_not t) (Behind t) (Never (sign.Bang ∷ []))
   behind_reads t =
       choice (is_sign sign.Bang) (mapped (λ _. type.NonNull t) (take_sign sign.Bang)) (gives t) (Map (λ _. type.NonNull t) (SignAt sign.Bang)) (Pure t) Always (Never (sign.Bang ∷ [])) (Never (sign.Bang ∷ []))
       (mapped_reads (λ _. type.NonNull t) (take_sign sign.Bang) (SignAt sign.Bang) Always (sign_reads sign.Bang)) (gives_any t (Never (sign.Bang ∷ [])))
       (λ v ms rest (pos, k, bang). sign_next sign.Bang Always pos ms rest bang tt)
       (λ v ms rest (k, nil) g. subst (λ w. begins (is_sign sign.Bang) (tokens_of w ++ rest) ≡ false) (sym nil) g.0) (λ rest g. tt) (λ rest g. g)
 
-  nullable_is : (v : TypeTree) (ms : Word) → IsNullableType levels v ms → IsType levels v ms
+  nullable_is : (v : TypeRef) (ms : Word) → IsNullableType levels v ms → IsType levels v ms
   nullable_is (type.Named name) ms h = h
   nullable_is (type.List' s row) ms h = h
   nullable_is (type.NonNull' s row) ms none = absurd none
 
-  type_to : (v : TypeTree) (ms : Word) → Seq (IsNullableType levels) Behind v ms → IsType levels v ms
+  type_to : (v : TypeRef) (ms : Word) → Seq (IsNullableType levels) Behind v ms → IsType levels v ms
   type_to v ms (t, x, y, e, h, inl (pos, k, bang)) =
       subst (λ w. IsType levels w ms) (sym k) (non_null_written levels t ms (x, y, e, h, (pos, bang)))
   type_to v ms (t, x, y, e, h, inr (k, nil)) =
       subst (λ w. IsType levels w ms) (sym k) (nullable_is t ms (subst (IsNullableType levels t) (sym (append-nil x) ∙ ap (λ w. x ++ w) (sym nil) ∙ sym e) h))
 
-  type_from : (v : TypeTree) (ms : Word) → IsType levels v ms → Seq (IsNullableType levels) Behind v ms
+  type_from : (v : TypeRef) (ms : Word) → IsType levels v ms → Seq (IsNullableType levels) Behind v ms
   type_from (type.Named name) ms h = (type.Named name, ms, [], sym (append-nil ms), h, inr (refl, refl))
   type_from (type.List' s row) ms h = (type.List' s row, ms, [], sym (append-nil ms), h, inr (refl, refl))
   type_from (type.NonNull' s row) ms (x, y, e, h, (pos, bang)) =
       (inner_of row, x, y, e, nullable_in levels row x h, inl (pos, non_null_whole s row, bang))
 
-  types_by : (list : Reader TypeTree) → Reads list IsListType Always → Reads (bare_type_by list then null_or_not) (IsType levels) (Never (sign.Bang ∷ []))
+  types_by : (list : Reader TypeRef) → Reads list IsListType Always → Reads (bare_type_by list then null_or_not) (IsType levels) (Never (sign.Bang ∷ []))
   types_by list lists =
       convert (bare_type_by list then null_or_not) (Seq (IsNullableType levels) Behind) (IsType levels) (Never (sign.Bang ∷ [])) (Never (sign.Bang ∷ []))
       (seq (bare_type_by list) (IsNullableType levels) null_or_not Behind Always (Never (sign.Bang ∷ [])) (nullable_reads list lists) behind_reads (λ a v y rest q g. tt))
@@ -146,7 +145,7 @@ type_reads (suc n) = types_by (suc n) (list_type_by (type_at n)) (list_type_read
 abbrev type_start : Tokens → Type 0
 type_start ts = begins (other_than sign.CloseBracket) ts ≡ true
 
-nullable_starts : (levels : ℕ) (v : TypeTree) (ms : Word) (rest : Tokens) → IsNullableType levels v ms → type_start (tokens_of ms ++ rest)
+nullable_starts : (levels : ℕ) (v : TypeRef) (ms : Word) (rest : Tokens) → IsNullableType levels v ms → type_start (tokens_of ms ++ rest)
 nullable_starts levels v ms rest h = first (nullable_from levels v ms h)
   where
     first : Either (IsListType levels) IsNamedType v ms → type_start (tokens_of ms ++ rest)
@@ -163,7 +162,7 @@ unfolding placed_type
 placed_type_reads =
     convert placed_type (PlacedBy make (IsType max_levels)) IsPlacedType (Never (sign.Bang ∷ [])) (Never (sign.Bang ∷ []))
     (placed_reads make (other_than sign.CloseBracket) (type_at max_levels) (IsType max_levels) (type_starts max_levels) (Never (sign.Bang ∷ [])) (type_reads max_levels))
-    (λ v ms (p, a, k, d, first). subst (λ w. IsPlacedType w ms) (sym k) (d, first)) (λ v ms (d, first). (v.pos, v.ty, refl, d, first)) (λ rest g. g)
+    (λ v ms (p, a, k, d, first). subst (λ w. IsPlacedType w ms) (sym k) (d, first)) (λ v ms (d, first). (v.pos, v.node, refl, d, first)) (λ rest g. g)
   where
-    make : Pos → TypeTree → PlacedType
-    make = λ pos ty. record { pos = pos; ty = ty }
+    make : Pos → TypeRef → PlacedType
+    make = λ pos ty. record { pos = pos; node = ty }

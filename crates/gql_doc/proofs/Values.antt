@@ -9,7 +9,6 @@ use denote.Enum.Bare.{sameb}
 use Rattle.gql_tokens.specs.declared.token.Punctuator.TheVariants as sign
 use Rattle.gql_doc.specs.declared.tree.Variables.{Variables}
 use Rattle.gql_doc.specs.declared.tree.Variables.TheVariants.{Allowed, Forbidden}
-use Rattle.gql_doc.specs.declared.tree.NameTree.{NameTree}
 use Rattle.gql_doc.specs.declared.tree.ValueTree.{ValueTree, Variable, Number, String, Boolean, Null, Enum, List as ListValue, List', Object, Object', Row_of-ValueTree, end_of-ValueTree, more_of-ValueTree, items-the_row-ValueTree, items_hidden-the_row-ValueTree-0, items_shown-the_row-ValueTree-0, Row_of-MemberTree, end_of-MemberTree, more_of-MemberTree, items-the_row-MemberTree, items_hidden-the_row-MemberTree-1, items_shown-the_row-MemberTree-1, out-ValueTree, roll-ValueTree, roll-out-ValueTree}
 use Rattle.gql_doc.specs.declared.tree.ValueTree.TheBlock.{hidden-the_row-ValueTree-0, hidden-the_row-MemberTree-1}
 use Rattle.gql_doc.specs.declared.tree.ValueTree.TheViews.{rolls-List, rolls-Object}
@@ -24,6 +23,7 @@ use Rattle.gql_doc.proofs.Readers.{Reads, Always, Seq, Map, Either, SomeOf, Some
 use Rattle.gql_doc.proofs.Tokens.{start, sign_reads, name_reads, scalar_reads, IsScalar}
 use Rattle.gql_doc.proofs.Follows.{NextIs, joined, before_one, before_name, opens_next, sign_next, none_is, other_sign, name_is_other, other_is}
 use Rattle.gql_doc.proofs.Deep.{deep_past_reads}
+use Rattle.gql_doc.specs.Words.{PlacedName}
 
 -- A row of values is written as the list of its items.
 
@@ -67,7 +67,7 @@ module _ (variables : Variables) (levels : ℕ) where
   IsObjectValue v = SomeOf (OpensAt levels sign.OpenBrace) ▸ ObjectRest v
 
 abbrev IsVariableValue : ValueTree → Language
-IsVariableValue v = SomeOf (SignAt sign.Dollar) ▸ Map (λ (name : NameTree). Variable name.text) IsName v
+IsVariableValue v = SomeOf (SignAt sign.Dollar) ▸ Map (λ (name : PlacedName). Variable name.node) IsName v
 
 abbrev IsPlainValue : Variables → ValueTree → Language
 IsPlainValue Allowed = Either IsVariableValue IsScalar
@@ -121,7 +121,7 @@ scalar_from Forbidden v ms h = h
 
 value_from : (variables : Variables) (levels : ℕ) (v : ValueTree) (ms : Word) → IsValue variables levels v ms → IsAnyValue variables levels v ms
 value_from variables levels (Variable name) ms (may, (x, y, e, dollar, (p, n))) =
-    inr (inr (variable_from variables name ms may (x, y, e, dollar, (record { text = name; pos = p }, refl, n))))
+    inr (inr (variable_from variables name ms may (x, y, e, dollar, (record { pos = p; node = name }, refl, n))))
 value_from variables levels (Number number) ms h = inr (inr (scalar_from variables (Number number) ms h))
 value_from variables levels (String text) ms h = inr (inr (scalar_from variables (String text) ms h))
 value_from variables levels (Boolean holds) ms h = inr (inr (scalar_from variables (Boolean holds) ms h))
@@ -189,8 +189,8 @@ object_reads variables n reads =
 
 variable_reads : Reads variable_value IsVariableValue Always
 variable_reads =
-    past_reads (take_sign sign.Dollar) (SignAt sign.Dollar) (mapped (λ (name : NameTree). Variable name.text) take_name) (Map (λ (name : NameTree). Variable name.text) IsName) Always Always
-    (sign_reads sign.Dollar) (mapped_reads (λ (name : NameTree). Variable name.text) take_name IsName Always name_reads) (λ v y rest q g. tt)
+    past_reads (take_sign sign.Dollar) (SignAt sign.Dollar) (mapped (λ (name : PlacedName). Variable name.node) take_name) (Map (λ (name : PlacedName). Variable name.node) IsName) Always Always
+    (sign_reads sign.Dollar) (mapped_reads (λ (name : PlacedName). Variable name.node) take_name IsName Always name_reads) (λ v y rest q g. tt)
 
 -- a scalar begins with no sign
 scalar_apart : (s : Punctuator) → Apart (is_sign s) IsScalar Always

@@ -3,9 +3,6 @@ use Rattle.std.proofs.Common.{◌≡◌, Bool, true, false, List, [], ◌∷◌,
 use Rattle.gql_base.specs.declared.pos.Pos.{Pos}
 use Rattle.gql_tokens.specs.declared.token.Punctuator.TheVariants as sign
 use Rattle.gql_doc.specs.declared.tree.Variables.TheVariants.{Forbidden}
-use Rattle.gql_doc.specs.declared.tree.NameTree.{NameTree}
-use Rattle.gql_doc.specs.declared.tree.PlacedValue.{PlacedValue}
-use Rattle.gql_doc.specs.declared.tree.PlacedType.{PlacedType}
 use Rattle.gql_doc.specs.declared.tree.DirectiveTree.{DirectiveTree}
 use Rattle.gql_doc.specs.declared.tree.VariableTree.{VariableTree}
 use Rattle.gql_doc.specs.Words.{Tokens, Word, Language, tokens_of, ◌▸◌, Maybe, SignAt}
@@ -17,6 +14,7 @@ use Rattle.gql_doc.proofs.Tokens.{sign_reads, name_reads}
 use Rattle.gql_doc.proofs.Follows.{NextIs, Never, Before, joined, never_next, none_is, sign_next, before_seq, before_map, before_maybe}
 use Rattle.gql_doc.proofs.Arguments.{placed_value_reads, directives_reads, before_directives, in_parentheses_reads}
 use Rattle.gql_doc.proofs.Types.{placed_type_reads}
+use Rattle.gql_doc.specs.Words.{PlacedName, PlacedType, PlacedValue}
 
 equals_next : (v : PlacedValue) (ms : Word) (rest : Tokens) → IsDefault v ms → NextIs sign.Equals (tokens_of ms ++ rest)
 equals_next v ms rest (x, y, e, (pos, equals), h) = joined (NextIs sign.Equals) ms x y rest e (sign_next sign.Equals Always pos x (tokens_of y ++ rest) equals tt)
@@ -31,10 +29,10 @@ default_reads =
 abbrev AfterVariable : Tokens → Type 0
 AfterVariable = Never (sign.Bang ∷ sign.Equals ∷ sign.At ∷ sign.OpenParen ∷ [])
 
-abbrev make : Pos → NameTree → PlacedType → Option PlacedValue → List DirectiveTree → VariableTree
+abbrev make : Pos → PlacedName → PlacedType → Option PlacedValue → List DirectiveTree → VariableTree
 make pos name ty default directives = record { pos = pos; name = name; ty = ty; default = default; directives = directives }
 
-module _ (pos : Pos) (name : NameTree) where
+module _ (pos : Pos) (name : PlacedName) where
   abbrev BehindDefault : PlacedType → Option PlacedValue → VariableTree → Language
   BehindDefault ty default = Map (make pos name ty default) (AreDirectives Forbidden)
 

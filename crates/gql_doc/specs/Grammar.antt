@@ -10,15 +10,12 @@ use Rattle.gql_doc.specs.declared.document.OperationType.{OperationType}
 use Rattle.gql_doc.specs.declared.document.OperationType.TheVariants.{Query, Mutation, Subscription}
 use Rattle.gql_doc.specs.declared.tree.Variables.{Variables}
 use Rattle.gql_doc.specs.declared.tree.Variables.TheVariants.{Allowed, Forbidden}
-use Rattle.gql_doc.specs.declared.tree.NameTree.{NameTree}
 use Rattle.gql_doc.specs.declared.tree.ValueTree.{ValueTree, Variable, Number, String, Boolean, Null, Enum, List', Object', Row_of-ValueTree, end_of-ValueTree, more_of-ValueTree, Row_of-MemberTree, end_of-MemberTree, more_of-MemberTree}
 use Rattle.gql_doc.specs.declared.tree.MemberTree.{MemberTree}
-use Rattle.gql_doc.specs.declared.tree.PlacedValue.{PlacedValue}
 use Rattle.gql_doc.specs.declared.tree.ArgumentTree.{ArgumentTree}
 use Rattle.gql_doc.specs.declared.tree.DirectiveTree.{DirectiveTree}
-use Rattle.gql_doc.specs.declared.tree.TypeTree as type
-use Rattle.gql_doc.specs.declared.tree.TypeTree.{TypeTree, Row_of-TypeTree, end_of-TypeTree, more_of-TypeTree}
-use Rattle.gql_doc.specs.declared.tree.PlacedType.{PlacedType}
+use Rattle.gql_base.specs.declared.type_ref.TypeRef as type
+use Rattle.gql_base.specs.declared.type_ref.TypeRef.{TypeRef, Row_of-TypeRef, end_of-TypeRef, more_of-TypeRef}
 use Rattle.gql_doc.specs.declared.tree.VariableTree.{VariableTree}
 use Rattle.gql_doc.specs.declared.tree.SelectionTree.{SelectionTree, Field', Spread, Inline', Row_of-SelectionTree, end_of-SelectionTree, more_of-SelectionTree}
 use Rattle.gql_doc.specs.declared.tree.SetTree.{SetTree}
@@ -27,14 +24,15 @@ use Rattle.gql_doc.specs.declared.tree.FragmentTree.{FragmentTree}
 use Rattle.gql_doc.specs.declared.tree.DefinitionTree.{DefinitionTree}
 use Rattle.gql_doc.specs.declared.tree.DefinitionTree.TheVariants.{Operation, Fragment}
 use Rattle.gql_doc.specs.Words.{Word, Language, Nothing, ◌▸◌, Each, Maybe, One, Sign, SignAt, Keyword, KeywordAt, OneAt, Opens, OpensAt, Placed}
+use Rattle.gql_doc.specs.Words.{PlacedName, PlacedType, PlacedValue}
 
 -- levels of nesting that a text may have, of each kind
 abbrev pub max_levels : ℕ
 max_levels = 64
 
 -- Name (section 2.1.9)
-abbrev pub IsName : NameTree → Language
-IsName name = OneAt (lexeme.Name name.text) name.pos
+abbrev pub IsName : PlacedName → Language
+IsName name = OneAt (lexeme.Name name.node) name.pos
 
 -- the name of an enum's item is none of these three (section 2.9.6)
 abbrev pub IsEnumName : List ℕ → Type 0
@@ -75,7 +73,7 @@ IsMember variables levels member = IsName member.name ▸ (Sign sign.Colon ▸ I
 
 -- a value of an argument, a default or a directive's argument, which begins its own levels
 abbrev pub IsPlacedValue : Variables → PlacedValue → Language
-IsPlacedValue variables placed = Placed placed.pos (IsValue variables max_levels placed.value)
+IsPlacedValue variables placed = Placed placed.pos (IsValue variables max_levels placed.node)
 
 -- Argument (section 2.6)
 abbrev pub IsArgument : Variables → ArgumentTree → Language
@@ -101,27 +99,27 @@ AreDirectives variables = Each (IsDirective variables)
 
 -- Type (section 2.11): the type in a box is the one type of its row, and a `!` stands behind a type that has none
 abbrev mutual
-  pub IsType : ℕ → TypeTree → Language
+  pub IsType : ℕ → TypeRef → Language
   IsType levels (type.Named name) = One (lexeme.Name name)
   IsType levels (type.List' _ inner) = Opens levels sign.OpenBracket ▸ (IsTypeIn (pred levels) inner ▸ Sign sign.CloseBracket)
   IsType levels (type.NonNull' _ inner) = IsNullableIn levels inner ▸ Sign sign.Bang
 
-  pub IsNullableType : ℕ → TypeTree → Language
+  pub IsNullableType : ℕ → TypeRef → Language
   IsNullableType levels (type.Named name) = One (lexeme.Name name)
   IsNullableType levels (type.List' _ inner) =
       Opens levels sign.OpenBracket ▸ (IsTypeIn (pred levels) inner ▸ Sign sign.CloseBracket)
   IsNullableType levels (type.NonNull' _ inner) = λ _. ⊥
 
-  pub IsTypeIn : ℕ → {m : Count} → Row_of-TypeTree m → Language
-  IsTypeIn levels end_of-TypeTree = λ _. ⊥
-  IsTypeIn levels (more_of-TypeTree inner _) = IsType levels inner
+  pub IsTypeIn : ℕ → {m : Count} → Row_of-TypeRef m → Language
+  IsTypeIn levels end_of-TypeRef = λ _. ⊥
+  IsTypeIn levels (more_of-TypeRef inner _) = IsType levels inner
 
-  pub IsNullableIn : ℕ → {m : Count} → Row_of-TypeTree m → Language
-  IsNullableIn levels end_of-TypeTree = λ _. ⊥
-  IsNullableIn levels (more_of-TypeTree inner _) = IsNullableType levels inner
+  pub IsNullableIn : ℕ → {m : Count} → Row_of-TypeRef m → Language
+  IsNullableIn levels end_of-TypeRef = λ _. ⊥
+  IsNullableIn levels (more_of-TypeRef inner _) = IsNullableType levels inner
 
 abbrev pub IsPlacedType : PlacedType → Language
-IsPlacedType placed = Placed placed.pos (IsType max_levels placed.ty)
+IsPlacedType placed = Placed placed.pos (IsType max_levels placed.node)
 
 -- DefaultValue (section 2.10)
 abbrev pub IsDefault : PlacedValue → Language
@@ -139,20 +137,20 @@ abbrev pub AreVariables : List VariableTree → Language
 AreVariables = InParentheses IsVariable
 
 -- FragmentName (section 2.8)
-abbrev pub IsFragmentName : NameTree → Language
-IsFragmentName name ms = (name.text ≢ codes "on") × IsName name ms
+abbrev pub IsFragmentName : PlacedName → Language
+IsFragmentName name ms = (name.node ≢ codes "on") × IsName name ms
 
 -- TypeCondition (section 2.8)
-abbrev pub IsCondition : NameTree → Language
+abbrev pub IsCondition : PlacedName → Language
 IsCondition name = Keyword (codes "on") ▸ IsName name
 
 -- an alias, and the name of the field (section 2.7)
-abbrev pub IsHead : Option NameTree → NameTree → Language
+abbrev pub IsHead : Option PlacedName → PlacedName → Language
 IsHead None name = IsName name
 IsHead (Some alias) name = IsName alias ▸ (Sign sign.Colon ▸ IsName name)
 
 -- the place of a field: its first token's
-abbrev pub head_pos : Option NameTree → NameTree → Pos
+abbrev pub head_pos : Option PlacedName → PlacedName → Pos
 head_pos None name = name.pos
 head_pos (Some alias) name = alias.pos
 
@@ -235,5 +233,5 @@ abbrev pub IsDocument : List DefinitionTree → Language
 IsDocument definitions ms = IsNonEmpty definitions × (Each IsDefinition definitions ▸ One lexeme.End) ms
 
 -- a type, and then the end of the text
-abbrev pub IsTypeText : TypeTree → Language
+abbrev pub IsTypeText : TypeRef → Language
 IsTypeText type = IsType max_levels type ▸ One lexeme.End

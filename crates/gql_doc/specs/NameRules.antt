@@ -5,8 +5,6 @@ use Rattle.std.specs.List.{list_any}
 use Rattle.std.specs.Cmp.Lexicographic.{pointwise}
 use mathlib.Core.Former.{Count}
 use Rattle.gql_base.specs.declared.pos.Pos.{Pos}
-use Rattle.gql_doc.specs.declared.tree.NameTree.{NameTree}
-use Rattle.gql_doc.specs.declared.tree.PlacedValue.{PlacedValue}
 use Rattle.gql_doc.specs.declared.tree.SetTree.{SetTree}
 use Rattle.gql_doc.specs.declared.tree.ValueTree.{ValueTree, List', Object', Row_of-ValueTree, end_of-ValueTree, more_of-ValueTree, Row_of-MemberTree, end_of-MemberTree, more_of-MemberTree}
 use Rattle.gql_doc.specs.declared.tree.ArgumentTree.{ArgumentTree}
@@ -17,6 +15,7 @@ use Rattle.gql_doc.specs.declared.tree.OperationTree.{OperationTree}
 use Rattle.gql_doc.specs.declared.tree.FragmentTree.{FragmentTree}
 use Rattle.gql_doc.specs.declared.tree.DefinitionTree.{DefinitionTree}
 use Rattle.gql_doc.specs.declared.tree.DefinitionTree.TheVariants.{Operation, Fragment}
+use Rattle.gql_doc.specs.Words.{PlacedName, PlacedValue}
 
 -- the one, or else the other
 abbrev pub first_of : Option Pos → Option Pos → Option Pos
@@ -39,7 +38,7 @@ operations (Operation operation ∷ definitions) = operation ∷ operations defi
 operations (Fragment fragment ∷ definitions) = operations definitions
 
 -- the place of an operation that has no name
-abbrev pub if_unnamed : Option NameTree → Pos → Option Pos
+abbrev pub if_unnamed : Option PlacedName → Pos → Option Pos
 if_unnamed None pos = Some pos
 if_unnamed (Some name) pos = None
 
@@ -73,18 +72,18 @@ abbrev mutual
   pub doubled_in_members : List (List ℕ) → {m : Count} → Row_of-MemberTree m → Option Pos
   doubled_in_members names end_of-MemberTree = None
   doubled_in_members names (more_of-MemberTree name value members) =
-      if is_among name.text names then Some name.pos
-      else first_of (doubled_in_value value) (doubled_in_members (name.text ∷ names) members)
+      if is_among name.node names then Some name.pos
+      else first_of (doubled_in_value value) (doubled_in_members (name.node ∷ names) members)
 
 abbrev pub doubled_in_arguments : List ArgumentTree → Option Pos
-doubled_in_arguments = first_in (λ argument. doubled_in_value argument.value.value)
+doubled_in_arguments = first_in (λ argument. doubled_in_value argument.value.node)
 
 abbrev pub doubled_in_directives : List DirectiveTree → Option Pos
 doubled_in_directives = first_in (λ directive. doubled_in_arguments directive.arguments)
 
 abbrev pub doubled_in_default : Option PlacedValue → Option Pos
 doubled_in_default None = None
-doubled_in_default (Some default) = doubled_in_value default.value
+doubled_in_default (Some default) = doubled_in_value default.node
 
 abbrev pub doubled_in_variable : VariableTree → Option Pos
 doubled_in_variable variable = first_of (doubled_in_default variable.default) (doubled_in_directives variable.directives)
@@ -114,14 +113,14 @@ abbrev pub doubled_in_fragment : FragmentTree → Option Pos
 doubled_in_fragment fragment = first_of (doubled_in_directives fragment.directives) (doubled_in_set fragment.set)
 
 -- the names with that of one more definition, where it has one
-abbrev pub with_name : Option NameTree → List (List ℕ) → List (List ℕ)
+abbrev pub with_name : Option PlacedName → List (List ℕ) → List (List ℕ)
 with_name None names = names
-with_name (Some name) names = name.text ∷ names
+with_name (Some name) names = name.node ∷ names
 
 -- the place of a definition whose name is among those before
-abbrev pub if_among : Option NameTree → List (List ℕ) → Pos → Option Pos
+abbrev pub if_among : Option PlacedName → List (List ℕ) → Pos → Option Pos
 if_among None names pos = None
-if_among (Some name) names pos = if is_among name.text names then Some pos else None
+if_among (Some name) names pos = if is_among name.node names then Some pos else None
 
 -- The second definition of a name, or the second name in an object value: the first such in a document. `queries` are
 -- the names of the operations before, and `fragments` those of the fragments before.
@@ -134,7 +133,7 @@ doubled_among queries fragments (Operation operation ∷ definitions) =
 doubled_among queries fragments (Fragment fragment ∷ definitions) =
     first_of (if_among (Some fragment.name) fragments fragment.pos)
     (first_of (doubled_in_fragment fragment)
-    (doubled_among queries (fragment.name.text ∷ fragments) definitions))
+    (doubled_among queries (fragment.name.node ∷ fragments) definitions))
 
 abbrev pub doubled_name : List DefinitionTree → Option Pos
 doubled_name = doubled_among [] []

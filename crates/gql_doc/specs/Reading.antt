@@ -13,15 +13,12 @@ use Rattle.gql_doc.specs.declared.document.OperationType.{OperationType}
 use Rattle.gql_doc.specs.declared.document.OperationType.TheVariants.{Query, Mutation, Subscription}
 use Rattle.gql_doc.specs.declared.tree.Variables.{Variables}
 use Rattle.gql_doc.specs.declared.tree.Variables.TheVariants.{Allowed, Forbidden}
-use Rattle.gql_doc.specs.declared.tree.NameTree.{NameTree}
 use Rattle.gql_doc.specs.declared.tree.ValueTree.{ValueTree, Variable, Number, String, Boolean, Null, Enum, List as ListValue, Object}
 use Rattle.gql_doc.specs.declared.tree.MemberTree.{MemberTree}
-use Rattle.gql_doc.specs.declared.tree.PlacedValue.{PlacedValue}
 use Rattle.gql_doc.specs.declared.tree.ArgumentTree.{ArgumentTree}
 use Rattle.gql_doc.specs.declared.tree.DirectiveTree.{DirectiveTree}
-use Rattle.gql_doc.specs.declared.tree.TypeTree as type
-use Rattle.gql_doc.specs.declared.tree.TypeTree.{TypeTree}
-use Rattle.gql_doc.specs.declared.tree.PlacedType.{PlacedType}
+use Rattle.gql_base.specs.declared.type_ref.TypeRef as type
+use Rattle.gql_base.specs.declared.type_ref.TypeRef.{TypeRef}
 use Rattle.gql_doc.specs.declared.tree.VariableTree.{VariableTree}
 use Rattle.gql_doc.specs.declared.tree.SelectionTree.{SelectionTree, Field, Spread, Inline}
 use Rattle.gql_doc.specs.declared.tree.SetTree.{SetTree}
@@ -39,6 +36,7 @@ use Rattle.gql_doc.specs.Words.{Tokens}
 use Rattle.gql_doc.specs.Spelling.{kind_of}
 use Rattle.gql_doc.specs.Grammar.{max_levels, head_pos}
 use Rattle.gql_doc.specs.Readers.{Reader, ◌then◌, gives, mapped, past, ended, take_one, branch, many, some, optional, place_of, placed, too_deep}
+use Rattle.gql_doc.specs.Words.{PlacedName, PlacedType, PlacedValue}
 
 -- Tests of a token.
 
@@ -85,12 +83,12 @@ abbrev pub if_so : {A : Type 0} → Bool → A → Option A
 if_so true a = Some a
 if_so false a = None
 
-abbrev pub name_in : Lexeme → Pos → Option NameTree
-name_in (lexeme.Name text) pos = Some (record { text = text; pos = pos })
+abbrev pub name_in : Lexeme → Pos → Option PlacedName
+name_in (lexeme.Name text) pos = Some (record { pos = pos; node = text })
 name_in _ pos = None
 
-abbrev pub fragment_name_in : Lexeme → Pos → Option NameTree
-fragment_name_in (lexeme.Name text) pos = if_so (not (same_text text (codes "on"))) (record { text = text; pos = pos })
+abbrev pub fragment_name_in : Lexeme → Pos → Option PlacedName
+fragment_name_in (lexeme.Name text) pos = if_so (not (same_text text (codes "on"))) (record { pos = pos; node = text })
 fragment_name_in _ pos = None
 
 abbrev pub named_value : List ℕ → ValueTree
@@ -127,10 +125,10 @@ take_sign sign = take_one (λ token. if_so (is_sign sign token) token.pos)
 unfoldable pub take_word : List ℕ → Reader Pos
 take_word text = take_one (λ token. if_so (is_word text token) token.pos)
 
-unfoldable pub take_name : Reader NameTree
+unfoldable pub take_name : Reader PlacedName
 take_name = take_one (λ token. name_in token.lexeme token.pos)
 
-unfoldable pub take_fragment_name : Reader NameTree
+unfoldable pub take_fragment_name : Reader PlacedName
 take_fragment_name = take_one (λ token. fragment_name_in token.lexeme token.pos)
 
 unfoldable pub take_scalar : Reader ValueTree
@@ -145,7 +143,7 @@ take_end = take_one (λ token. if_so (says_end token.lexeme) token.pos)
 -- Values (section 2.9).
 
 abbrev pub variable_value : Reader ValueTree
-variable_value = past (take_sign sign.Dollar) (mapped (λ name. Variable name.text) take_name)
+variable_value = past (take_sign sign.Dollar) (mapped (λ name. Variable name.node) take_name)
 
 abbrev pub list_by : Reader ValueTree → Reader ValueTree
 list_by value =
@@ -178,7 +176,7 @@ value_at variables (suc n) tokens =
     value_by variables (list_by (value_at variables n)) (object_by (value_at variables n)) tokens
 
 unfoldable pub placed_value : Variables → Reader PlacedValue
-placed_value variables = placed (λ pos value. record { pos = pos; value = value }) (value_at variables max_levels)
+placed_value variables = placed (λ pos value. record { pos = pos; node = value }) (value_at variables max_levels)
 
 -- Arguments (section 2.6) and directives (section 2.12).
 
@@ -207,22 +205,22 @@ directives variables = many (is_sign sign.At) (directive variables)
 
 -- Types (section 2.11).
 
-abbrev pub bare_type_by : Reader TypeTree → Reader TypeTree
-bare_type_by list = branch (is_sign sign.OpenBracket) list (mapped (λ name. type.Named name.text) take_name)
+abbrev pub bare_type_by : Reader TypeRef → Reader TypeRef
+bare_type_by list = branch (is_sign sign.OpenBracket) list (mapped (λ name. type.Named name.node) take_name)
 
-abbrev pub list_type_by : Reader TypeTree → Reader TypeTree
+abbrev pub list_type_by : Reader TypeRef → Reader TypeRef
 list_type_by inner = past (take_sign sign.OpenBracket) (mapped type.List (ended inner (take_sign sign.CloseBracket)))
 
 -- a type, or one that is not null where a `!` follows
-abbrev pub null_or_not : TypeTree → Reader TypeTree
+abbrev pub null_or_not : TypeRef → Reader TypeRef
 null_or_not bare = branch (is_sign sign.Bang) (mapped (λ _. type.NonNull bare) (take_sign sign.Bang)) (gives bare)
 
-unfoldable pub type_at : ℕ → Reader TypeTree
+unfoldable pub type_at : ℕ → Reader TypeRef
 type_at zero tokens = (bare_type_by (too_deep (is_sign sign.OpenBracket)) then null_or_not) tokens
 type_at (suc n) tokens = (bare_type_by (list_type_by (type_at n)) then null_or_not) tokens
 
 unfoldable pub placed_type : Reader PlacedType
-placed_type = placed (λ pos ty. record { pos = pos; ty = ty }) (type_at max_levels)
+placed_type = placed (λ pos ty. record { pos = pos; node = ty }) (type_at max_levels)
 
 -- Definitions of variables (section 2.10).
 
@@ -243,12 +241,12 @@ variables = in_parentheses variable
 -- Selections (sections 2.4, 2.5, 2.7 and 2.8).
 
 -- an alias and the name
-unfoldable pub head : Reader (Option NameTree × NameTree)
+unfoldable pub head : Reader (Option PlacedName × PlacedName)
 head =
     take_name
     then (λ first. branch (is_sign sign.Colon) (past (take_sign sign.Colon) (mapped (λ name. (Some first, name)) take_name)) (gives (None, first)))
 
-unfoldable pub condition : Reader NameTree
+unfoldable pub condition : Reader PlacedName
 condition = past (take_word (codes "on")) take_name
 
 abbrev pub set_or_none : Pos → Reader SetTree → Reader SetTree
@@ -319,7 +317,7 @@ definition = branch (is_sign sign.OpenBrace) shorthand (branch (is_word (codes "
 unfoldable pub document : Reader (List DefinitionTree)
 document = ended (some before_end definition) take_end
 
-unfoldable pub type_text : Reader TypeTree
+unfoldable pub type_text : Reader TypeRef
 type_text = ended (type_at max_levels) take_end
 
 -- Faults.

@@ -3,6 +3,10 @@
 -- no token of it is marked.
 use Rattle.std.specs.Prelude.{◌≡◌, ℕ, zero, suc, Bool, true, false, List, [], ◌∷◌, ◌++◌, Option, Some, None}
 use Rattle.gql_base.specs.declared.pos.Pos.{Pos}
+use Rattle.gql_base.specs.declared.name.Name.{Name}
+use Rattle.gql_base.specs.declared.type_ref.TypeRef.{TypeRef}
+use Rattle.gql_doc.specs.declared.document.Positioned.{Positioned}
+use Rattle.gql_doc.specs.declared.tree.ValueTree.{ValueTree}
 use Rattle.gql_tokens.specs.declared.token.Token.{Token}
 use Rattle.gql_tokens.specs.declared.token.Lexeme.{Lexeme}
 use Rattle.gql_tokens.specs.declared.token.Lexeme.TheVariants as lexeme
@@ -12,6 +16,16 @@ use Rattle.gql_tokens.specs.Token.{is_final}
 infixr 6 ◌▸◌
 abbrev pub Tokens : Type 0
 Tokens = List Token
+
+-- a name, a value and a type with their places
+abbrev pub PlacedName : Type 0
+PlacedName = Positioned Name
+
+abbrev pub PlacedValue : Type 0
+PlacedValue = Positioned ValueTree
+
+abbrev pub PlacedType : Type 0
+PlacedType = Positioned TypeRef
 
 -- from this token on, the last is a final one, and no other is
 abbrev pub AreTokensFrom : Token → Tokens → Type 0

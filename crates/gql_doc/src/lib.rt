@@ -6,5 +6,5 @@ mod fault;
 mod tree;
 mod trouble;
 
-pub use document::OperationType;
+pub use document::{OperationType, Positioned};
 pub use fault::{ParseFault, ParseKind};

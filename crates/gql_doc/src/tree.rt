@@ -1,13 +1,6 @@
 //! The tree of a text: what is written, in its order and with its places. A name that stands twice is kept twice.
-use crate::document::OperationType;
-use gql_base::{Boxed, Items, Number, Pos, Text};
-
-/// A name and the place of its token.
-#[derive(Debug, Drop)]
-pub struct NameTree {
-    pub text: Text,
-    pub pos: Pos,
-}
+use crate::document::{OperationType, Positioned};
+use gql_base::{Items, Name, Number, Pos, Text, TypeRef};
 
 /// Whether a variable may stand in a value: in a constant, as a default, it may not.
 #[derive(Clone, Copy, PartialEq, Eq, Debug)]
@@ -20,12 +13,12 @@ pub enum Variables {
 #[cycle(value)]
 #[derive(Debug, Drop)]
 pub enum ValueTree {
-    Variable(Text),
+    Variable(Name),
     Number(Number),
     String(Text),
     Boolean(bool),
     Null,
-    Enum(Text),
+    Enum(Name),
     List(Items<ValueTree>),
     Object(Items<MemberTree>),
 }
@@ -34,54 +27,32 @@ pub enum ValueTree {
 #[cycle(value)]
 #[derive(Debug, Drop)]
 pub struct MemberTree {
-    pub name: NameTree,
-    pub value: ValueTree,
-}
-
-/// A value and the place of its first token.
-#[derive(Debug, Drop)]
-pub struct PlacedValue {
-    pub pos: Pos,
+    pub name: Positioned<Name>,
     pub value: ValueTree,
 }
 
 /// An argument (section 2.6).
 #[derive(Debug, Drop)]
 pub struct ArgumentTree {
-    pub name: NameTree,
-    pub value: PlacedValue,
+    pub name: Positioned<Name>,
+    pub value: Positioned<ValueTree>,
 }
 
 /// A directive (section 2.12) and the place of its `@`.
 #[derive(Debug, Drop)]
 pub struct DirectiveTree {
     pub pos: Pos,
-    pub name: NameTree,
+    pub name: Positioned<Name>,
     pub arguments: Items<ArgumentTree>,
-}
-
-/// A type (section 2.11). A `!` stands behind no type that has one.
-#[derive(Debug, Drop)]
-pub enum TypeTree {
-    Named(Text),
-    List(Boxed<TypeTree>),
-    NonNull(Boxed<TypeTree>),
-}
-
-/// A type and the place of its first token.
-#[derive(Debug, Drop)]
-pub struct PlacedType {
-    pub pos: Pos,
-    pub ty: TypeTree,
 }
 
 /// The definition of a variable (section 2.10) and the place of its `$`.
 #[derive(Debug, Drop)]
 pub struct VariableTree {
     pub pos: Pos,
-    pub name: NameTree,
-    pub ty: PlacedType,
-    pub default: Option<PlacedValue>,
+    pub name: Positioned<Name>,
+    pub ty: Positioned<TypeRef>,
+    pub default: Option<Positioned<ValueTree>>,
     pub directives: Items<DirectiveTree>,
 }
 
@@ -90,8 +61,8 @@ pub struct VariableTree {
 #[derive(Debug, Drop)]
 pub enum SelectionTree {
     Field {
-        alias: Option<NameTree>,
-        name: NameTree,
+        alias: Option<Positioned<Name>>,
+        name: Positioned<Name>,
         arguments: Items<ArgumentTree>,
         directives: Items<DirectiveTree>,
         set: Pos,
@@ -99,12 +70,12 @@ pub enum SelectionTree {
     },
     Spread {
         pos: Pos,
-        name: NameTree,
+        name: Positioned<Name>,
         directives: Items<DirectiveTree>,
     },
     Inline {
         pos: Pos,
-        condition: Option<NameTree>,
+        condition: Option<Positioned<Name>>,
         directives: Items<DirectiveTree>,
         set: Pos,
         selections: Items<SelectionTree>,
@@ -123,7 +94,7 @@ pub struct SetTree {
 pub struct OperationTree {
     pub pos: Pos,
     pub ty: OperationType,
-    pub name: Option<NameTree>,
+    pub name: Option<Positioned<Name>>,
     pub variables: Items<VariableTree>,
     pub directives: Items<DirectiveTree>,
     pub set: SetTree,
@@ -133,8 +104,8 @@ pub struct OperationTree {
 #[derive(Debug, Drop)]
 pub struct FragmentTree {
     pub pos: Pos,
-    pub name: NameTree,
-    pub condition: NameTree,
+    pub name: Positioned<Name>,
+    pub condition: Positioned<Name>,
     pub directives: Items<DirectiveTree>,
     pub set: SetTree,
 }
