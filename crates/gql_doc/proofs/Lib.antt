@@ -1,5 +1,6 @@
 pub mod Arguments
 pub mod Classify
+pub mod Cursors
 pub mod Deep
 pub mod Definitions
 pub mod Follows

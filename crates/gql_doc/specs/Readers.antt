@@ -1,10 +1,12 @@
 -- Readers: what recursive descent with one token of sight answers for the tokens that are left. A reading is a value or
 -- the trouble, with the tokens behind the value, or those from the trouble on.
-use Rattle.std.specs.Prelude.{ℕ, zero, suc, Bool, true, false, List, [], ◌∷◌, length, Option, Some, None, Result, Ok, Err}
+use Rattle.std.specs.Prelude.{◌≡◌, ℕ, zero, suc, Bool, true, false, List, [], ◌∷◌, length, Option, Some, None, Result, Ok, Err}
 use Rattle.gql_base.specs.declared.pos.Pos.{Pos}
 use Rattle.gql_tokens.specs.declared.token.Token.{Token}
 use Rattle.gql_doc.specs.declared.trouble.Trouble.{Trouble}
 use Rattle.gql_doc.specs.declared.trouble.Trouble.TheVariants.{Unexpected, TooDeep}
+use Rattle.gql_doc.specs.declared.trouble.ReadError.{ReadError}
+use Rattle.gql_doc.specs.declared.trouble.ReadError.TheVariants.{Memory, Stopped}
 use Rattle.gql_doc.specs.Words.{Tokens}
 
 infixl 5 ◌then◌
@@ -42,6 +44,16 @@ ended f g = f then (λ a. mapped (λ _. a) g)
 abbrev pub begins : (Token → Bool) → Tokens → Bool
 begins test [] = false
 begins test (token ∷ tokens) = test token
+
+-- the next token
+abbrev pub first : Tokens → Option Token
+first [] = None
+first (token ∷ tokens) = Some token
+
+-- the tokens behind the next
+abbrev pub behind_first : Tokens → Tokens
+behind_first [] = []
+behind_first (token ∷ tokens) = tokens
 
 -- takes a token that is picked
 abbrev pub picked : {A : Type 0} → Option A → Token → Reader A
@@ -90,3 +102,9 @@ placed make f tokens = mapped (make (place_of tokens)) f tokens
 -- where no level is left: an opening token is too deep
 abbrev pub too_deep : {A : Type 0} → (Token → Bool) → Reader A
 too_deep opens tokens = choose (begins opens tokens) (λ here. (Err TooDeep, here)) (λ here. (Err Unexpected, here)) tokens
+
+-- What a function returned, and the tokens that it left, are the reading; but want of memory says nothing.
+abbrev pub Leaves : {A : Type 0} → Result A ReadError → Tokens → Reading A → Type 0
+Leaves (Ok a) left reading = reading ≡ (Ok a, left)
+Leaves (Err Memory) left reading = Unit {0}
+Leaves (Err (Stopped trouble)) left reading = reading ≡ (Err trouble, left)
