@@ -70,9 +70,22 @@ is_word word token = says_word word token.lexeme
 abbrev pub is_fragment_name : Token → Bool
 is_fragment_name token = is_name token && not (is_word (codes "on") token)
 
+-- a value of one token, but a variable
+abbrev pub says_scalar : Lexeme → Bool
+says_scalar (lexeme.Number number) = true
+says_scalar (lexeme.String text) = true
+says_scalar (lexeme.Name text) = true
+says_scalar _ = false
+
+abbrev pub is_scalar : Token → Bool
+is_scalar token = says_scalar token.lexeme
+
 abbrev pub says_end : Lexeme → Bool
 says_end lexeme.End = true
 says_end _ = false
+
+abbrev pub is_end : Token → Bool
+is_end token = says_end token.lexeme
 
 abbrev pub before_end : Token → Bool
 before_end token = not (says_end token.lexeme)
@@ -113,9 +126,17 @@ abbrev pub with_pos : {A : Type 0} → Pos → Option A → Option (Pos × A)
 with_pos pos None = None
 with_pos pos (Some a) = Some (pos, a)
 
+abbrev pub operation_said : Lexeme → Option OperationType
+operation_said (lexeme.Name text) = operation_named text
+operation_said _ = None
+
 abbrev pub operation_in : Lexeme → Pos → Option (Pos × OperationType)
-operation_in (lexeme.Name text) pos = with_pos pos (operation_named text)
-operation_in _ pos = None
+operation_in says pos = with_pos pos (operation_said says)
+
+-- the kind of operation that the next token is the word of
+abbrev pub next_operation : Tokens → Option OperationType
+next_operation [] = None
+next_operation (token ∷ tokens) = operation_said token.lexeme
 
 -- Tokens.
 

@@ -2,11 +2,13 @@
 ghost use Rattle.std.specs.Prelude.{◌≡◌, [], ◌∷◌, MatchOption};
 ghost use Rattle.std.specs.Option.{option_copied};
 ghost use Rattle.gql_doc.specs.Readers.{first, behind_first, begins, place_of, Leaves};
-ghost use Rattle.gql_doc.specs.Reading.{is_sign, is_word, is_name, other_than, before_end, says_sign, says_word, says_name as name_said, says_end as end_said, take_sign as read_sign, take_word as read_word, take_name as read_name};
+ghost use Rattle.gql_doc.specs.Reading as reading;
+ghost use Rattle.gql_doc.specs.Reading.{is_sign, is_word, is_name, is_fragment_name, is_scalar, is_end, other_than, before_end, says_sign, says_word, scalar_in, named_value, next_operation as kind_next, take_sign as read_sign, take_word as read_word, take_name as read_name, take_fragment_name as read_fragment_name, take_scalar as read_scalar, take_operation as read_operation, take_end as read_end};
 
-use crate::document::Positioned;
+use crate::document::{OperationType, Positioned};
+use crate::tree::ValueTree;
 use crate::trouble::{ReadError, Trouble};
-use gql_base::{Items, Name, Pos};
+use gql_base::{Items, Name, Pos, Text};
 use gql_tokens::{Lexeme, Punctuator, Token};
 use std::marker::Model;
 
@@ -96,6 +98,46 @@ impl Cursor {
         }
     }
 
+    /// Whether a name other than `on` is next.
+    pub fn is_at_fragment_name(&self) -> bool
+        ensures { result ≡ begins is_fragment_name self.now }
+    {
+        match self.next() {
+            Some(token) => says_name(&token.lexeme) && !says_this(&token.lexeme, "on"),
+            None => false,
+        }
+    }
+
+    /// Whether a number, a string or a name is next.
+    fn is_at_scalar(&self) -> bool
+        ensures { result ≡ begins is_scalar self.now }
+    {
+        match self.next() {
+            Some(token) => says_scalar(&token.lexeme),
+            None => false,
+        }
+    }
+
+    /// Whether the end is next.
+    fn is_at_end(&self) -> bool
+        ensures { result ≡ begins is_end self.now }
+    {
+        match self.next() {
+            Some(token) => says_end(&token.lexeme),
+            None => false,
+        }
+    }
+
+    /// The kind of operation that the next token is the word of.
+    fn next_operation(&self) -> Option<OperationType>
+        ensures { result ≡ kind_next self.now }
+    {
+        match self.next() {
+            Some(token) => operation_said(&token.lexeme),
+            None => None,
+        }
+    }
+
     /// Whether there is a next token, and it isn't this sign.
     pub fn is_before(&self, sign: Punctuator) -> bool
         ensures { result ≡ begins (other_than sign) self.now }
@@ -161,6 +203,62 @@ impl Cursor {
             node: Name::from_text(text),
         })
     }
+
+    /// Takes a name other than `on`.
+    #[tactic(auto, using(crate::proofs::Cursors::fragment_name_taken, crate::proofs::Cursors::fragment_name_missed))]
+    pub fn take_fragment_name(&mut self) -> Result<Positioned<Name>, ReadError>
+        ensures { Leaves result self.new (read_fragment_name self.old) }
+    {
+        if !self.is_at_fragment_name() {
+            return Err(ReadError::Stopped(Trouble::Unexpected));
+        }
+        self.take_name()
+    }
+
+    /// Takes a value of one token, but no variable.
+    #[tactic(auto, using(crate::proofs::Cursors::scalar_missed, crate::proofs::Cursors::scalar_sure))]
+    pub fn take_scalar(&mut self) -> Result<ValueTree, ReadError>
+        ensures { Leaves result self.new (read_scalar self.old) }
+    {
+        if !self.is_at_scalar() {
+            return Err(ReadError::Stopped(Trouble::Unexpected));
+        }
+        let Some(Token { lexeme, pos: _ }) = self.pop() else {
+            unreachable!()
+        };
+        match scalar_of(lexeme) {
+            Some(value) => Ok(value),
+            None => unreachable!(),
+        }
+    }
+
+    /// Takes the word of a kind of operation, and answers its place and the kind.
+    #[tactic(auto, using(crate::proofs::Cursors::operation_taken, crate::proofs::Cursors::operation_missed))]
+    pub fn take_operation(&mut self) -> Result<(Pos, OperationType), ReadError>
+        ensures { Leaves result self.new (read_operation self.old) }
+    {
+        match self.next_operation() {
+            Some(kind) => {
+                let pos = self.pos();
+                self.skip();
+                Ok((pos, kind))
+            }
+            None => Err(ReadError::Stopped(Trouble::Unexpected)),
+        }
+    }
+
+    /// Takes the end of the text.
+    #[tactic(auto, using(crate::proofs::Cursors::end_taken, crate::proofs::Cursors::end_missed))]
+    pub fn take_end(&mut self) -> Result<Pos, ReadError>
+        ensures { Leaves result self.new (read_end self.old) }
+    {
+        if !self.is_at_end() {
+            return Err(ReadError::Stopped(Trouble::Unexpected));
+        }
+        let pos = self.pos();
+        self.skip();
+        Ok(pos)
+    }
 }
 
 /// Whether a token says this sign.
@@ -185,14 +283,76 @@ fn says_this(lexeme: &Lexeme, word: &str) -> bool
 
 /// Whether a token is a name.
 fn says_name(lexeme: &Lexeme) -> bool
-    ensures { result ≡ name_said lexeme.now }
+    ensures { result ≡ reading.says_name lexeme.now }
 {
     matches!(lexeme, Lexeme::Name(_))
 }
 
+/// Whether a token is a number, a string or a name.
+fn says_scalar(lexeme: &Lexeme) -> bool
+    ensures { result ≡ reading.says_scalar lexeme.now }
+{
+    matches!(
+        lexeme,
+        Lexeme::Number(_) | Lexeme::String(_) | Lexeme::Name(_)
+    )
+}
+
 /// Whether a token is the end.
 fn says_end(lexeme: &Lexeme) -> bool
-    ensures { result ≡ end_said lexeme.now }
+    ensures { result ≡ reading.says_end lexeme.now }
 {
     matches!(lexeme, Lexeme::End)
+}
+
+/// The value that a token is.
+fn scalar_of(lexeme: Lexeme) -> Option<ValueTree>
+    ensures { result ≡ scalar_in lexeme }
+{
+    match lexeme {
+        Lexeme::Number(number) => Some(ValueTree::Number(number)),
+        Lexeme::String(text) => Some(ValueTree::String(text)),
+        Lexeme::Name(text) => Some(value_named(text)),
+        _ => None,
+    }
+}
+
+/// The value that a name is.
+fn value_named(text: Text) -> ValueTree
+    ensures { result ≡ named_value text }
+{
+    if text.as_str() == "true" {
+        ValueTree::Boolean(true)
+    } else if text.as_str() == "false" {
+        ValueTree::Boolean(false)
+    } else if text.as_str() == "null" {
+        ValueTree::Null
+    } else {
+        ValueTree::Enum(Name::from_text(text))
+    }
+}
+
+/// The kind of operation that a token is the word of.
+fn operation_said(lexeme: &Lexeme) -> Option<OperationType>
+    ensures { result ≡ reading.operation_said lexeme.now }
+{
+    match lexeme {
+        Lexeme::Name(text) => operation_named(text.as_str()),
+        _ => None,
+    }
+}
+
+/// The kind of operation of this name.
+fn operation_named(word: &str) -> Option<OperationType>
+    ensures { result ≡ reading.operation_named word.now }
+{
+    if word == "query" {
+        Some(OperationType::Query)
+    } else if word == "mutation" {
+        Some(OperationType::Mutation)
+    } else if word == "subscription" {
+        Some(OperationType::Subscription)
+    } else {
+        None
+    }
 }
