@@ -15,8 +15,8 @@ use Rattle.gql_doc.specs.Words.{Tokens, AreTokens, AreTokensFrom, Word, Language
 use Rattle.gql_doc.specs.Spelling.{Spells, Begins, OpensTooDeep, kind_of, IsWrong, IsFault, Settles}
 use Rattle.gql_doc.specs.Readers.{Reading, Reader, place_of}
 use Rattle.gql_doc.specs.Reading.{kind_at, parsed, parsed_by}
-use Rattle.gql_doc.proofs.Readers.{Always, Explains, Ends, EndsBehind, deep_token, tokens_of-append, outcome, outcome-none_deep, outcome-deep}
-use Rattle.gql_doc.proofs.Texts.{ReadsText}
+use Rattle.gql_doc.proofs.ReaderLaws.{Always, Explains, Ends, EndsBehind, deep_token, tokens_of-append, outcome, outcome-none_deep, outcome-deep}
+use Rattle.gql_doc.proofs.TextLaws.{ReadsText}
 
 -- Lists of tokens.
 

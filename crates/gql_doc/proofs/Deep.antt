@@ -7,8 +7,8 @@ use Rattle.gql_tokens.specs.declared.token.Punctuator.{Punctuator}
 use Rattle.gql_doc.specs.Words.{Marked, Word, Language, OpensAt, ◌▸◌}
 use Rattle.gql_doc.specs.Readers.{too_deep}
 use Rattle.gql_doc.specs.Reading.{is_sign}
-use Rattle.gql_doc.proofs.Readers.{Reads, Always, Seq, SomeOf, SomeWord, deep_token, convert, too_deep_reads}
-use Rattle.gql_doc.proofs.Tokens.{start, sign_is, sign_same}
+use Rattle.gql_doc.proofs.ReaderLaws.{Reads, Always, Seq, SomeOf, SomeWord, deep_token, convert, too_deep_reads}
+use Rattle.gql_doc.proofs.TokenLaws.{start, sign_is, sign_same}
 
 opening : Punctuator → Pos → Marked
 opening sign pos = record { token = record { lexeme = lexeme.Punctuator sign; pos = pos }; deep = true }

@@ -11,8 +11,8 @@ use Rattle.gql_doc.specs.Words.{Tokens, Word, Language, tokens_of, ◌▸◌, Ea
 use Rattle.gql_doc.specs.Grammar.{IsName}
 use Rattle.gql_doc.specs.Readers.{begins}
 use Rattle.gql_doc.specs.Reading.{is_sign, says_sign, is_name, other_than}
-use Rattle.gql_doc.proofs.Readers.{Always, Pure, Seq, Map, Either, SomeOf, Starts, tokens_of-append}
-use Rattle.gql_doc.proofs.Tokens.{sign_is, sign_same}
+use Rattle.gql_doc.proofs.ReaderLaws.{Always, Pure, Seq, Map, Either, SomeOf, Starts, tokens_of-append}
+use Rattle.gql_doc.proofs.TokenLaws.{sign_is, sign_same}
 
 -- the next token is this sign
 abbrev pub NextIs : Punctuator → Tokens → Type 0

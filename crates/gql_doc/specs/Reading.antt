@@ -176,10 +176,10 @@ member_by value =
     take_name
     then (λ name. past (take_sign sign.Colon) (mapped (λ value. record { name = name; value = value }) value))
 
-abbrev pub object_by : Reader ValueTree → Reader ValueTree
-object_by value =
+abbrev pub object_by : Reader MemberTree → Reader ValueTree
+object_by member =
     past (take_sign sign.OpenBrace)
-    (mapped Object (ended (many (other_than sign.CloseBrace) (member_by value)) (take_sign sign.CloseBrace)))
+    (mapped Object (ended (many (other_than sign.CloseBrace) member) (take_sign sign.CloseBrace)))
 
 -- a value that is no list and no object
 abbrev pub plain_value : Variables → Reader ValueTree
@@ -194,7 +194,21 @@ unfoldable pub value_at : Variables → ℕ → Reader ValueTree
 value_at variables zero tokens =
     value_by variables (too_deep (is_sign sign.OpenBracket)) (too_deep (is_sign sign.OpenBrace)) tokens
 value_at variables (suc n) tokens =
-    value_by variables (list_by (value_at variables n)) (object_by (value_at variables n)) tokens
+    value_by variables (list_by (value_at variables n)) (object_by (member_by (value_at variables n))) tokens
+
+-- a member of an object, where so many levels are left
+unfoldable pub member_at : Variables → ℕ → Reader MemberTree
+member_at variables n = member_by (value_at variables n)
+
+-- a list, where so many levels are left
+unfoldable pub list_at : Variables → ℕ → Reader ValueTree
+list_at variables zero = too_deep (is_sign sign.OpenBracket)
+list_at variables (suc n) = list_by (value_at variables n)
+
+-- an object, where so many levels are left
+unfoldable pub object_at : Variables → ℕ → Reader ValueTree
+object_at variables zero = too_deep (is_sign sign.OpenBrace)
+object_at variables (suc n) = object_by (member_at variables n)
 
 unfoldable pub placed_value : Variables → Reader PlacedValue
 placed_value variables = placed (λ pos value. record { pos = pos; node = value }) (value_at variables max_levels)

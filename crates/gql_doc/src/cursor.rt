@@ -1,7 +1,7 @@
 //! The tokens that are left to read.
 ghost use Rattle.std.specs.Prelude.{◌≡◌, [], ◌∷◌, MatchOption};
 ghost use Rattle.std.specs.Option.{option_copied};
-ghost use Rattle.gql_doc.specs.Readers.{first, behind_first, begins, place_of, Leaves};
+ghost use Rattle.gql_doc.specs.Readers.{first, behind_first, begins, place_of, too_deep as deep_at, Leaves};
 ghost use Rattle.gql_doc.specs.Reading as reading;
 ghost use Rattle.gql_doc.specs.Reading.{is_sign, is_word, is_name, is_fragment_name, is_scalar, is_end, other_than, before_end, says_sign, says_word, scalar_in, named_value, next_operation as kind_next, take_sign as read_sign, take_word as read_word, take_name as read_name, take_fragment_name as read_fragment_name, take_scalar as read_scalar, take_operation as read_operation, take_end as read_end};
 
@@ -158,8 +158,19 @@ impl Cursor {
         }
     }
 
+    /// The trouble where no level is left for what this sign opens.
+    pub fn too_deep<T>(&self, sign: Punctuator) -> Result<T, ReadError>
+        ensures { Leaves result self.now (deep_at (is_sign sign) self.now) }
+    {
+        if self.is_at(sign) {
+            Err(ReadError::Stopped(Trouble::TooDeep))
+        } else {
+            Err(ReadError::Stopped(Trouble::Unexpected))
+        }
+    }
+
     /// Takes a sign, and answers its place.
-    #[tactic(auto, using(crate::proofs::Cursors::sign_taken, crate::proofs::Cursors::sign_missed))]
+    #[tactic(auto, using(crate::proofs::CursorLaws::sign_taken, crate::proofs::CursorLaws::sign_missed))]
     pub fn take_sign(&mut self, sign: Punctuator) -> Result<Pos, ReadError>
         ensures { Leaves result self.new (read_sign sign self.old) }
     {
@@ -172,7 +183,7 @@ impl Cursor {
     }
 
     /// Takes a word, and answers its place.
-    #[tactic(auto, using(crate::proofs::Cursors::word_taken, crate::proofs::Cursors::word_missed))]
+    #[tactic(auto, using(crate::proofs::CursorLaws::word_taken, crate::proofs::CursorLaws::word_missed))]
     pub fn take_word(&mut self, word: &str) -> Result<Pos, ReadError>
         ensures { Leaves result self.new (read_word word.now self.old) }
     {
@@ -185,7 +196,7 @@ impl Cursor {
     }
 
     /// Takes a name.
-    #[tactic(auto, using(crate::proofs::Cursors::name_taken, crate::proofs::Cursors::name_missed))]
+    #[tactic(auto, using(crate::proofs::CursorLaws::name_taken, crate::proofs::CursorLaws::name_missed))]
     pub fn take_name(&mut self) -> Result<Positioned<Name>, ReadError>
         ensures { Leaves result self.new (read_name self.old) }
     {
@@ -205,7 +216,7 @@ impl Cursor {
     }
 
     /// Takes a name other than `on`.
-    #[tactic(auto, using(crate::proofs::Cursors::fragment_name_taken, crate::proofs::Cursors::fragment_name_missed))]
+    #[tactic(auto, using(crate::proofs::CursorLaws::fragment_name_taken, crate::proofs::CursorLaws::fragment_name_missed))]
     pub fn take_fragment_name(&mut self) -> Result<Positioned<Name>, ReadError>
         ensures { Leaves result self.new (read_fragment_name self.old) }
     {
@@ -216,7 +227,7 @@ impl Cursor {
     }
 
     /// Takes a value of one token, but no variable.
-    #[tactic(auto, using(crate::proofs::Cursors::scalar_missed, crate::proofs::Cursors::scalar_sure))]
+    #[tactic(auto, using(crate::proofs::CursorLaws::scalar_missed, crate::proofs::CursorLaws::scalar_sure))]
     pub fn take_scalar(&mut self) -> Result<ValueTree, ReadError>
         ensures { Leaves result self.new (read_scalar self.old) }
     {
@@ -233,7 +244,7 @@ impl Cursor {
     }
 
     /// Takes the word of a kind of operation, and answers its place and the kind.
-    #[tactic(auto, using(crate::proofs::Cursors::operation_taken, crate::proofs::Cursors::operation_missed))]
+    #[tactic(auto, using(crate::proofs::CursorLaws::operation_taken, crate::proofs::CursorLaws::operation_missed))]
     pub fn take_operation(&mut self) -> Result<(Pos, OperationType), ReadError>
         ensures { Leaves result self.new (read_operation self.old) }
     {
@@ -248,7 +259,7 @@ impl Cursor {
     }
 
     /// Takes the end of the text.
-    #[tactic(auto, using(crate::proofs::Cursors::end_taken, crate::proofs::Cursors::end_missed))]
+    #[tactic(auto, using(crate::proofs::CursorLaws::end_taken, crate::proofs::CursorLaws::end_missed))]
     pub fn take_end(&mut self) -> Result<Pos, ReadError>
         ensures { Leaves result self.new (read_end self.old) }
     {

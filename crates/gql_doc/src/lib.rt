@@ -6,6 +6,7 @@ mod document;
 mod fault;
 mod tree;
 mod trouble;
+mod values;
 
 pub use document::{OperationType, Positioned};
 pub use fault::{ParseFault, ParseKind};

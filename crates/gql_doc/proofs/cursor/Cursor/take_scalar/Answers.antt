@@ -1,5 +1,5 @@
 use Rattle.std.proofs.Common.{sym, ◌∙◌}
-use Rattle.gql_doc.proofs.Cursors.{scalar_taken}
+use Rattle.gql_doc.proofs.CursorLaws.{scalar_taken}
 use Rattle.gql_doc.proofs.cursor.Cursor.take_scalar.Goals as goal
 
 pub returns : goal.returns

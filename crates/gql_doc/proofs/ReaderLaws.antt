@@ -350,7 +350,7 @@ module _ {A : Type 0} (test : Token → Bool) (f : Reader A) (D : A → Language
   not_empty starts v (m ∷ ms) d = grind arith
 
   -- a value takes a token at least
-  shrinks : Starts test D → (tokens : Tokens) (o : Result A Trouble) (rest : Tokens) → Explains D tokens o rest → (a : A) → o ≡ Ok a → length rest < length tokens
+  pub shrinks : Starts test D → (tokens : Tokens) (o : Result A Trouble) (rest : Tokens) → Explains D tokens o rest → (a : A) → o ≡ Ok a → length rest < length tokens
   shrinks starts tokens (Ok v) rest (c, e, n, d) a k =
       let more = not_empty starts v c d in
       omega (arith, ap length e, length-append (tokens_of c) rest)

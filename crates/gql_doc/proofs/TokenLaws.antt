@@ -17,7 +17,7 @@ use Rattle.gql_doc.specs.Words.{Word, Language, plain, OneAt, One, SignAt, Keywo
 use Rattle.gql_doc.specs.Grammar.{IsName, IsFragmentName, IsEnumName, keyword}
 use Rattle.gql_doc.specs.Readers.{take_one}
 use Rattle.gql_doc.specs.Reading.{says_sign, is_sign, says_word, is_word, same_text, if_so, name_in, fragment_name_in, scalar_in, operation_in, operation_named, with_pos, take_sign, take_word, take_name, take_fragment_name, take_scalar, take_operation}
-use Rattle.gql_doc.proofs.Readers.{Reads, Always, Taken, convert, one_reads}
+use Rattle.gql_doc.proofs.ReaderLaws.{Reads, Always, Taken, convert, one_reads}
 use Rattle.gql_doc.specs.Words.{PlacedName}
 
 pub start : Pos

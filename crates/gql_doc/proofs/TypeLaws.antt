@@ -13,8 +13,8 @@ use Rattle.gql_doc.specs.Words.{Tokens, Word, Language, tokens_of, ◌▸◌, Si
 use Rattle.gql_doc.specs.Grammar.{IsType, IsNullableType, IsTypeIn, IsNullableIn, IsPlacedType, IsName, max_levels}
 use Rattle.gql_doc.specs.Readers.{Reader, begins, mapped, past, ended, branch, gives, placed, too_deep, ◌then◌}
 use Rattle.gql_doc.specs.Reading.{is_sign, other_than, take_sign, take_name, bare_type_by, list_type_by, null_or_not, type_at, placed_type}
-use Rattle.gql_doc.proofs.Readers.{Reads, Always, Pure, Seq, Map, Either, SomeOf, SomeWord, Starts, PlacedBy, convert, seq, mapped_reads, past_reads, ended_reads, choice, gives_any, placed_reads}
-use Rattle.gql_doc.proofs.Tokens.{start, sign_reads, name_reads}
+use Rattle.gql_doc.proofs.ReaderLaws.{Reads, Always, Pure, Seq, Map, Either, SomeOf, SomeWord, Starts, PlacedBy, convert, seq, mapped_reads, past_reads, ended_reads, choice, gives_any, placed_reads}
+use Rattle.gql_doc.proofs.TokenLaws.{start, sign_reads, name_reads}
 use Rattle.gql_doc.proofs.Follows.{NextIs, Never, Before, joined, before_name, opens_next, sign_next, none_is, other_sign, never_next, never_name, name_is_other}
 use Rattle.gql_doc.proofs.Deep.{deep_past_reads}
 use Rattle.gql_doc.specs.Words.{PlacedName, PlacedType}

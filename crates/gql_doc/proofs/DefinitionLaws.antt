@@ -16,12 +16,12 @@ use Rattle.gql_doc.specs.Words.{Tokens, Word, Language, tokens_of, ◌▸◌, Ma
 use Rattle.gql_doc.specs.Grammar.{IsName, IsFragmentName, IsCondition, AreVariables, AreDirectives, IsSet, IsShorthand, IsFullOperation, IsFragment, IsDefinition, keyword, max_levels}
 use Rattle.gql_doc.specs.Readers.{Reader, begins, mapped, branch, optional, ◌then◌}
 use Rattle.gql_doc.specs.Reading.{is_sign, is_name, is_word, take_word, take_name, take_fragment_name, take_operation, directives, variables, condition, set, set_at, shorthand, operation, fragment, definition}
-use Rattle.gql_doc.proofs.Readers.{Reads, Always, Seq, Map, Either, Starts, Apart, convert, seq, mapped_reads, choice, optional_reads}
-use Rattle.gql_doc.proofs.Tokens.{IsKind, word_reads, name_reads, fragment_name_reads, operation_word_reads}
+use Rattle.gql_doc.proofs.ReaderLaws.{Reads, Always, Seq, Map, Either, Starts, Apart, convert, seq, mapped_reads, choice, optional_reads}
+use Rattle.gql_doc.proofs.TokenLaws.{IsKind, word_reads, name_reads, fragment_name_reads, operation_word_reads}
 use Rattle.gql_doc.proofs.Follows.{NextIs, NextIsName, Never, Before, joined, never_next, never_name, before_name, before_seq}
-use Rattle.gql_doc.proofs.Arguments.{directives_reads, before_directives, before_parentheses}
-use Rattle.gql_doc.proofs.VariableDefinitions.{variables_reads}
-use Rattle.gql_doc.proofs.Selections.{IsSetTree, NextIsSign, next_sign, sign_no_name, brace_next, condition_reads, set_reads}
+use Rattle.gql_doc.proofs.ArgumentLaws.{directives_reads, before_directives, before_parentheses}
+use Rattle.gql_doc.proofs.VariableLaws.{variables_reads}
+use Rattle.gql_doc.proofs.SelectionLaws.{IsSetTree, NextIsSign, next_sign, sign_no_name, brace_next, condition_reads, set_reads}
 use Rattle.gql_doc.specs.Words.{PlacedName}
 
 pub definition_set_reads : Reads set IsSet Always

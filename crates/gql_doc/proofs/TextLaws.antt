@@ -14,11 +14,11 @@ use Rattle.gql_doc.specs.Grammar.{IsDocument, IsDefinition, IsTypeText, IsType, 
 use Rattle.gql_doc.specs.Readers.{Reading, Reader, go_on, begins, gives, mapped, ended, picked, take_one, some, ◌then◌}
 use Rattle.std.specs.Prelude.{not}
 use Rattle.gql_doc.specs.Reading.{says_sign, says_name, says_end, before_end, if_so, take_end, definition, document, type_at, type_text}
-use Rattle.gql_doc.proofs.Readers.{Reads, Always, Explains, Sound, Complete, Local, Live, Ends, EndsBehind, Taken, Seq, Map, SomeOf, Starts, EachOfSome, Explains-map, outcome, one_sound, one_local, mapped_sound, mapped_local, mapped_outcome, seq_sound, seq_complete, seq_local, some_reads}
-use Rattle.gql_doc.proofs.Tokens.{start, if_so_is, sign_is}
+use Rattle.gql_doc.proofs.ReaderLaws.{Reads, Always, Explains, Sound, Complete, Local, Live, Ends, EndsBehind, Taken, Seq, Map, SomeOf, Starts, EachOfSome, Explains-map, outcome, one_sound, one_local, mapped_sound, mapped_local, mapped_outcome, seq_sound, seq_complete, seq_local, some_reads}
+use Rattle.gql_doc.proofs.TokenLaws.{start, if_so_is, sign_is}
 use Rattle.gql_doc.proofs.Follows.{NextIs, NextIsName, Never, Before}
-use Rattle.gql_doc.proofs.Types.{type_reads}
-use Rattle.gql_doc.proofs.Definitions.{definition_reads, before_definition}
+use Rattle.gql_doc.proofs.TypeLaws.{type_reads}
+use Rattle.gql_doc.proofs.DefinitionLaws.{definition_reads, before_definition}
 
 -- The end.
 

@@ -18,9 +18,9 @@ use denote.Hole.Carrier.{out}
 use Rattle.gql_doc.specs.Words.{Tokens, Word, Language, tokens_of, ◌▸◌, Each, One, SignAt, OpensAt, plain}
 use Rattle.gql_doc.specs.Grammar.{IsValue, AreValues, AreMembers, IsMember, IsName, MayVary}
 use Rattle.gql_doc.specs.Readers.{Reader, begins, mapped, past, ended, branch, many, too_deep, ◌then◌}
-use Rattle.gql_doc.specs.Reading.{is_sign, says_sign, other_than, take_sign, take_name, take_scalar, variable_value, list_by, member_by, object_by, plain_value, value_by, value_at}
-use Rattle.gql_doc.proofs.Readers.{Reads, Always, Seq, Map, Either, SomeOf, SomeWord, Starts, Apart, convert, seq, mapped_reads, past_reads, ended_reads, choice, many_reads}
-use Rattle.gql_doc.proofs.Tokens.{start, sign_reads, name_reads, scalar_reads, IsScalar}
+use Rattle.gql_doc.specs.Reading.{is_sign, says_sign, other_than, take_sign, take_name, take_scalar, variable_value, list_by, member_by, member_at, object_by, plain_value, value_by, value_at}
+use Rattle.gql_doc.proofs.ReaderLaws.{Reads, Always, Seq, Map, Either, SomeOf, SomeWord, Starts, Apart, convert, seq, mapped_reads, past_reads, ended_reads, choice, many_reads}
+use Rattle.gql_doc.proofs.TokenLaws.{start, sign_reads, name_reads, scalar_reads, IsScalar}
 use Rattle.gql_doc.proofs.Follows.{NextIs, joined, before_one, before_name, opens_next, sign_next, none_is, other_sign, name_is_other, other_is}
 use Rattle.gql_doc.proofs.Deep.{deep_past_reads}
 use Rattle.gql_doc.specs.Words.{PlacedName}
@@ -181,7 +181,7 @@ member_reads variables n reads =
     (λ v ms (name, x, y, e, n', (a, b, h, colon, (value, k, d))). subst (λ w. IsMember variables n w ms) (sym k) (x, y, e, n', (a, b, h, colon, d)))
     (λ v ms (x, y, e, n', (a, b, h, colon, d)). (v.name, x, y, e, n', (a, b, h, colon, (v.value, refl, d)))) (λ rest g. g)
 
-object_reads : (variables : Variables) (n : ℕ) → Reads (value_at variables n) (IsValue variables n) Always → Reads (object_by (value_at variables n)) (IsObjectValue variables (suc n)) Always
+object_reads : (variables : Variables) (n : ℕ) → Reads (value_at variables n) (IsValue variables n) Always → Reads (object_by (member_by (value_at variables n))) (IsObjectValue variables (suc n)) Always
 object_reads variables n reads =
     past_reads (take_sign sign.OpenBrace) (SignAt sign.OpenBrace) (mapped Object (ended (many (other_than sign.CloseBrace) (member_by (value_at variables n))) (take_sign sign.CloseBrace))) (ObjectRest variables (suc n)) Always Always
     (sign_reads sign.OpenBrace) (mapped_reads Object (ended (many (other_than sign.CloseBrace) (member_by (value_at variables n))) (take_sign sign.CloseBrace)) (λ vs. Each (IsMember variables n) vs ▸ SomeOf (SignAt sign.CloseBrace)) Always (closed_reads sign.CloseBrace (member_by (value_at variables n)) (IsMember variables n) (member_reads variables n reads) (member_starts variables n)))
@@ -245,4 +245,8 @@ some_object variables = (Object [], plain (record { lexeme = lexeme.Punctuator s
 pub value_reads : (variables : Variables) (levels : ℕ) → Reads (value_at variables levels) (IsValue variables levels) Always
 unfolding value_at
 value_reads variables zero = value_by_reads variables 0 (too_deep (is_sign sign.OpenBracket)) (too_deep (is_sign sign.OpenBrace)) (deep_past_reads sign.OpenBracket (ListRest variables 0) (some_list variables)) (deep_past_reads sign.OpenBrace (ObjectRest variables 0) (some_object variables))
-value_reads variables (suc n) = value_by_reads variables (suc n) (list_by (value_at variables n)) (object_by (value_at variables n)) (list_reads variables n (value_reads variables n)) (object_reads variables n (value_reads variables n))
+value_reads variables (suc n) = value_by_reads variables (suc n) (list_by (value_at variables n)) (object_by (member_by (value_at variables n))) (list_reads variables n (value_reads variables n)) (object_reads variables n (value_reads variables n))
+
+pub member_at_reads : (variables : Variables) (levels : ℕ) → Reads (member_at variables levels) (IsMember variables levels) Always
+unfolding member_at
+member_at_reads variables levels = member_reads variables levels (value_reads variables levels)

@@ -9,11 +9,11 @@ use Rattle.gql_doc.specs.Words.{Tokens, Word, Language, tokens_of, ◌▸◌, Ma
 use Rattle.gql_doc.specs.Grammar.{IsName, IsPlacedType, IsPlacedValue, IsDefault, IsVariable, AreVariables, AreDirectives}
 use Rattle.gql_doc.specs.Readers.{Reader, begins, mapped, past, optional, ◌then◌}
 use Rattle.gql_doc.specs.Reading.{is_sign, other_than, take_sign, take_name, placed_value, placed_type, default, directives, variable, variables}
-use Rattle.gql_doc.proofs.Readers.{Reads, Always, Seq, Map, SomeOf, Starts, convert, seq, mapped_reads, past_reads, optional_reads}
-use Rattle.gql_doc.proofs.Tokens.{sign_reads, name_reads}
+use Rattle.gql_doc.proofs.ReaderLaws.{Reads, Always, Seq, Map, SomeOf, Starts, convert, seq, mapped_reads, past_reads, optional_reads}
+use Rattle.gql_doc.proofs.TokenLaws.{sign_reads, name_reads}
 use Rattle.gql_doc.proofs.Follows.{NextIs, Never, Before, joined, never_next, none_is, sign_next, before_seq, before_map, before_maybe}
-use Rattle.gql_doc.proofs.Arguments.{placed_value_reads, directives_reads, before_directives, in_parentheses_reads}
-use Rattle.gql_doc.proofs.Types.{placed_type_reads}
+use Rattle.gql_doc.proofs.ArgumentLaws.{placed_value_reads, directives_reads, before_directives, in_parentheses_reads}
+use Rattle.gql_doc.proofs.TypeLaws.{placed_type_reads}
 use Rattle.gql_doc.specs.Words.{PlacedName, PlacedType, PlacedValue}
 
 equals_next : (v : PlacedValue) (ms : Word) (rest : Tokens) → IsDefault v ms → NextIs sign.Equals (tokens_of ms ++ rest)
