@@ -1,6 +1,7 @@
 //! Executable documents of GraphQL and their grammar (GraphQL, October 2021, section 2).
 #![tactic(auto)]
 
+mod arguments;
 mod cursor;
 mod document;
 mod fault;
