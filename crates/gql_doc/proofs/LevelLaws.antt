@@ -5,8 +5,8 @@ use Rattle.gql_tokens.specs.declared.token.Punctuator.TheVariants as sign
 use Rattle.gql_doc.specs.declared.tree.Variables.{Variables}
 use Rattle.gql_doc.specs.declared.tree.ValueTree.{ValueTree}
 use Rattle.gql_doc.specs.Words.{Tokens}
-use Rattle.gql_doc.specs.Readers.{Reader, begins, choose, branch, too_deep}
-use Rattle.gql_doc.specs.Reading.{is_sign, value_at, value_by, list_at, list_by, object_at, object_by, member_at, plain_value}
+use Rattle.gql_doc.specs.Readers.{Reader, begins, choose, branch, too_deep, ◌then◌}
+use Rattle.gql_doc.specs.Reading.{is_sign, value_at, value_by, list_at, list_by, object_at, object_by, member_at, plain_value, type_at, bare_type_by, list_type_at, list_type_by, null_or_not}
 
 module _ (variables : Variables) where
   value_step : (levels : ℕ) (tokens : Tokens) → value_at variables levels tokens ≡ value_by variables (list_at variables levels) (object_at variables levels) tokens
@@ -45,3 +45,17 @@ module _ (variables : Variables) where
   unfolding object_at
   object_of zero tokens some = absurd (omega arith)
   object_of (suc n) tokens some = ap (λ m. object_by (member_at variables m) tokens) (let e : n ≡ suc n - 1 = omega arith in e)
+
+pub type_step : (levels : ℕ) (tokens : Tokens) → type_at levels tokens ≡ (bare_type_by (list_type_at levels) then null_or_not) tokens
+unfolding type_at list_type_at
+type_step zero tokens = refl
+type_step (suc n) tokens = refl
+
+pub no_list_type : (levels : ℕ) (tokens : Tokens) → levels ≡ 0 → list_type_at levels tokens ≡ too_deep (is_sign sign.OpenBracket) tokens
+unfolding list_type_at
+no_list_type levels tokens none = ap (λ n. list_type_at n tokens) none
+
+pub list_type_of : (levels : ℕ) (tokens : Tokens) → 0 < levels → list_type_at levels tokens ≡ list_type_by (type_at (levels - 1)) tokens
+unfolding list_type_at
+list_type_of zero tokens some = absurd (omega arith)
+list_type_of (suc n) tokens some = ap (λ m. list_type_by (type_at m) tokens) (let e : n ≡ suc n - 1 = omega arith in e)

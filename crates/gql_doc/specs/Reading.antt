@@ -254,6 +254,11 @@ unfoldable pub type_at : ℕ → Reader TypeRef
 type_at zero tokens = (bare_type_by (too_deep (is_sign sign.OpenBracket)) then null_or_not) tokens
 type_at (suc n) tokens = (bare_type_by (list_type_by (type_at n)) then null_or_not) tokens
 
+-- a list type, where so many levels are left
+unfoldable pub list_type_at : ℕ → Reader TypeRef
+list_type_at zero = too_deep (is_sign sign.OpenBracket)
+list_type_at (suc n) = list_type_by (type_at n)
+
 unfoldable pub placed_type : Reader PlacedType
 placed_type = placed (λ pos ty. record { pos = pos; node = ty }) (type_at max_levels)
 

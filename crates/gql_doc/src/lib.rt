@@ -7,6 +7,7 @@ mod document;
 mod fault;
 mod tree;
 mod trouble;
+mod types;
 mod values;
 
 pub use document::{OperationType, Positioned};
