@@ -89,10 +89,13 @@ variable_reads =
 dollar_next : (v : VariableTree) (ms : Word) (rest : Tokens) → IsVariable v ms → NextIs sign.Dollar (tokens_of ms ++ rest)
 dollar_next v ms rest (x, y, e, dollar, h) = joined (NextIs sign.Dollar) ms x y rest e (sign_next sign.Dollar Always v.pos x (tokens_of y ++ rest) dollar tt)
 
+pub variable_starts : Starts (other_than sign.CloseParen) IsVariable
+variable_starts v ms rest h = none_is sign.Dollar sign.CloseParen (tokens_of ms ++ rest) refl (dollar_next v ms rest h)
+
 pub variables_reads : Reads variables AreVariables (Never (sign.OpenParen ∷ []))
 unfolding variables
 variables_reads =
     in_parentheses_reads variable IsVariable AfterVariable variable_reads
-    (λ v ms rest h. none_is sign.Dollar sign.CloseParen (tokens_of ms ++ rest) refl (dollar_next v ms rest h))
+    variable_starts
     (λ v ms rest h g. never_next (sign.Bang ∷ sign.Equals ∷ sign.At ∷ sign.OpenParen ∷ []) sign.Dollar (tokens_of ms ++ rest) (refl, (refl, (refl, (refl, tt)))) (dollar_next v ms rest h))
     (λ rest. never_next (sign.Bang ∷ sign.Equals ∷ sign.At ∷ sign.OpenParen ∷ []) sign.CloseParen rest (refl, (refl, (refl, (refl, tt)))))

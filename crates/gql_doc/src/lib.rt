@@ -9,6 +9,7 @@ mod tree;
 mod trouble;
 mod types;
 mod values;
+mod variables;
 
 pub use document::{OperationType, Positioned};
 pub use fault::{ParseFault, ParseKind};
