@@ -6,7 +6,7 @@ use Rattle.gql_doc.specs.declared.tree.Variables.{Variables}
 use Rattle.gql_doc.specs.declared.tree.ValueTree.{ValueTree}
 use Rattle.gql_doc.specs.Words.{Tokens}
 use Rattle.gql_doc.specs.Readers.{Reader, begins, choose, branch, too_deep, ◌then◌}
-use Rattle.gql_doc.specs.Reading.{is_sign, value_at, value_by, list_at, list_by, object_at, object_by, member_at, plain_value, type_at, bare_type_by, list_type_at, list_type_by, null_or_not}
+use Rattle.gql_doc.specs.Reading.{is_sign, value_at, value_by, list_at, list_by, object_at, object_by, member_at, plain_value, type_at, bare_type_by, list_type_at, list_type_by, null_or_not, set_at, set_by, selection_at, selection_by, spread_at, spread_by, field_at, field_by}
 
 module _ (variables : Variables) where
   value_step : (levels : ℕ) (tokens : Tokens) → value_at variables levels tokens ≡ value_by variables (list_at variables levels) (object_at variables levels) tokens
@@ -59,3 +59,20 @@ pub list_type_of : (levels : ℕ) (tokens : Tokens) → 0 < levels → list_type
 unfolding list_type_at
 list_type_of zero tokens some = absurd (omega arith)
 list_type_of (suc n) tokens some = ap (λ m. list_type_by (type_at m) tokens) (let e : n ≡ suc n - 1 = omega arith in e)
+
+pub selection_is_spread : (levels : ℕ) (tokens : Tokens) → begins (is_sign sign.Spread) tokens ≡ true → selection_at levels tokens ≡ spread_at levels tokens
+unfolding selection_at spread_at
+selection_is_spread levels tokens spread = ap (λ b. choose b (spread_by (set_at levels)) (field_by (set_at levels)) tokens) spread
+
+pub selection_is_field : (levels : ℕ) (tokens : Tokens) → begins (is_sign sign.Spread) tokens ≡ false → selection_at levels tokens ≡ field_at levels tokens
+unfolding selection_at field_at
+selection_is_field levels tokens field = ap (λ b. choose b (spread_by (set_at levels)) (field_by (set_at levels)) tokens) field
+
+pub no_set : (levels : ℕ) (tokens : Tokens) → levels ≡ 0 → set_at levels tokens ≡ too_deep (is_sign sign.OpenBrace) tokens
+unfolding set_at
+no_set levels tokens none = ap (λ n. set_at n tokens) none
+
+pub set_of : (levels : ℕ) (tokens : Tokens) → 0 < levels → set_at levels tokens ≡ set_by (selection_at (levels - 1)) tokens
+unfolding set_at selection_at
+set_of zero tokens some = absurd (omega arith)
+set_of (suc n) tokens some = ap (λ m. set_by (selection_at m) tokens) (let e : n ≡ suc n - 1 = omega arith in e)

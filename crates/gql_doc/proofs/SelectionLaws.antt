@@ -18,7 +18,7 @@ use Rattle.gql_doc.specs.declared.tree.SetTree.{SetTree}
 use Rattle.gql_doc.specs.Words.{Tokens, Word, Language, tokens_of, ◌▸◌, Each, Maybe, SignAt, OpensAt, KeywordAt, plain, Nothing}
 use Rattle.gql_doc.specs.Grammar.{IsName, IsFragmentName, IsCondition, IsHead, head_pos, AreArguments, AreDirectives, IsSelection, IsSetOrNone, IsSetOf, AreSelections, IsNonEmpty}
 use Rattle.gql_doc.specs.Readers.{Reader, begins, mapped, past, ended, branch, some, optional, gives, too_deep, ◌then◌}
-use Rattle.gql_doc.specs.Reading.{is_sign, says_word, says_name, is_word, is_fragment_name, other_than, take_sign, take_word, take_name, take_fragment_name, arguments, directives, head, condition, set_or_none, field_by, spread_behind, inline_behind, spread_by, selection_by, set_by, set_at}
+use Rattle.gql_doc.specs.Reading.{is_sign, says_word, says_name, is_word, is_fragment_name, other_than, take_sign, take_word, take_name, take_fragment_name, arguments, directives, head, condition, set_or_none, field_by, spread_behind, inline_behind, spread_by, selection_by, selection_at, set_by, set_at}
 use Rattle.gql_doc.proofs.ReaderLaws.{Reads, Always, Pure, Seq, Map, Either, SomeOf, SomeWord, Starts, Apart, EachOfSome, convert, seq, mapped_reads, past_reads, ended_reads, choice, gives_any, some_reads, optional_reads}
 use Rattle.gql_doc.proofs.TokenLaws.{start, sign_is, sign_reads, word_reads, name_reads, fragment_name_reads, text_differs}
 use Rattle.gql_doc.proofs.Follows.{NextIs, NextIsName, Never, Before, joined, never_next, never_name, none_is, other_is, other_sign, name_is_other, sign_next, opens_next, before_name, before_seq, before_map, before_maybe}
@@ -384,3 +384,10 @@ set_reads (suc n) =
     (λ pos. mapped_reads (tree pos) (ended (some (other_than sign.CloseBrace) (selection_by (set_at n))) (take_sign sign.CloseBrace)) (IsInBraces (Each (IsSelection n))) Always (selections_reads n (selection_by (set_at n)) (selection_reads n (set_at n) (set_reads n))))
     (λ a v y rest q g. tt))
     (set_to (suc n)) (set_from (suc n)) (λ rest g. g)
+
+pub selection_at_reads : (levels : ℕ) → Reads (selection_at levels) (IsSelection levels) AfterSelection
+unfolding selection_at
+selection_at_reads levels = selection_reads levels (set_at levels) (set_reads levels)
+
+pub selection_starts : (levels : ℕ) → Starts (other_than sign.CloseBrace) (IsSelection levels)
+selection_starts levels = before_selection levels (λ ts. begins (other_than sign.CloseBrace) ts ≡ true) (λ rest. none_is sign.Spread sign.CloseBrace rest refl) (name_is_other sign.CloseBrace)

@@ -134,6 +134,9 @@ name_goes : (rest : Tokens) → NextIsName rest → begins before_end rest ≡ t
 name_goes [] next = absurd (cc next)
 name_goes (t ∷ rest) next = name_no_end t.lexeme next
 
+pub definition_starts : Starts before_end IsDefinition
+definition_starts = before_definition (λ ts. begins before_end ts ≡ true) brace_goes name_goes
+
 abbrev AreDefinitions : List DefinitionTree → Language
 AreDefinitions = EachOfSome before_end definition IsDefinition
 
@@ -143,7 +146,7 @@ unfolding document
 document_reads =
     text_convert document (ToEnd (some before_end definition) AreDefinitions) IsDocument
     (text_reads (some before_end definition) AreDefinitions NextIsEnd
-    (some_reads before_end definition IsDefinition Always NextIsEnd definition_reads (before_definition (λ ts. begins before_end ts ≡ true) brace_goes name_goes) (λ v ms rest h. tt) (λ rest g. tt) end_stops)
+    (some_reads before_end definition IsDefinition Always NextIsEnd definition_reads definition_starts (λ v ms rest h. tt) (λ rest g. tt) end_stops)
     (λ rest g. g))
     (λ v ms (x, y, e, (some', each), end). (some', (x, y, e, each, end))) (λ v ms (some', (x, y, e, each, end)). (x, y, e, (some', each), end))
 

@@ -323,6 +323,16 @@ unfoldable pub set_at : ℕ → Reader SetTree
 set_at zero tokens = too_deep (is_sign sign.OpenBrace) tokens
 set_at (suc n) tokens = set_by (selection_by (set_at n)) tokens
 
+-- a field, a spread or an inline fragment, and any selection, where so many levels of sets are left
+unfoldable pub field_at : ℕ → Reader SelectionTree
+field_at levels = field_by (set_at levels)
+
+unfoldable pub spread_at : ℕ → Reader SelectionTree
+spread_at levels = spread_by (set_at levels)
+
+unfoldable pub selection_at : ℕ → Reader SelectionTree
+selection_at levels = selection_by (set_at levels)
+
 -- Definitions (sections 2.2, 2.3 and 2.8).
 
 unfoldable pub set : Reader SetTree

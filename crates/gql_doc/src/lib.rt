@@ -3,8 +3,10 @@
 
 mod arguments;
 mod cursor;
+mod definitions;
 mod document;
 mod fault;
+mod selections;
 mod tree;
 mod trouble;
 mod types;
