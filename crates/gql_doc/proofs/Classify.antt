@@ -1,5 +1,5 @@
 -- A reader of texts settles tokens: it answers the tree that they spell, or their first fault, and nothing else fits.
-use Rattle.std.proofs.Common.{◌≡◌, ℕ, ◌+◌, ◌≤◌, ◌<◌, Bool, true, false, cond, List, [], ◌∷◌, ◌++◌, length, get_or, ◌⊎◌, inl, inr, Result, Ok, Err, refl, sym, ap, ◌∙◌, subst, append_assoc, append-nil, length-append, arith}
+use Rattle.std.proofs.Common.{◌≡◌, ℕ, ◌+◌, ◌≤◌, ◌<◌, Bool, true, false, cond, List, [], ◌∷◌, ◌++◌, length, get_or, ◌⊎◌, inl, inr, IfOk, Result, Ok, Err, refl, sym, ap, ◌∙◌, subst, append_assoc, append-nil, length-append, arith}
 use mathlib.Core.List.{tail-eq_of_cons-eq}
 use Rattle.gql_base.specs.declared.pos.Pos.{Pos}
 use Rattle.gql_tokens.specs.declared.token.Token.{Token}
@@ -207,3 +207,8 @@ module _ {A : Type 0} (f : Reader A) (D : A → Language) (reads : ReadsText f D
   -- tokens have one first fault at most
   pub one_fault : (tokens : Tokens) (a b : ParseFault) → AreTokens tokens → IsFault D tokens a → IsFault D tokens b → a ≡ b
   one_fault tokens a b are h k = cc (first_fault tokens a are h, first_fault tokens b are k)
+
+-- what holds of the one value that a call can give
+pub if_ok_is : {X E : Type 0} → (r : Result X E) (x : X) (Q : X → Type 0) → IfOk r (λ y. y ≡ x) → Q x → IfOk r Q
+if_ok_is (Ok y) x Q e q = subst Q (sym e) q
+if_ok_is (Err error) x Q e q = tt

@@ -1,5 +1,5 @@
 -- One reader for each part of the grammar.
-use Rattle.std.specs.Prelude.{ℕ, zero, suc, Bool, true, false, not, ◌&&◌, nat_eq, List, [], ◌∷◌, Option, Some, None, Result, Ok, Err, codes, if◌then◌else◌}
+use Rattle.std.specs.Prelude.{◌≡◌, IsErr, ℕ, zero, suc, Bool, true, false, not, ◌&&◌, nat_eq, List, [], ◌∷◌, Option, Some, None, Result, Ok, Err, codes, if◌then◌else◌}
 use Rattle.std.specs.Cmp.Lexicographic.{pointwise}
 use denote.Enum.Bare.{sameb}
 use Rattle.gql_base.specs.declared.pos.Pos.{Pos}
@@ -28,6 +28,9 @@ use Rattle.gql_doc.specs.declared.tree.DefinitionTree.{DefinitionTree}
 use Rattle.gql_doc.specs.declared.tree.DefinitionTree.TheVariants.{Operation, Fragment}
 use Rattle.gql_doc.specs.declared.trouble.Trouble.{Trouble}
 use Rattle.gql_doc.specs.declared.trouble.Trouble.TheVariants.{Unexpected, TooDeep}
+use Rattle.std.specs.declared.alloc.AllocError.{AllocError}
+use Rattle.gql_doc.specs.declared.trouble.ReadError.{ReadError}
+use Rattle.gql_doc.specs.declared.trouble.ReadError.TheVariants.{Memory, Stopped}
 use Rattle.gql_doc.specs.declared.fault.ParseKind.{ParseKind}
 use Rattle.gql_doc.specs.declared.fault.ParseKind.TheVariants.{Nesting}
 use Rattle.gql_doc.specs.declared.fault.ParseKind.TheVariants as kind
@@ -386,3 +389,8 @@ parsed (Err trouble) rest = Err (record { kind = kind_at trouble rest; pos = pla
 -- what the tokens of a text are read as
 abbrev pub parsed_by : {A : Type 0} → Reader A → Tokens → Result A ParseFault
 parsed_by f tokens = parsed (f tokens).0 (f tokens).1
+
+-- the fault at the next token, unless memory is wanting
+abbrev pub IsFaultAt : Tokens → ReadError → Result ParseFault AllocError → Type 0
+IsFaultAt rest Memory answer = IsErr answer
+IsFaultAt rest (Stopped trouble) answer = answer ≡ Ok (record { kind = kind_at trouble rest; pos = place_of rest })

@@ -8,6 +8,7 @@ mod document;
 mod fault;
 mod selections;
 mod tree;
+mod tree_of;
 mod trouble;
 mod types;
 mod values;
