@@ -14,5 +14,9 @@ mod types;
 mod values;
 mod variables;
 
-pub use document::{OperationType, Positioned};
+pub use document::{
+    Argument, Directive, DocValue, DocumentOperations, ExecutableDocument, Field,
+    FragmentDefinition, FragmentSpread, InlineFragment, OperationDefinition, OperationType,
+    Positioned, Selection, SelectionSet, VariableDefinition,
+};
 pub use fault::{ParseFault, ParseKind};
