@@ -7,6 +7,7 @@ pub mod Follows
 pub mod LevelLaws
 pub mod LoopLaws
 pub mod ReaderLaws
+pub mod Rows
 pub mod SelectionLaws
 pub mod TextLaws
 pub mod TokenLaws

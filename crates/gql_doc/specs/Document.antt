@@ -18,13 +18,13 @@ alias_or (Some alias) name = alias
 abbrev pub key_of : Field → Positioned Name
 key_of field = alias_or (out-Field field).alias (out-Field field).name
 
--- the default of a variable; without one null where the type is nullable (section 6.1.2)
+-- the default of a variable; without one `nothing`, the null value, where the type is nullable (section 6.1.2)
 abbrev pub default_or : Option (Positioned Value) → TypeRef → Value → Option Value
-default_or (Some default) ty null = Some default.node
-default_or None ty null = if is_nullable ty then Some null else None
+default_or (Some default) ty nothing = Some default.node
+default_or None ty nothing = if is_nullable ty then Some nothing else None
 
 abbrev pub default_of : VariableDefinition → Value → Option Value
-default_of definition null = default_or definition.default definition.var_type.node null
+default_of definition nothing = default_or definition.default definition.var_type.node nothing
 
 -- the first argument of the name
 abbrev pub argument_named : List ℕ → List Argument → Option Argument
