@@ -1,18 +1,18 @@
 -- The readers of arguments and directives.
-use Rattle.std.proofs.Common.{◌≡◌, ℕ, Bool, true, false, List, [], ◌∷◌, ◌++◌, inl, inr, refl, sym, ap, ◌∙◌, subst}
+use Rattle.std.proofs.Common.{◌≡◌, true, false, List, [], ◌∷◌, ◌++◌, inl, inr, refl, sym, subst}
 use Rattle.gql_base.specs.declared.pos.Pos.{Pos}
 use Rattle.gql_tokens.specs.declared.token.Punctuator.TheVariants as sign
 use Rattle.gql_doc.specs.declared.tree.Variables.{Variables}
 use Rattle.gql_doc.specs.declared.tree.ValueTree.{ValueTree}
 use Rattle.gql_doc.specs.declared.tree.ArgumentTree.{ArgumentTree}
 use Rattle.gql_doc.specs.declared.tree.DirectiveTree.{DirectiveTree}
-use Rattle.gql_doc.specs.Words.{Tokens, Word, Language, tokens_of, ◌▸◌, Each, SignAt, Nothing}
+use Rattle.gql_doc.specs.Words.{Tokens, Word, Language, tokens_of, ◌▸◌, SignAt}
 use Rattle.gql_doc.specs.Grammar.{IsValue, IsPlacedValue, IsName, IsArgument, InParentheses, AreArguments, IsDirective, AreDirectives, max_levels}
-use Rattle.gql_doc.specs.Readers.{Reader, begins, mapped, past, ended, branch, many, some, gives, placed, ◌then◌}
+use Rattle.gql_doc.specs.Readers.{Reader, begins, mapped, past, ended, some, gives, ◌then◌}
 use Rattle.gql_doc.specs.Reading.{is_sign, other_than, take_sign, take_name, value_at, placed_value, argument, arguments, in_parentheses, directive, directives}
 use Rattle.gql_doc.proofs.ReaderLaws.{Reads, Always, Pure, Seq, Map, Either, SomeOf, Starts, EachOfSome, PlacedBy, convert, seq, mapped_reads, past_reads, ended_reads, choice, many_reads, some_reads, gives_any, placed_reads}
 use Rattle.gql_doc.proofs.TokenLaws.{sign_reads, name_reads}
-use Rattle.gql_doc.proofs.Follows.{NextIs, Never, Before, joined, never_next, sign_next, other_is, none_is, before_each, before_pure}
+use Rattle.gql_doc.proofs.Follows.{NextIs, Never, Before, joined, never_next, sign_next, other_is, before_each}
 use Rattle.gql_doc.proofs.ValueLaws.{value_reads, value_starts, name_starts}
 use Rattle.gql_doc.specs.Words.{PlacedName, PlacedValue}
 

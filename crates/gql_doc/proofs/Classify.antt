@@ -1,5 +1,5 @@
 -- A reader of texts settles tokens: it answers the tree that they spell, or their first fault, and nothing else fits.
-use Rattle.std.proofs.Common.{◌≡◌, ℕ, ◌+◌, ◌≤◌, ◌<◌, Bool, true, false, cond, List, [], ◌∷◌, ◌++◌, length, get_or, ◌⊎◌, inl, inr, IfOk, Result, Ok, Err, refl, sym, ap, ◌∙◌, subst, append_assoc, append-nil, length-append, arith}
+use Rattle.std.proofs.Common.{◌≡◌, Bool, true, false, cond, [], ◌∷◌, ◌++◌, length, get_or, ◌⊎◌, inl, inr, IfOk, Result, Ok, Err, refl, sym, ap, ◌∙◌, subst, append_assoc, append-nil, length-append, arith}
 use mathlib.Core.List.{tail-eq_of_cons-eq}
 use Rattle.gql_base.specs.declared.pos.Pos.{Pos}
 use Rattle.gql_tokens.specs.declared.token.Token.{Token}
@@ -15,7 +15,7 @@ use Rattle.gql_doc.specs.Words.{Tokens, AreTokens, AreTokensFrom, Word, Language
 use Rattle.gql_doc.specs.Spelling.{Spells, Begins, OpensTooDeep, kind_of, IsWrong, IsFault, Settles}
 use Rattle.gql_doc.specs.Readers.{Reading, Reader, place_of}
 use Rattle.gql_doc.specs.Reading.{kind_at, parsed, parsed_by}
-use Rattle.gql_doc.proofs.ReaderLaws.{Always, Explains, Ends, EndsBehind, deep_token, tokens_of-append, outcome, outcome-none_deep, outcome-deep}
+use Rattle.gql_doc.proofs.ReaderLaws.{Explains, Ends, EndsBehind, deep_token, tokens_of-append, outcome, outcome-none_deep, outcome-deep}
 use Rattle.gql_doc.proofs.TextLaws.{ReadsText}
 
 -- Lists of tokens.

@@ -1,12 +1,12 @@
 -- What the takes of the cursor read.
-use Rattle.std.proofs.Common.{◌≡◌, ℕ, Bool, true, false, List, [], ◌∷◌, Option, Some, None, Ok, Err, MatchOption, refl, sym, ap, ◌∙◌, subst}
+use Rattle.std.proofs.Common.{◌≡◌, ℕ, true, false, List, [], ◌∷◌, Some, None, Ok, Err, refl, sym, ap, ◌∙◌}
 use Rattle.gql_base.specs.declared.pos.Pos.{Pos}
 use Rattle.gql_tokens.specs.declared.token.Token.{Token}
 use Rattle.gql_tokens.specs.declared.token.Lexeme.{Lexeme}
 use Rattle.gql_tokens.specs.declared.token.Lexeme.TheVariants as lexeme
 use Rattle.gql_tokens.specs.declared.token.Punctuator.{Punctuator}
 use Rattle.gql_doc.specs.declared.trouble.Trouble.TheVariants.{Unexpected}
-use Rattle.gql_doc.specs.Words.{Tokens, PlacedName}
+use Rattle.gql_doc.specs.Words.{Tokens}
 use Rattle.gql_doc.specs.Readers.{begins, behind_first, place_of, picked, take_one}
 use Rattle.std.specs.Prelude.{not, ◌&&◌, codes}
 use Rattle.gql_doc.specs.declared.document.OperationType.{OperationType}

@@ -1,10 +1,9 @@
 -- The readers where no level is left: an opening token is too deep.
-use Rattle.std.proofs.Common.{◌≡◌, true, [], ◌∷◌, ◌++◌, refl, sym, ap, ◌∙◌, subst}
+use Rattle.std.proofs.Common.{true, [], ◌∷◌, ◌++◌, refl, ap, ◌∙◌}
 use Rattle.gql_base.specs.declared.pos.Pos.{Pos}
-use Rattle.gql_tokens.specs.declared.token.Token.{Token}
 use Rattle.gql_tokens.specs.declared.token.Lexeme.TheVariants as lexeme
 use Rattle.gql_tokens.specs.declared.token.Punctuator.{Punctuator}
-use Rattle.gql_doc.specs.Words.{Marked, Word, Language, OpensAt, ◌▸◌}
+use Rattle.gql_doc.specs.Words.{Marked, Language, OpensAt, ◌▸◌}
 use Rattle.gql_doc.specs.Readers.{too_deep}
 use Rattle.gql_doc.specs.Reading.{is_sign}
 use Rattle.gql_doc.proofs.ReaderLaws.{Reads, Always, Seq, SomeOf, SomeWord, deep_token, convert, too_deep_reads}

@@ -1,8 +1,7 @@
 -- The readers of definitions.
-use Rattle.std.proofs.Common.{◌≡◌, ℕ, Bool, true, false, List, [], ◌∷◌, ◌++◌, Option, Some, None, inl, inr, refl, sym, ap, ◌∙◌, subst}
+use Rattle.std.proofs.Common.{◌≡◌, ℕ, true, false, List, [], ◌∷◌, ◌++◌, Option, None, inl, inr, refl, sym, subst}
 use Rattle.std.specs.Prelude.{codes}
 use Rattle.gql_base.specs.declared.pos.Pos.{Pos}
-use Rattle.gql_tokens.specs.declared.token.Lexeme.{Lexeme}
 use Rattle.gql_tokens.specs.declared.token.Punctuator.TheVariants as sign
 use Rattle.gql_doc.specs.declared.document.OperationType.{OperationType}
 use Rattle.gql_doc.specs.declared.document.OperationType.TheVariants.{Query, Mutation, Subscription}
@@ -12,16 +11,16 @@ use Rattle.gql_doc.specs.declared.tree.VariableTree.{VariableTree}
 use Rattle.gql_doc.specs.declared.tree.SetTree.{SetTree}
 use Rattle.gql_doc.specs.declared.tree.DefinitionTree.{DefinitionTree}
 use Rattle.gql_doc.specs.declared.tree.DefinitionTree.TheVariants.{Operation, Fragment}
-use Rattle.gql_doc.specs.Words.{Tokens, Word, Language, tokens_of, ◌▸◌, Maybe, KeywordAt, SignAt}
-use Rattle.gql_doc.specs.Grammar.{IsName, IsFragmentName, IsCondition, AreVariables, AreDirectives, IsSet, IsShorthand, IsFullOperation, IsFragment, IsDefinition, keyword, max_levels}
-use Rattle.gql_doc.specs.Readers.{Reader, begins, mapped, branch, optional, ◌then◌}
-use Rattle.gql_doc.specs.Reading.{is_sign, is_name, is_word, take_word, take_name, take_fragment_name, take_operation, directives, variables, condition, set, set_at, shorthand, operation, fragment, definition}
-use Rattle.gql_doc.proofs.ReaderLaws.{Reads, Always, Seq, Map, Either, Starts, Apart, convert, seq, mapped_reads, choice, optional_reads}
+use Rattle.gql_doc.specs.Words.{Tokens, Word, Language, tokens_of, Maybe, KeywordAt}
+use Rattle.gql_doc.specs.Grammar.{IsName, IsFragmentName, IsCondition, AreVariables, AreDirectives, IsSet, IsDefinition, keyword, max_levels}
+use Rattle.gql_doc.specs.Readers.{begins, mapped, branch, optional, ◌then◌}
+use Rattle.gql_doc.specs.Reading.{is_sign, is_name, is_word, take_word, take_name, take_fragment_name, take_operation, directives, variables, condition, set, shorthand, operation, fragment, definition}
+use Rattle.gql_doc.proofs.ReaderLaws.{Reads, Always, Seq, Map, Either, Starts, convert, seq, mapped_reads, choice, optional_reads}
 use Rattle.gql_doc.proofs.TokenLaws.{IsKind, word_reads, name_reads, fragment_name_reads, operation_word_reads}
 use Rattle.gql_doc.proofs.Follows.{NextIs, NextIsName, Never, Before, joined, never_next, never_name, before_name, before_seq}
 use Rattle.gql_doc.proofs.ArgumentLaws.{directives_reads, before_directives, before_parentheses}
 use Rattle.gql_doc.proofs.VariableLaws.{variables_reads}
-use Rattle.gql_doc.proofs.SelectionLaws.{IsSetTree, NextIsSign, next_sign, sign_no_name, brace_next, condition_reads, set_reads}
+use Rattle.gql_doc.proofs.SelectionLaws.{NextIsSign, next_sign, sign_no_name, brace_next, condition_reads, set_reads}
 use Rattle.gql_doc.specs.Words.{PlacedName}
 
 pub definition_set_reads : Reads set IsSet Always

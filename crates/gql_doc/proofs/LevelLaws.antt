@@ -1,12 +1,10 @@
 -- The readers at a number of levels, case by case.
-use Rattle.std.proofs.Common.{◌≡◌, ℕ, zero, suc, ◌-◌, ◌<◌, Bool, true, false, Ok, Err, refl, sym, ap, ◌∙◌, arith}
-use Rattle.gql_tokens.specs.declared.token.Token.{Token}
+use Rattle.std.proofs.Common.{◌≡◌, ℕ, zero, suc, ◌-◌, ◌<◌, true, false, refl, ap, ◌∙◌, arith}
 use Rattle.gql_tokens.specs.declared.token.Punctuator.TheVariants as sign
 use Rattle.gql_doc.specs.declared.tree.Variables.{Variables}
-use Rattle.gql_doc.specs.declared.tree.ValueTree.{ValueTree}
 use Rattle.gql_doc.specs.Words.{Tokens}
-use Rattle.gql_doc.specs.Readers.{Reader, begins, choose, branch, too_deep, ◌then◌}
-use Rattle.gql_doc.specs.Reading.{is_sign, value_at, value_by, list_at, list_by, object_at, object_by, member_at, plain_value, type_at, bare_type_by, list_type_at, list_type_by, null_or_not, set_at, set_by, selection_at, selection_by, spread_at, spread_by, field_at, field_by}
+use Rattle.gql_doc.specs.Readers.{begins, choose, branch, too_deep, ◌then◌}
+use Rattle.gql_doc.specs.Reading.{is_sign, value_at, value_by, list_at, list_by, object_at, object_by, member_at, plain_value, type_at, bare_type_by, list_type_at, list_type_by, null_or_not, set_at, set_by, selection_at, spread_at, spread_by, field_at, field_by}
 
 module _ (variables : Variables) where
   value_step : (levels : ℕ) (tokens : Tokens) → value_at variables levels tokens ≡ value_by variables (list_at variables levels) (object_at variables levels) tokens

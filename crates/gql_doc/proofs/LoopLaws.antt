@@ -1,10 +1,10 @@
 -- A loop that reads one after the other.
-use Rattle.std.proofs.Common.{◌≡◌, ℕ, ◌<◌, Bool, true, false, List, [], ◌∷◌, ◌++◌, length, Result, Ok, Err, refl, sym, ap, ◌∙◌, subst, append_assoc, append-nil}
+use Rattle.std.proofs.Common.{◌≡◌, ◌<◌, Bool, true, false, List, [], ◌∷◌, ◌++◌, length, Result, Ok, Err, refl, sym, ap, ◌∙◌, subst, append_assoc, append-nil}
 use Rattle.gql_tokens.specs.declared.token.Token.{Token}
 use Rattle.gql_doc.specs.declared.trouble.Trouble.{Trouble}
 use Rattle.gql_doc.specs.declared.trouble.ReadError.{ReadError}
 use Rattle.gql_doc.specs.declared.trouble.ReadError.TheVariants.{Memory, Stopped}
-use Rattle.gql_doc.specs.Words.{Tokens, Language, Each}
+use Rattle.gql_doc.specs.Words.{Tokens, Language}
 use Rattle.gql_doc.specs.Readers.{Reading, Reader, go_on, begins, choose, gives, mapped, many, some, Leaves, ◌then◌}
 use Rattle.gql_doc.proofs.ReaderLaws.{Sound, Starts, many_step, shrinks}
 

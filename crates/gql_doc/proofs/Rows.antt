@@ -4,7 +4,7 @@ use Rattle.std.specs.Prelude.{codes}
 use Rattle.gql_base.specs.declared.pos.Pos.{Pos}
 use Rattle.gql_tokens.specs.declared.token.Token.{Token}
 use Rattle.gql_tokens.specs.declared.token.Lexeme.{Lexeme}
-use Rattle.gql_tokens.specs.declared.token.Lexeme.TheVariants.{Punctuator, Name, Number, String, End, Unexpected, Unsupported}
+use Rattle.gql_tokens.specs.declared.token.Lexeme.TheVariants.{Punctuator, Name, Number, End, Unexpected, Unsupported}
 use Rattle.gql_tokens.specs.declared.token.Punctuator.TheVariants.{Bang, Dollar, OpenParen, CloseParen, Colon, Equals, At, OpenBracket, CloseBracket, OpenBrace, CloseBrace}
 use Rattle.gql_tokens.specs.declared.token.Punctuator.TheVariants as sign
 use Rattle.gql_doc.specs.declared.fault.ParseKind.{ParseKind}
@@ -45,7 +45,7 @@ bad_character : parsed_by document (t 1 (Punctuator OpenBrace) ∷ t 3 Unexpecte
 unfolding document definition shorthand operation fragment set set_at head condition arguments argument directives directive variables variable default placed_type type_at placed_value value_at take_sign take_word take_name take_fragment_name take_scalar take_operation take_end type_text many many_at hidden-the_row-SelectionTree-0 hidden-the_row-ValueTree-0 hidden-the_row-MemberTree-1 hidden
 bad_character = refl
 
--- { a 
+-- { a
 unended_set : parsed_by document (t 1 (Punctuator OpenBrace) ∷ t 3 (Name (codes "a")) ∷ t 5 End ∷ []) ≡ Err (record { kind = kind.Token; pos = at 5 })
 unfolding document definition shorthand operation fragment set set_at head condition arguments argument directives directive variables variable default placed_type type_at placed_value value_at take_sign take_word take_name take_fragment_name take_scalar take_operation take_end type_text many many_at hidden-the_row-SelectionTree-0 hidden-the_row-ValueTree-0 hidden-the_row-MemberTree-1 hidden
 unended_set = refl

@@ -15,13 +15,13 @@ use Rattle.gql_doc.specs.declared.tree.SelectionTree.{SelectionTree, Field, Fiel
 use Rattle.gql_doc.specs.declared.tree.SelectionTree.TheBlock.{hidden-the_row-SelectionTree-0}
 use Rattle.gql_doc.specs.declared.tree.SelectionTree.TheViews.{rolls-Field, rolls-Inline}
 use Rattle.gql_doc.specs.declared.tree.SetTree.{SetTree}
-use Rattle.gql_doc.specs.Words.{Tokens, Word, Language, tokens_of, ◌▸◌, Each, Maybe, SignAt, OpensAt, KeywordAt, plain, Nothing}
+use Rattle.gql_doc.specs.Words.{Tokens, Word, Language, tokens_of, ◌▸◌, Each, Maybe, SignAt, OpensAt, KeywordAt, plain}
 use Rattle.gql_doc.specs.Grammar.{IsName, IsFragmentName, IsCondition, IsHead, head_pos, AreArguments, AreDirectives, IsSelection, IsSetOrNone, IsSetOf, AreSelections, IsNonEmpty}
 use Rattle.gql_doc.specs.Readers.{Reader, begins, mapped, past, ended, branch, some, optional, gives, too_deep, ◌then◌}
 use Rattle.gql_doc.specs.Reading.{is_sign, says_word, says_name, is_word, is_fragment_name, other_than, take_sign, take_word, take_name, take_fragment_name, arguments, directives, head, condition, set_or_none, field_by, spread_behind, inline_behind, spread_by, selection_by, selection_at, set_by, set_at}
-use Rattle.gql_doc.proofs.ReaderLaws.{Reads, Always, Pure, Seq, Map, Either, SomeOf, SomeWord, Starts, Apart, EachOfSome, convert, seq, mapped_reads, past_reads, ended_reads, choice, gives_any, some_reads, optional_reads}
+use Rattle.gql_doc.proofs.ReaderLaws.{Reads, Always, Pure, Seq, Map, Either, SomeOf, SomeWord, Starts, EachOfSome, convert, seq, mapped_reads, past_reads, ended_reads, choice, gives_any, some_reads, optional_reads}
 use Rattle.gql_doc.proofs.TokenLaws.{start, sign_is, sign_reads, word_reads, name_reads, fragment_name_reads, text_differs}
-use Rattle.gql_doc.proofs.Follows.{NextIs, NextIsName, Never, Before, joined, never_next, never_name, none_is, other_is, other_sign, name_is_other, sign_next, opens_next, before_name, before_seq, before_map, before_maybe}
+use Rattle.gql_doc.proofs.Follows.{NextIs, NextIsName, Never, Before, joined, never_next, never_name, none_is, other_is, name_is_other, sign_next, opens_next, before_name, before_seq, before_map}
 use Rattle.gql_doc.proofs.ArgumentLaws.{arguments_reads, directives_reads, before_directives, before_parentheses}
 use Rattle.gql_doc.proofs.Deep.{deep_reads}
 use Rattle.gql_doc.specs.Words.{PlacedName}

@@ -1,22 +1,20 @@
 -- The readers of whole texts: one part, and then the end.
-use Rattle.std.proofs.Common.{◌≡◌, ℕ, Bool, true, false, List, [], ◌∷◌, ◌++◌, Option, Some, None, Result, Ok, Err, inl, inr, refl, sym, ap, ◌∙◌, subst, append_assoc}
+use Rattle.std.proofs.Common.{◌≡◌, true, false, List, [], ◌∷◌, ◌++◌, Option, Some, None, Result, Ok, Err, refl, sym, ap, ◌∙◌, subst}
 use Rattle.gql_base.specs.declared.pos.Pos.{Pos}
 use Rattle.gql_tokens.specs.declared.token.Token.{Token}
-use Rattle.gql_tokens.specs.Token.{is_final}
 use Rattle.gql_tokens.specs.declared.token.Lexeme.{Lexeme}
 use Rattle.gql_tokens.specs.declared.token.Lexeme.TheVariants as lexeme
 use Rattle.gql_tokens.specs.declared.token.Punctuator.TheVariants as sign
 use Rattle.gql_doc.specs.declared.trouble.Trouble.{Trouble}
 use Rattle.gql_doc.specs.declared.tree.DefinitionTree.{DefinitionTree}
-use Rattle.gql_base.specs.declared.type_ref.TypeRef.{TypeRef}
-use Rattle.gql_doc.specs.Words.{Tokens, AreTokens, AreTokensFrom, Word, Language, tokens_of, NoneDeep, plain, ◌▸◌, Each, One, OneAt}
-use Rattle.gql_doc.specs.Grammar.{IsDocument, IsDefinition, IsTypeText, IsType, IsNonEmpty, max_levels}
-use Rattle.gql_doc.specs.Readers.{Reading, Reader, go_on, begins, gives, mapped, ended, picked, take_one, some, ◌then◌}
+use Rattle.gql_doc.specs.Words.{Tokens, Word, Language, tokens_of, plain, ◌▸◌, One, OneAt}
+use Rattle.gql_doc.specs.Grammar.{IsDocument, IsDefinition, IsTypeText, IsType, max_levels}
+use Rattle.gql_doc.specs.Readers.{Reader, go_on, begins, gives, mapped, ended, picked, some}
 use Rattle.std.specs.Prelude.{not}
 use Rattle.gql_doc.specs.Reading.{says_sign, says_name, says_end, before_end, if_so, take_end, definition, document, type_at, type_text}
-use Rattle.gql_doc.proofs.ReaderLaws.{Reads, Always, Explains, Sound, Complete, Local, Live, Ends, EndsBehind, Taken, Seq, Map, SomeOf, Starts, EachOfSome, Explains-map, outcome, one_sound, one_local, mapped_sound, mapped_local, mapped_outcome, seq_sound, seq_complete, seq_local, some_reads}
+use Rattle.gql_doc.proofs.ReaderLaws.{Reads, Always, Sound, Complete, Local, Ends, Taken, Seq, Map, Starts, EachOfSome, Explains-map, outcome, one_sound, one_local, mapped_sound, mapped_local, mapped_outcome, seq_sound, seq_complete, seq_local, some_reads}
 use Rattle.gql_doc.proofs.TokenLaws.{start, if_so_is, sign_is}
-use Rattle.gql_doc.proofs.Follows.{NextIs, NextIsName, Never, Before}
+use Rattle.gql_doc.proofs.Follows.{NextIs, NextIsName, Never}
 use Rattle.gql_doc.proofs.TypeLaws.{type_reads}
 use Rattle.gql_doc.proofs.DefinitionLaws.{definition_reads, before_definition}
 

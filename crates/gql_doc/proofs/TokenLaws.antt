@@ -1,8 +1,8 @@
 -- The readers of one token.
-use Rattle.std.proofs.Common.{◌≡◌, ◌≢◌, ℕ, Bool, true, false, not, ◌&&◌, List, [], ◌∷◌, ◌++◌, Option, Some, None, refl, sym, ap, ◌∙◌, subst, Decides}
+use Rattle.std.proofs.Common.{◌≡◌, ◌≢◌, ℕ, Bool, true, false, not, List, [], ◌∷◌, Option, Some, None, refl, sym, ap, ◌∙◌, subst}
 use Rattle.std.specs.Prelude.{codes, unwrap_or, if◌then◌else◌}
 use Rattle.std.specs.Cmp.Lexicographic.{bytes_decides}
-use denote.Enum.Bare.{sameb, same_true, true_same}
+use denote.Enum.Bare.{same_true, true_same}
 use Rattle.gql_base.specs.declared.pos.Pos.{Pos}
 use Rattle.gql_tokens.specs.declared.token.Token.{Token}
 use Rattle.gql_tokens.specs.Token.{is_final}
@@ -15,7 +15,6 @@ use Rattle.gql_doc.specs.declared.document.OperationType.{OperationType}
 use Rattle.gql_doc.specs.declared.document.OperationType.TheVariants.{Query, Mutation, Subscription}
 use Rattle.gql_doc.specs.Words.{Word, Language, plain, OneAt, One, SignAt, Keyword, KeywordAt}
 use Rattle.gql_doc.specs.Grammar.{IsName, IsFragmentName, IsEnumName, keyword}
-use Rattle.gql_doc.specs.Readers.{take_one}
 use Rattle.gql_doc.specs.Reading.{says_sign, is_sign, says_word, is_word, same_text, if_so, name_in, fragment_name_in, scalar_in, operation_in, operation_named, with_pos, take_sign, take_word, take_name, take_fragment_name, take_scalar, take_operation}
 use Rattle.gql_doc.proofs.ReaderLaws.{Reads, Always, Taken, convert, one_reads}
 use Rattle.gql_doc.specs.Words.{PlacedName}

@@ -1,6 +1,6 @@
 -- The readers of types.
-use Rattle.std.proofs.Common.{◌≡◌, ℕ, zero, suc, pred, Bool, true, false, List, [], ◌∷◌, ◌++◌, inl, inr, refl, sym, ap, ◌∙◌, subst, append-nil}
-use mathlib.Core.Former.{Count, none_left, one_more}
+use Rattle.std.proofs.Common.{◌≡◌, ℕ, zero, suc, pred, true, false, [], ◌∷◌, ◌++◌, inl, inr, refl, sym, ap, ◌∙◌, subst, append-nil}
+use mathlib.Core.Former.{none_left, one_more}
 use denote.Hole.Carrier.{out, shown, hidden}
 use Rattle.gql_base.specs.declared.pos.Pos.{Pos}
 use Rattle.gql_tokens.specs.declared.token.Lexeme.TheVariants as lexeme
@@ -9,13 +9,13 @@ use Rattle.gql_base.specs.declared.type_ref.TypeRef as type
 use Rattle.gql_base.specs.declared.type_ref.TypeRef.{TypeRef, Row_of-TypeRef, end_of-TypeRef, more_of-TypeRef, out-TypeRef, roll-TypeRef, roll-out-TypeRef}
 use Rattle.gql_base.specs.declared.type_ref.TypeRef.TheBlock.{shape-the_row-TypeRef-0, hidden-the_row-TypeRef-0, shown-the_row-TypeRef-0}
 use Rattle.gql_base.specs.declared.type_ref.TypeRef.TheViews.{rolls-List, rolls-NonNull}
-use Rattle.gql_doc.specs.Words.{Tokens, Word, Language, tokens_of, ◌▸◌, SignAt, OpensAt, Sign, plain, Nothing}
+use Rattle.gql_doc.specs.Words.{Tokens, Word, Language, tokens_of, ◌▸◌, SignAt, OpensAt, plain}
 use Rattle.gql_doc.specs.Grammar.{IsType, IsNullableType, IsTypeIn, IsNullableIn, IsPlacedType, IsName, max_levels}
-use Rattle.gql_doc.specs.Readers.{Reader, begins, mapped, past, ended, branch, gives, placed, too_deep, ◌then◌}
+use Rattle.gql_doc.specs.Readers.{Reader, begins, mapped, ended, gives, too_deep, ◌then◌}
 use Rattle.gql_doc.specs.Reading.{is_sign, other_than, take_sign, take_name, bare_type_by, list_type_by, null_or_not, type_at, placed_type}
 use Rattle.gql_doc.proofs.ReaderLaws.{Reads, Always, Pure, Seq, Map, Either, SomeOf, SomeWord, Starts, PlacedBy, convert, seq, mapped_reads, past_reads, ended_reads, choice, gives_any, placed_reads}
 use Rattle.gql_doc.proofs.TokenLaws.{start, sign_reads, name_reads}
-use Rattle.gql_doc.proofs.Follows.{NextIs, Never, Before, joined, before_name, opens_next, sign_next, none_is, other_sign, never_next, never_name, name_is_other}
+use Rattle.gql_doc.proofs.Follows.{NextIs, Never, joined, before_name, opens_next, sign_next, none_is, never_next, never_name, name_is_other}
 use Rattle.gql_doc.proofs.Deep.{deep_past_reads}
 use Rattle.gql_doc.specs.Words.{PlacedName, PlacedType}
 

@@ -1,5 +1,5 @@
 -- The readers of values.
-use Rattle.std.proofs.Common.{◌≡◌, ℕ, zero, suc, pred, Bool, true, false, List, [], ◌∷◌, ◌++◌, inl, inr, refl, sym, ap, ◌∙◌, subst}
+use Rattle.std.proofs.Common.{◌≡◌, ℕ, zero, suc, pred, true, false, List, [], ◌∷◌, ◌++◌, inl, inr, refl, sym, ap, ◌∙◌, subst}
 use Rattle.std.specs.Prelude.{not, codes, if◌then◌else◌}
 use Rattle.gql_tokens.specs.declared.token.Lexeme.{Lexeme}
 use Rattle.gql_tokens.specs.declared.token.Lexeme.TheVariants as lexeme
@@ -12,7 +12,6 @@ use Rattle.gql_doc.specs.declared.tree.Variables.TheVariants.{Allowed, Forbidden
 use Rattle.gql_doc.specs.declared.tree.ValueTree.{ValueTree, Variable, Number, String, Boolean, Null, Enum, List as ListValue, List', Object, Object', Row_of-ValueTree, end_of-ValueTree, more_of-ValueTree, items-the_row-ValueTree, items_hidden-the_row-ValueTree-0, items_shown-the_row-ValueTree-0, Row_of-MemberTree, end_of-MemberTree, more_of-MemberTree, items-the_row-MemberTree, items_hidden-the_row-MemberTree-1, items_shown-the_row-MemberTree-1, out-ValueTree, roll-ValueTree, roll-out-ValueTree}
 use Rattle.gql_doc.specs.declared.tree.ValueTree.TheBlock.{hidden-the_row-ValueTree-0, hidden-the_row-MemberTree-1}
 use Rattle.gql_doc.specs.declared.tree.ValueTree.TheViews.{rolls-List, rolls-Object}
-use Rattle.gql_doc.specs.declared.tree.MemberTree.{MemberTree}
 use mathlib.Core.Former.{Count}
 use denote.Hole.Carrier.{out}
 use Rattle.gql_doc.specs.Words.{Tokens, Word, Language, tokens_of, ◌▸◌, Each, One, SignAt, OpensAt, plain}

@@ -1,5 +1,5 @@
 -- The readers of definitions of variables.
-use Rattle.std.proofs.Common.{◌≡◌, Bool, true, false, List, [], ◌∷◌, ◌++◌, Option, Some, None, refl, sym, ap, ◌∙◌, subst}
+use Rattle.std.proofs.Common.{List, [], ◌∷◌, ◌++◌, Option, refl, sym, subst}
 use Rattle.gql_base.specs.declared.pos.Pos.{Pos}
 use Rattle.gql_tokens.specs.declared.token.Punctuator.TheVariants as sign
 use Rattle.gql_doc.specs.declared.tree.Variables.TheVariants.{Forbidden}
@@ -7,7 +7,7 @@ use Rattle.gql_doc.specs.declared.tree.DirectiveTree.{DirectiveTree}
 use Rattle.gql_doc.specs.declared.tree.VariableTree.{VariableTree}
 use Rattle.gql_doc.specs.Words.{Tokens, Word, Language, tokens_of, ◌▸◌, Maybe, SignAt}
 use Rattle.gql_doc.specs.Grammar.{IsName, IsPlacedType, IsPlacedValue, IsDefault, IsVariable, AreVariables, AreDirectives}
-use Rattle.gql_doc.specs.Readers.{Reader, begins, mapped, past, optional, ◌then◌}
+use Rattle.gql_doc.specs.Readers.{mapped, past, ◌then◌}
 use Rattle.gql_doc.specs.Reading.{is_sign, other_than, take_sign, take_name, placed_value, placed_type, default, directives, variable, variables}
 use Rattle.gql_doc.proofs.ReaderLaws.{Reads, Always, Seq, Map, SomeOf, Starts, convert, seq, mapped_reads, past_reads, optional_reads}
 use Rattle.gql_doc.proofs.TokenLaws.{sign_reads, name_reads}

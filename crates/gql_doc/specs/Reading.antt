@@ -22,8 +22,6 @@ use Rattle.gql_base.specs.declared.type_ref.TypeRef.{TypeRef}
 use Rattle.gql_doc.specs.declared.tree.VariableTree.{VariableTree}
 use Rattle.gql_doc.specs.declared.tree.SelectionTree.{SelectionTree, Field, Spread, Inline}
 use Rattle.gql_doc.specs.declared.tree.SetTree.{SetTree}
-use Rattle.gql_doc.specs.declared.tree.OperationTree.{OperationTree}
-use Rattle.gql_doc.specs.declared.tree.FragmentTree.{FragmentTree}
 use Rattle.gql_doc.specs.declared.tree.DefinitionTree.{DefinitionTree}
 use Rattle.gql_doc.specs.declared.tree.DefinitionTree.TheVariants.{Operation, Fragment}
 use Rattle.gql_doc.specs.declared.trouble.Trouble.{Trouble}

@@ -1,6 +1,6 @@
 -- Which tokens spell a tree, and which fault is the first one of tokens that spell none. `D` is the grammar's part that
 -- is read, as whole documents: which words each tree is written as.
-use Rattle.std.specs.Prelude.{◌≡◌, true, List, [], ◌∷◌, ◌++◌, Result, Ok, Err}
+use Rattle.std.specs.Prelude.{◌≡◌, true, [], ◌∷◌, ◌++◌, Result, Ok, Err}
 use Rattle.gql_tokens.specs.declared.token.Token.{Token}
 use Rattle.gql_tokens.specs.declared.token.Lexeme.{Lexeme}
 use Rattle.gql_tokens.specs.declared.token.Lexeme.TheVariants as lexeme
