@@ -7,6 +7,8 @@ mod definitions;
 mod document;
 mod fault;
 mod selections;
+#[cfg(test)]
+mod tests;
 mod tree;
 mod tree_of;
 mod trouble;
