@@ -4,8 +4,9 @@ use Rattle.std.proofs.Math.Utf8.{encode, encodes}
 use Rattle.std.proofs.lemmas.Bool.Decides.{nat_tests}
 use Rattle.std.proofs.lemmas.List.Elements.{All-head, All-tail, All-from_recursion}
 use Rattle.std.specs.List.{All, AllByRecursion, flat_map}
-use Rattle.gql_base.specs.Json.{escaped, IsPlain, member, comma_of, value_text}
+use Rattle.gql_base.specs.Json.{escaped, IsPlain, quoted, member, comma_of, value_text, json}
 use Rattle.gql_base.specs.declared.json.Style.{Style}
+use Rattle.gql_base.specs.declared.json.Style.TheVariants.{Json}
 use Rattle.gql_base.specs.Separated.{separated}
 use Rattle.gql_base.specs.declared.value.Value.{Value, the_lemmas}
 use Rattle.gql_base.specs.declared.value.Value.TheVariants as value
@@ -65,3 +66,8 @@ module _ (style : Style) where
   pub text-object : (ms : List (List ℕ × Value)) → value_text style (value.Object ms)
       ≡ codes "{" ++ (separated (comma_of style) (map (λ p. member style (p.0, value_text style p.1)) ms) ++ codes "}")
   text-object ms = search (rules, the_lemmas, members-texts)
+
+-- the JSON text of an object, member by member
+pub json-object : (ms : List (List ℕ × Value))
+    → json (value.Object ms) ≡ codes "{" ++ (separated (codes ",") (map (λ p. quoted p.0 ++ (codes ":" ++ json p.1)) ms) ++ codes "}")
+json-object ms = text-object Json ms

@@ -2,3 +2,6 @@ pub mod PairLemmas
 pub mod SeparatedLemmas
 pub mod JsonLemmas
 pub mod ReadJsonLemmas
+pub mod ErrorJsonLemmas
+pub mod InOrderLemmas
+pub mod SameLemmas

@@ -1,5 +1,5 @@
 -- Names beside their values: what look-up, `put` and distinct names come to where the pairs are made of two lists.
-use Rattle.std.proofs.Common.{◌≡◌, ℕ, zero, suc, ◌+◌, ◌<◌, ◌≤◌, Bool, true, false, cond, not, List, [], ◌∷◌, ◌++◌, map, length, take, Some, None, slice_get, slice_set, String, string_bytes, slice_index_or, Global, refl, ap, sym, ◌∙◌, arith, length-append}
+use Rattle.std.proofs.Common.{◌≡◌, ℕ, zero, suc, ◌+◌, ◌<◌, ◌≤◌, Bool, true, false, cond, not, ◌&&◌, List, [], ◌∷◌, ◌++◌, map, length, take, Some, None, slice_get, slice_set, String, string_bytes, slice_index_or, Global, refl, ap, sym, ◌∙◌, arith, length-append}
 use Rattle.std.proofs.lemmas.Option.{slice_get_past, slice_get_read, slice_get_within, get_or_from_slice_get}
 use Rattle.std.proofs.lemmas.List.{take_more}
 use Rattle.std.proofs.lemmas.Bool.Decides.{nat_tests}
@@ -7,10 +7,10 @@ use Rattle.std.specs.List.{zip, position, position_or_len, IsDistinct, AllByRecu
 use Rattle.std.specs.List.{list_any}
 use Rattle.std.specs.Str.{bytes_eq}
 use Rattle.std.specs.Option.{option_map_or}
-use Rattle.std.specs.Cmp.Lexicographic.{bytes_decides}
+use Rattle.std.specs.Cmp.Lexicographic.{bytes_decides, pointwise}
 use Rattle.std.specs.String.{string_eq}
 use Rattle.indexmap.specs.IndexSet.{insert_key}
-use Rattle.gql_base.specs.Pairs.{under, put, HasDistinctNames}
+use Rattle.gql_base.specs.Pairs.{under, put, HasDistinctNames, same_pair}
 
 -- a place that `position` answers is the first that passes, and where it answers none there is no such place
 pub position-is : {X : Type 0} (p : X → Bool) (xs : List X) (i : ℕ) → Some i ≡ position p xs → (position_or_len p xs ≡ i) × (i < length xs)
@@ -201,3 +201,33 @@ pub same-name : (m n : List ℕ) → false ≡ not (bytes_eq m n) → m ≡ n
 same-name m n told =
     let P : Bool → Type 0 = λ b. (b ≡ true → m ≡ n) → false ≡ not b → m ≡ n in
     (elim (bytes_eq m n) as P [ true ↦ λ h e. h refl | false ↦ λ h e. cc ]) (bytes_decides m n).0 told
+
+and-swap : (a b c d : Bool) → ((a && b) && (c && d)) ≡ ((a && c) && (b && d))
+and-swap true true c d = refl
+and-swap true false true d = refl
+and-swap true false false d = refl
+and-swap false b c d = refl
+
+-- pairs are equal where their names are, and their values
+pub same-zipped : {K T : Type 0} (name : K → List ℕ) (E : T → T → Bool) (ks js : List K) (vs ws : List T) → length vs ≡ length ks → length ws ≡ length js
+    → pointwise (same_pair E) (zip (map name ks) vs) (zip (map name js) ws) ≡ (pointwise (λ k j. bytes_eq (name k) (name j)) ks js && pointwise E vs ws)
+same-zipped name E [] [] [] [] d e = refl
+same-zipped name E [] [] [] (w ∷ ws) d e = absurd (omega arith)
+same-zipped name E [] (j ∷ js) [] [] d e = absurd (omega arith)
+same-zipped name E [] (j ∷ js) [] (w ∷ ws) d e = refl
+same-zipped name E [] js (v ∷ vs) ws d e = absurd (omega arith)
+same-zipped name E (k ∷ ks) js [] ws d e = absurd (omega arith)
+same-zipped name E (k ∷ ks) [] (v ∷ vs) [] d e = refl
+same-zipped name E (k ∷ ks) [] (v ∷ vs) (w ∷ ws) d e = absurd (omega arith)
+same-zipped name E (k ∷ ks) (j ∷ js) (v ∷ vs) [] d e = absurd (omega arith)
+same-zipped name E (k ∷ ks) (j ∷ js) (v ∷ vs) (w ∷ ws) d e =
+    ap (λ rest. (bytes_eq (name k) (name j) && E v w) && rest) (same-zipped name E ks js vs ws (omega arith) (omega arith))
+    ∙ and-swap (bytes_eq (name k) (name j)) (E v w) (pointwise (λ k j. bytes_eq (name k) (name j)) ks js) (pointwise E vs ws)
+
+-- the same at names that a set keeps as strings, by what two tests have told
+module _ {T : Type 0} (E : T → T → Bool) (ks js : List (String Global)) (vs ws : List T) (ps qs : List (List ℕ × T)) where
+  pub same-pairs : (named valued : Bool) → named ≡ pointwise string_eq ks js → valued ≡ pointwise E vs ws → length vs ≡ length ks → length ws ≡ length js
+      → zip (map string_bytes ks) vs ≡ ps → zip (map string_bytes js) ws ≡ qs → (named && valued) ≡ pointwise (same_pair E) ps qs
+  same-pairs named valued told-names told-values one two made-one made-two =
+      (λ i. told-names i && told-values i) ∙ sym (same-zipped string_bytes E ks js vs ws one two)
+      ∙ (λ i. pointwise (same_pair E) (made-one i) (made-two i))

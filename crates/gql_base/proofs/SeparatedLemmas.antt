@@ -29,3 +29,13 @@ pub separated_at : {X : Type 0} (f : X → List ℕ) (sep : List ℕ) (xs : List
 separated_at f sep xs i x found =
     separated_more f sep xs i x (slice_get_within xs i x found)
     ∙ ap (λ y. separated sep (map f (take i xs)) ++ (before sep i ++ f y)) (get_or_from_slice_get xs i x x found)
+
+-- a separator and then the text of the next thing, appended one after another
+pub separated_step : {X : Type 0} (f : X → List ℕ) (sep : List ℕ) (xs : List X) (i : ℕ) (x : X) (start out parted next : List ℕ) → slice_get xs i ≡ Some x
+    → out ≡ start ++ separated sep (map f (take i xs)) → parted ≡ out ++ before sep i → next ≡ parted ++ f x
+    → next ≡ start ++ separated sep (map f (take (i + 1) xs))
+separated_step f sep xs i x start out parted next found so-far separator last =
+    last ∙ ap (λ t. t ++ f x) (separator ∙ ap (λ t. t ++ before sep i) so-far)
+    ∙ append_assoc (start ++ separated sep (map f (take i xs))) (before sep i) (f x)
+    ∙ append_assoc start (separated sep (map f (take i xs))) (before sep i ++ f x)
+    ∙ ap (λ t. start ++ t) (sym (separated_at f sep xs i x found))

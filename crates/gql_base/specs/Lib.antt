@@ -6,3 +6,7 @@ pub mod Same
 pub mod Separated
 pub mod TypeRef
 pub mod formers
+pub mod PathSegment
+pub mod Variables
+pub mod ErrorExtensionValues
+pub mod ErrorJson

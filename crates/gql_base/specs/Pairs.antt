@@ -1,5 +1,5 @@
 -- Lists of pairs of a name and a value, in order, as contracts see `Pairs`. A name is the list of its bytes.
-use Rattle.std.specs.Prelude.{◌≡◌, ℕ, List, [], ◌∷◌, map, Option, Some, None, if◌then◌else◌}
+use Rattle.std.specs.Prelude.{◌≡◌, ℕ, Bool, ◌&&◌, List, [], ◌∷◌, map, Option, Some, None, if◌then◌else◌}
 use Rattle.std.specs.Str.{bytes_eq}
 
 -- the value of the first pair of this name
@@ -22,3 +22,7 @@ values_of ps = map (λ p. p.1) ps
 abbrev pub HasDistinctNames : {T : Type 0} → List (List ℕ × T) → Type 0
 HasDistinctNames [] = Unit {0}
 HasDistinctNames (p ∷ ps) = (under p.0 ps ≡ None) × HasDistinctNames ps
+
+-- whether two pairs have the same name, and values that a test calls equal
+abbrev pub same_pair : {T : Type 0} → (T → T → Bool) → List ℕ × T → List ℕ × T → Bool
+same_pair same_value p q = bytes_eq p.0 q.0 && same_value p.1 q.1

@@ -1,11 +1,15 @@
 ghost use Rattle.std.specs.Prelude.{◌≡◌, IfOk, map, take};
 ghost use Rattle.gql_base.specs.Pairs.{names_of};
 
+use crate::boxed::Boxed;
 use crate::items::Items;
 use crate::made::Made;
 use crate::name::Name;
+use crate::number::Number;
 use crate::pairs::Pairs;
+use crate::pos::Pos;
 use crate::text::Text;
+use crate::type_ref::TypeRef;
 use crate::value::Value;
 use std::alloc::Global;
 
@@ -22,6 +26,30 @@ impl Copied for i64 {
     }
 }
 
+impl Copied for u64 {
+    fn try_clone(&self, _alloc: Global) -> Made<u64> {
+        Ok(*self)
+    }
+}
+
+impl Copied for bool {
+    fn try_clone(&self, _alloc: Global) -> Made<bool> {
+        Ok(*self)
+    }
+}
+
+impl Copied for Number {
+    fn try_clone(&self, _alloc: Global) -> Made<Number> {
+        Ok(*self)
+    }
+}
+
+impl Copied for Pos {
+    fn try_clone(&self, _alloc: Global) -> Made<Pos> {
+        Ok(*self)
+    }
+}
+
 impl Copied for Text {
     fn try_clone(&self, alloc: Global) -> Made<Text> {
         Text::new(alloc, self.as_str())
@@ -31,6 +59,21 @@ impl Copied for Text {
 impl Copied for Name {
     fn try_clone(&self, alloc: Global) -> Made<Name> {
         Name::new(alloc, self.as_str())
+    }
+}
+
+impl<T: Copied + Drop> Copied for Option<T> {
+    fn try_clone(&self, alloc: Global) -> Made<Option<T>> {
+        match self {
+            None => Ok(None),
+            Some(value) => Ok(Some(value.try_clone(alloc)?)),
+        }
+    }
+}
+
+impl<T: Copied + Drop> Copied for Boxed<T> {
+    fn try_clone(&self, alloc: Global) -> Made<Boxed<T>> {
+        Boxed::new(alloc, self.get().try_clone(alloc)?)
     }
 }
 
@@ -99,4 +142,20 @@ fn copy_members(alloc: Global, members: &Pairs<Value>) -> Made<Pairs<Value>>
         copies.add(Name::new(alloc, name)?, copy_value(alloc, value)?)?;
     }
     Ok(copies)
+}
+
+impl Copied for TypeRef {
+    fn try_clone(&self, alloc: Global) -> Made<TypeRef> {
+        copy_type(alloc, self)
+    }
+}
+
+fn copy_type(alloc: Global, ty: &TypeRef) -> Made<TypeRef>
+    ensures { IfOk result (λ copy. copy ≡ ty.now) }
+{
+    match ty {
+        TypeRef::Named(name) => Ok(TypeRef::Named(name.try_clone(alloc)?)),
+        TypeRef::NonNull(inner) => copy_type(alloc, inner.get())?.non_null(alloc),
+        TypeRef::List(inner) => copy_type(alloc, inner.get())?.list(alloc),
+    }
 }

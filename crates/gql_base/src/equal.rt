@@ -1,6 +1,7 @@
 ghost use Rattle.std.specs.Prelude.{◌≡◌, ◌↔◌, IsTrue};
 
 use crate::pairs::Pairs;
+use crate::type_ref::TypeRef;
 use crate::value::Value;
 
 /// Members of an object are compared in their order, and an enum never equals a string.
@@ -74,4 +75,39 @@ fn same_members(a: &Pairs<Value>, b: &Pairs<Value>) -> bool
         }
     }
     true
+}
+
+impl PartialEq for TypeRef {
+    ghost use Rattle.std.specs.Prelude.{◌≡◌, ◌↔◌, IsTrue};
+    ghost use Rattle.gql_base.specs.Same.{is_same, is_same_laws};
+    ghost use Rattle.gql_base.specs.contracts.type_ref.TypeRef.{the_row};
+
+    ghost eq = { is_same the_row.coded };
+
+    ghost laws = { is_same_laws the_row.coded };
+
+    fn eq(&self, other: &TypeRef) -> bool
+        ensures value { result ≡ is_same the_row.coded self.now other.now }
+        ensures decides { IsTrue result ↔ (self.now ≡ other.now) }
+    {
+        same_type(self, other)
+    }
+}
+
+impl Eq for TypeRef {
+    ghost use Rattle.gql_base.specs.Same.{is_same_equivalence};
+    ghost use Rattle.gql_base.specs.contracts.type_ref.TypeRef.{the_row};
+
+    ghost laws = { is_same_equivalence the_row.coded };
+}
+
+fn same_type(a: &TypeRef, b: &TypeRef) -> bool
+    ensures { IsTrue result ↔ (a.now ≡ b.now) }
+{
+    match (a, b) {
+        (TypeRef::Named(x), TypeRef::Named(y)) => x == y,
+        (TypeRef::NonNull(x), TypeRef::NonNull(y)) => same_type(x.get(), y.get()),
+        (TypeRef::List(x), TypeRef::List(y)) => same_type(x.get(), y.get()),
+        _ => false,
+    }
 }

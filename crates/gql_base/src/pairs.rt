@@ -100,6 +100,23 @@ impl<T: Drop> Pairs<T> {
     }
 }
 
+/// Equal where the names and the values are, in their order.
+impl<T: PartialEq> PartialEq for Pairs<T> {
+    ghost use Rattle.std.specs.Prelude.{nat_eq};
+    ghost use Rattle.std.specs.Cmp.{and_per, on_per, partial_equiv_from_equiv};
+    ghost use Rattle.std.specs.Cmp.Lexicographic.{pointwise, lists_per, nat_list_eq_equiv};
+    ghost use Rattle.gql_base.specs.Pairs.{same_pair};
+
+    ghost eq = { pointwise (same_pair T.eq) };
+
+    ghost laws = { lists_per (and_per (on_per (λ p. p.0) (partial_equiv_from_equiv nat_list_eq_equiv)) (on_per (λ p. p.1) T.laws)) };
+
+    fn eq(&self, other: &Pairs<T>) -> bool {
+        self.names.as_slice() == other.names.as_slice()
+            && self.values.as_slice() == other.values.as_slice()
+    }
+}
+
 /// Adds a value for which there is room.
 fn push_within<T: Drop>(values: &mut Vec<T>, value: T)
     requires { vec_len values.old < vec_capacity values.old }

@@ -1,6 +1,6 @@
 -- The JSON value of bytes, by what `serde_json` says of them.
 use Rattle.std.proofs.Common.{◌≡◌, ℕ, List, Bool, true, false, cond, refl}
-use Rattle.std.specs.Prelude.{Option, Some, None, IsUtf8}
+use Rattle.std.specs.Prelude.{Some, None, IsUtf8}
 use Rattle.std.specs.Str.{is_utf8}
 use Rattle.std.proofs.lemmas.Str.{IsUtf8-from_is_utf8, is_utf8-from_IsUtf8}
 use Rattle.serde_json.specs.Data.{Data}

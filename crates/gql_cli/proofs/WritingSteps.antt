@@ -1,7 +1,7 @@
 -- A writing, write by write.
-use Rattle.std.proofs.Common.{◌≡◌, ℕ, ◌+◌, List, ◌++◌, take, drop, sym, ◌∙◌, ap, append_assoc}
+use Rattle.std.proofs.Common.{ℕ, ◌+◌, ◌-◌, List, ◌++◌, length, take, drop, sym, ◌∙◌, ap, append_assoc}
 use Rattle.std.specs.Prelude.{Option, Some, None}
-use Rattle.std.proofs.lemmas.List.{take-append-drop}
+use Rattle.std.proofs.lemmas.List.{take-append-drop, take_rest}
 use Rattle.std.proofs.Math.Seq.{take-add}
 use Rattle.std.specs.Io.KnownBytes.{Appends, Keeps}
 use Rattle.gql_cli.specs.Writing.{AppendsStart}
@@ -15,8 +15,10 @@ Appends-append (Some xs) (Some ys) (Some zs) front back grew grows = grows ∙ a
 
 -- the next `count` bytes of a text after its first `place`
 pub Appends-more : (old mid new : Option (List ℕ)) (text : List ℕ) (place count : ℕ) → Appends old mid (take place text)
-    → Appends mid new (take count (drop place text)) → Appends old new (take (place + count) text)
-Appends-more old mid new text place count grew grows = rw take-add (Appends-append old mid new (take place text) (take count (drop place text)) grew grows)
+    → Appends mid new (take count (take (length text - place) (drop place text))) → Appends old new (take (place + count) text)
+Appends-more old mid new text place count grew grows =
+    let grows_on = rw take_rest at grows in
+    rw take-add (Appends-append old mid new (take place text) (take count (drop place text)) grew grows_on)
 
 Appends-Keeps : (old mid new : Option (List ℕ)) (text : List ℕ) → Appends old mid text → Keeps mid new → Appends old new text
 Appends-Keeps None mid new text grew keeps = tt
@@ -26,5 +28,11 @@ Appends-Keeps (Some xs) (Some ys) (Some zs) text grew keeps = keeps ∙ grew
 
 -- a refusal after the first `place` bytes leaves the front of the text
 pub AppendsStart-refused : (old mid new : Option (List ℕ)) (text : List ℕ) (place : ℕ) → Appends old mid (take place text) → Keeps mid new → AppendsStart old new text
-AppendsStart-refused old mid new text place grew keeps =
-    (take place text, drop place text, sym (take-append-drop place text), Appends-Keeps old mid new (take place text) grew keeps)
+AppendsStart-refused old mid new text place grew keeps = record {
+  front = take place text;
+  rest = drop place text;
+  split = sym (take-append-drop place text);
+  grown = Appends-Keeps old mid new (take place text) grew keeps;
+}
+
+pub ruleset writing_steps = (Appends-more, AppendsStart-refused)

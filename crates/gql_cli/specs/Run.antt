@@ -1,6 +1,6 @@
 -- What a run of the program has to write, and with which status.
 use Rattle.std.specs.Prelude.{◌≡◌, ◌⊎◌, ℕ, List, [], ◌∷◌, ◌++◌, Option, codes}
-use Rattle.gql_cli.specs.Bench.{meaning}
+use Rattle.gql_cli.specs.Bench.{Gives}
 use Rattle.gql_cli.specs.Reading.{IsInput, IsTooLong, HasFailed}
 use Rattle.gql_cli.specs.declared.bench.Written.TheVariants.{Answered, NotJson, NotBuilt}
 use Rattle.gql_cli.specs.declared.outcome.Outcome.{Outcome}
@@ -36,7 +36,7 @@ abbrev pub IsDue : {I : Type 0} → (I → Option (List ℕ)) → (I → ℕ) �
 IsDue left given faults old new words Usage = ¬ IsListed words
 IsDue left given faults old new words ReadFault = IsListed words × HasFailed given faults old new
 IsDue left given faults old new words TooLong = IsListed words × IsTooLong left given old new
-IsDue left given faults old new words (Bench written) = IsListed words × ((bytes : List ℕ) × IsInput left given old new bytes × (meaning bytes ≡ written))
+IsDue left given faults old new words (Bench written) = IsListed words × ((bytes : List ℕ) × IsInput left given old new bytes × Gives bytes written)
 
 -- the sink failed, or memory was wanting, before the whole text was written
 abbrev pub IsCutOff : ℕ → Type 0

@@ -2,6 +2,9 @@
 use Rattle.std.specs.Prelude.{◌≡◌, ℕ, List, ◌++◌, Option}
 use Rattle.std.specs.Io.KnownBytes.{Appends}
 
--- known bytes grow by the front of a text, which may be all of it or nothing
-abbrev pub AppendsStart : Option (List ℕ) → Option (List ℕ) → List ℕ → Type 0
-AppendsStart old new text = (front : List ℕ) × (rest : List ℕ) × (text ≡ front ++ rest) × Appends old new front
+-- Known bytes grow by the front of a text, which may be all of it or nothing.
+pub record AppendsStart (old new : Option (List ℕ)) (text : List ℕ) : Type 0 where
+  pub front : List ℕ
+  pub rest : List ℕ
+  pub split : text ≡ front ++ rest
+  pub grown : Appends old new front

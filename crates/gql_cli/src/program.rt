@@ -1,12 +1,13 @@
 //! The program's top call.
 ghost use Rattle.std.specs.Prelude.{◌≡◌, ◌⊎◌, ◌+◌, ◌<◌, ◌≤◌, List, ℕ, length, map, string_bytes, IfSome};
 ghost use Rattle.std.specs.Io.KnownBytes.{Keeps, Appends};
-ghost use Rattle.gql_cli.specs.Bench.{meaning};
+ghost use Rattle.gql_cli.specs.Bench.{Gives};
 ghost use Rattle.gql_cli.specs.Counts.{IsFull, HasRisen};
 ghost use Rattle.gql_cli.specs.Reading.{IsInput, IsTooLong};
 ghost use Rattle.gql_cli.specs.Run.{IsListed, IsCutOff, IsDue, due_status, due_text};
 ghost use Rattle.gql_cli.specs.Status.{code_of};
 ghost use Rattle.gql_cli.specs.Writing.{AppendsStart};
+ghost use Rattle.gql_cli.specs.declared.bench.Written.{Written};
 
 use crate::outcome::{Outcome, decide};
 use crate::reading::INPUT_LIMIT;
@@ -44,7 +45,7 @@ pub fn run<R, I: Source, O: Sink>(
     // 0 and 3 come after the whole input was read, by what it gives as a bench.
     ensures bench { (result ≡ 0) ⊎ (result ≡ 3)
         → (input : List ℕ) × IsInput I.left I.given source.old source.new input
-        × (result ≡ due_status (Outcome.Bench (meaning input))) }
+        × ((written : Written) × Gives input written × (result ≡ due_status (Outcome.Bench written))) }
 
     // 5 comes only where a write failed.
     ensures write_fault { result ≡ 5 → HasRisen (O.faults sink.old) (O.faults sink.new) }
@@ -66,8 +67,8 @@ pub fn run<R, I: Source, O: Sink>(
         → IfSome (I.left source.old) (λ input. length input ≤ INPUT_LIMIT
         → ¬ HasRisen (I.faults source.old) (I.faults source.new)
         → ¬ HasRisen (O.faults sink.old) (O.faults sink.new)
-        → (result ≡ 6) ⊎ ((result ≡ due_status (Outcome.Bench (meaning input)))
-        × Appends (O.held sink.old) (O.held sink.new) (due_text (Outcome.Bench (meaning input))))) }
+        → (result ≡ 6) ⊎ ((written : Written) × Gives input written × (result ≡ due_status (Outcome.Bench written))
+        × Appends (O.held sink.old) (O.held sink.new) (due_text (Outcome.Bench written)))) }
 {
     run_alone(alloc, words, source, sink)
 }
@@ -98,7 +99,7 @@ pub fn run_alone<I: Source, O: Sink>(
     // 0 and 3 come after the whole input was read, by what it gives as a bench.
     ensures bench { (result ≡ 0) ⊎ (result ≡ 3)
         → (input : List ℕ) × IsInput I.left I.given source.old source.new input
-        × (result ≡ due_status (Outcome.Bench (meaning input))) }
+        × ((written : Written) × Gives input written × (result ≡ due_status (Outcome.Bench written))) }
 
     // 5 comes only where a write failed.
     ensures write_fault { result ≡ 5 → HasRisen (O.faults sink.old) (O.faults sink.new) }
@@ -120,8 +121,8 @@ pub fn run_alone<I: Source, O: Sink>(
         → IfSome (I.left source.old) (λ input. length input ≤ INPUT_LIMIT
         → ¬ HasRisen (I.faults source.old) (I.faults source.new)
         → ¬ HasRisen (O.faults sink.old) (O.faults sink.new)
-        → (result ≡ 6) ⊎ ((result ≡ due_status (Outcome.Bench (meaning input)))
-        × Appends (O.held sink.old) (O.held sink.new) (due_text (Outcome.Bench (meaning input))))) }
+        → (result ≡ 6) ⊎ ((written : Written) × Gives input written × (result ≡ due_status (Outcome.Bench written))
+        × Appends (O.held sink.old) (O.held sink.new) (due_text (Outcome.Bench written)))) }
 {
     match decide(alloc, words, source) {
         Ok(due) => deliver(&due, sink).code(),

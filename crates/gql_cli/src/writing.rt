@@ -7,6 +7,7 @@ ghost use Rattle.gql_cli.specs.Writing.{AppendsStart};
 use crate::sink::{Sink, SinkFault};
 
 /// Writes a whole text. An error leaves the front of the text in the sink, as far as it came.
+#[tactic(auto, using(crate::proofs::WritingSteps::writing_steps))]
 pub(crate) fn write_whole<O: Sink>(sink: &mut O, text: &[u8]) -> Result<(), SinkFault>
     ensures whole { OnOk result (Appends (O.held sink.old) (O.held sink.new) text.now) }
     ensures start { OnErr result (AppendsStart (O.held sink.old) (O.held sink.new) text.now) }

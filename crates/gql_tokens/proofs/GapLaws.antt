@@ -1,7 +1,6 @@
 -- What is ignored before a token is determined.
-use Rattle.std.proofs.Common.{◌≡◌, ℕ, Bool, true, false, List, [], ◌∷◌, ◌++◌, refl, sym, ap, ◌∙◌, arith, subst}
+use Rattle.std.proofs.Common.{◌≡◌, ℕ, Bool, true, false, List, [], ◌∷◌, ◌++◌, refl, sym, arith, subst}
 use Rattle.std.proofs.lemmas.Bool.Decides.{nat_tests}
-use Rattle.gql_tokens.specs.Characters.{begins}
 use Rattle.gql_tokens.specs.Gap.{goes_on, Passes, IsGap}
 use Rattle.gql_tokens.proofs.Lists.{head_is, tail_is, with_head, begins_not}
 

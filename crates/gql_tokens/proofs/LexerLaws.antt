@@ -1,12 +1,12 @@
 -- A text has one list of tokens.
-use Rattle.std.proofs.Common.{◌≡◌, ℕ, Bool, true, false, ◌⊎◌, List, [], ◌∷◌, ◌++◌, refl, sym, ap, ◌∙◌, inl, inr, ap₂, subst, subst₂}
+use Rattle.std.proofs.Common.{◌≡◌, ℕ, false, ◌⊎◌, List, [], ◌∷◌, ◌++◌, refl, sym, ap, ◌∙◌, inl, inr, ap₂, subst, subst₂}
 use Rattle.gql_base.specs.declared.pos.Pos.{Pos}
 use Rattle.gql_tokens.specs.declared.token.Lexeme.{Lexeme}
 use Rattle.gql_tokens.specs.declared.token.Lexeme.TheVariants as lexemes
 use Rattle.gql_tokens.specs.declared.token.Token.{Token}
 use Rattle.gql_tokens.specs.Place.{place_after}
 use Rattle.gql_tokens.specs.Token.{Spells, IsToken, is_final}
-use Rattle.gql_tokens.specs.Lexer.{BeginsNoToken, Finishes, Lexes}
+use Rattle.gql_tokens.specs.Lexer.{Finishes, Lexes}
 use Rattle.gql_tokens.proofs.GapLaws.{gap_unique}
 use Rattle.gql_tokens.proofs.TokenLaws.{spelling_begins, token_unique}
 
@@ -58,7 +58,7 @@ abbrev Continues : Token → List Token → List ℕ → Type 0
 Continues t ts text =
     (Finishes t.lexeme text × (ts ≡ []))
     ⊎ ((cs : List ℕ) × (rest : List ℕ) × (text ≡ cs ++ rest) × IsToken t.lexeme cs rest
-       × (is_final t.lexeme ≡ false) × Lexes (place_after t.pos cs rest) rest ts)
+    × (is_final t.lexeme ≡ false) × Lexes (place_after t.pos cs rest) rest ts)
 
 continues_unique : (t u : Token) (ts us : List Token) (text : List ℕ) → t.pos ≡ u.pos
     → ((place : Pos) (rest : List ℕ) → Lexes place rest ts → Lexes place rest us → ts ≡ us)

@@ -1,8 +1,14 @@
+pub mod LinesLaws
 pub mod Lists
+pub mod BlockEnds
 pub mod BlockLaws
 pub mod GapLaws
 pub mod LexerLaws
 pub mod NumberLaws
+pub mod NumeralLaws
 pub mod PlaceLaws
+pub mod SourceLaws
+pub mod StandsLaws
+pub mod StepLaws
 pub mod StringLaws
 pub mod TokenLaws

@@ -1,5 +1,5 @@
 -- Places behind one piece of text after another.
-use Rattle.std.proofs.Common.{◌≡◌, ℕ, ◌+◌, ◌≤◌, ◌<◌, List, [], ◌∷◌, ◌++◌, refl, sym, ap, ◌∙◌, arith, append_assoc, take, drop, length, get_or}
+use Rattle.std.proofs.Common.{◌≡◌, ℕ, ◌+◌, ◌<◌, List, [], ◌∷◌, ◌++◌, refl, sym, ap, ◌∙◌, append_assoc, take, drop, length, get_or}
 use Rattle.gql_base.specs.declared.pos.Pos.{Pos}
 use Rattle.gql_tokens.specs.Place.{next_place, place_after}
 use Rattle.gql_tokens.proofs.Lists.{take_at_item, drop_at_item}

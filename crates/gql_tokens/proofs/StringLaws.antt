@@ -1,8 +1,11 @@
 -- Strings: each is read in one way.
-use Rattle.std.proofs.Common.{◌≡◌, ℕ, ◌<◌, Bool, true, false, ◌⊎◌, List, [], ◌∷◌, ◌++◌, Option, Some, None, refl, sym, ap, ◌∙◌, inl, inr, arith, append_assoc, append-nil}
+use Rattle.std.proofs.Common.{◌≡◌, ℕ, ◌<◌, true, false, ◌⊎◌, List, [], ◌∷◌, ◌++◌, Some, None, refl, sym, ap, ◌∙◌, inl, inr, arith, append_assoc, append-nil, ◌+◌, ◌-◌, ◌==◌, length, take, drop, drop-drop, take-add, take-append-drop, subst, encode_utf8, encode_utf8_all}
+use Rattle.std.proofs.lemmas.Str.{encodes-append}
+use Rattle.std.proofs.lemmas.List.{take_rest}
 use Rattle.std.proofs.lemmas.Bool.Decides.{nat_tests}
-use Rattle.gql_tokens.specs.Characters.{quote, backslash, is_line_end, is_source}
-use Rattle.gql_tokens.specs.String.{is_plain, escaped, hexadecimal_of, IsUnicodeEscape, WritesCharacter, WritesCharacters, IsString}
+use Rattle.gql_tokens.specs.Characters.{quote, backslash, begins}
+use Rattle.gql_tokens.specs.String.{is_plain, escaped, hexadecimal_of, WritesCharacter, WritesCharacters, IsString}
+use Rattle.gql_tokens.specs.Parts.{NoString}
 use Rattle.gql_tokens.proofs.Lists.{head_is, tail_is}
 
 plain_not_backslash : (c : ℕ) → is_plain c ≡ true → c ≡ backslash → ⊥
@@ -79,7 +82,7 @@ characters_split (v ∷ vs) (w ∷ ws) front body x y h k e =
 pub string_unique : (v w p q x y : List ℕ) → IsString v p → IsString w q → p ++ x ≡ q ++ y → (v ≡ w) × (p ≡ q) × (x ≡ y)
 string_unique v w p q x y h k e =
     let whole : h.0 ++ quote ∷ x ≡ k.0 ++ quote ∷ y =
-        sym (append_assoc h.0 (quote ∷ []) x) ∙ tail_is (same_front x y e h.1 k.1) ∙ append_assoc k.0 (quote ∷ []) y in
+    sym (append_assoc h.0 (quote ∷ []) x) ∙ tail_is (same_front x y e h.1 k.1) ∙ append_assoc k.0 (quote ∷ []) y in
     let more = characters_split v w h.0 k.0 (quote ∷ x) y h.2 k.2 whole in
     ended more.0 more.1 more.2 more.3 more.4 more.5
   where
@@ -90,3 +93,47 @@ string_unique v w p q x y h k e =
         (sym (a ∙ append-nil v), h.1 ∙ ap (λ l. quote ∷ l ++ quote ∷ []) (sym body) ∙ sym k.1, tail_is nothing)
     ended (u ∷ us) rest a b c d =
         absurd (written_not_quote u d.0 (d.1 ++ quote ∷ y) x d.3 (sym (append_assoc d.0 d.1 (quote ∷ y)) ∙ ap (λ l. l ++ quote ∷ y) (sym d.2) ∙ sym c))
+
+-- one character more
+characters_push : (vs : List ℕ) (v : ℕ) (cs p : List ℕ) → WritesCharacters vs cs → WritesCharacter v p → WritesCharacters (vs ++ v ∷ []) (cs ++ p)
+characters_push [] v cs p h k = (p, [], ap (λ l. l ++ p) h ∙ sym (append-nil p), k, refl)
+characters_push (w ∷ vs) v cs p h k =
+    (h.0, h.1 ++ p, ap (λ l. l ++ p) h.2 ∙ append_assoc h.0 h.1 p, h.3, characters_push vs v h.1 p h.4 k)
+
+-- what stands behind the front of a string's body
+behind_body : (text : List ℕ) (at : ℕ) → 0 < at → drop (at - 1) (drop 1 text) ≡ drop at text
+behind_body text at h = let e : 1 + (at - 1) ≡ at = omega arith in drop-drop (at - 1) 1 text ∙ ap (λ n. drop n text) e
+
+pub string_more : (text : List ℕ) (at n v : ℕ) (vs : List ℕ) → 0 < at → WritesCharacters vs (take (at - 1) (drop 1 text))
+    → WritesCharacter v (take n (take (length text - at) (drop at text))) → WritesCharacters (vs ++ v ∷ []) (take (at + n - 1) (drop 1 text))
+string_more text at n v vs h k w =
+    let e : at + n - 1 ≡ (at - 1) + n = omega arith in
+    let front = ap (λ m. take m (drop 1 text)) e ∙ take-add (at - 1) n (drop 1 text) ∙ ap (λ l. take (at - 1) (drop 1 text) ++ take n l) (behind_body text at h) in
+    subst (WritesCharacters (vs ++ v ∷ [])) (sym front)
+    (characters_push vs v (take (at - 1) (drop 1 text)) (take n (drop at text)) k (subst (λ l. WritesCharacter v (take n l)) (take_rest text at) w))
+
+-- where the front of a body was read, and neither a character nor the quote follows, no string begins
+pub no_string_behind : (text : List ℕ) (at : ℕ) (vs : List ℕ) → begins (λ c. c == quote) text ≡ true → 0 < at → WritesCharacters vs (take (at - 1) (drop 1 text))
+    → begins (λ c. c == quote) (drop at text) ≡ false
+    → ((v : ℕ) (cs rest : List ℕ) → drop at text ≡ cs ++ rest → WritesCharacter v cs → ⊥) → NoString text
+no_string_behind text at vs first h k ends none value cs rest e string =
+    let body = drop 1 text in
+    let whole : take (at - 1) body ++ drop at text ≡ string.0 ++ quote ∷ rest =
+    ap (λ l. take (at - 1) body ++ l) (sym (behind_body text at h)) ∙ take-append-drop (at - 1) body
+    ∙ ap (drop 1) (e ∙ ap (λ l. l ++ rest) string.1) ∙ append_assoc string.0 (quote ∷ []) rest in
+    let more = characters_split vs value (take (at - 1) body) string.0 (drop at text) rest k string.2 whole in
+    go more.0 more.1 more.4 more.5
+  where
+    go : (us left : List ℕ) → drop at text ≡ left ++ quote ∷ rest → WritesCharacters us left → ⊥
+    go [] left is w = let no_quote = sym ends ∙ ap (begins (λ c. c == quote)) (is ∙ ap (λ l. l ++ quote ∷ rest) w) in cc
+    go (u ∷ us) left is w = none u w.0 (w.1 ++ quote ∷ rest) (is ∙ ap (λ l. l ++ quote ∷ rest) w.2 ∙ append_assoc w.0 w.1 (quote ∷ rest)) w.3
+
+-- no character is written with nothing
+pub nothing_written : (v : ℕ) (cs rest : List ℕ) → [] ≡ cs ++ rest → WritesCharacter v cs → ⊥
+nothing_written v cs rest e h =
+    let (c, more, is, kind) = first_written v cs h in
+    let no_end : [] ≡ c ∷ more ++ rest = e ∙ ap (λ l. l ++ rest) is in cc
+
+-- the UTF-8 of one character more
+pub encode_push : (vs : List ℕ) (v : ℕ) → encode_utf8_all (vs ++ v ∷ []) ≡ encode_utf8_all vs ++ encode_utf8 v
+encode_push vs v = encodes-append vs (v ∷ []) ∙ ap (λ l. encode_utf8_all vs ++ l) (append-nil (encode_utf8 v))

@@ -1,18 +1,17 @@
 -- Tokens: only one begins at a place.
-use Rattle.std.proofs.Common.{◌≡◌, ℕ, ◌+◌, ◌<◌, ◌≤◌, Bool, true, false, ◌||◌, ◌==◌, ◌⊎◌, List, [], ◌∷◌, ◌++◌, length, Option, Some, None, if◌then◌else◌, refl, sym, ap, ◌∙◌, inl, inr, arith, append_assoc, append-nil, length-append, subst, encode_utf8_all, ℤ}
+use Rattle.std.proofs.Common.{◌≡◌, ℕ, Bool, true, false, ◌||◌, ◌==◌, ◌⊎◌, List, [], ◌∷◌, ◌++◌, length, Option, Some, None, if◌then◌else◌, refl, sym, ap, ◌∙◌, inl, inr, arith, append_assoc, append-nil, length-append, subst, encode_utf8_all, ℤ}
 use Rattle.std.specs.Char.{is_ascii_digit}
-use Rattle.std.specs.List.{AllByRecursion}
 use Rattle.std.proofs.lemmas.Bool.Decides.{nat_tests}
 use Rattle.gql_tokens.specs.declared.token.Punctuator.{Punctuator}
 use Rattle.gql_tokens.specs.declared.token.Punctuator.TheVariants as punctuators
 use Rattle.gql_tokens.specs.declared.token.Lexeme.{Lexeme}
 use Rattle.gql_tokens.specs.declared.token.Lexeme.TheVariants as lexemes
-use Rattle.gql_tokens.specs.Characters.{quote, minus, full_stop, is_name_start, begins}
-use Rattle.gql_tokens.specs.Number.{IsDigits, IsWhole, IsInteger, IsFloat, IsSupported}
+use Rattle.gql_tokens.specs.Characters.{quote, minus, is_name_start, begins}
+use Rattle.gql_tokens.specs.Number.{IsWhole, IsInteger, IsFloat, IsSupported}
 use Rattle.gql_tokens.specs.String.{IsString}
 use Rattle.gql_tokens.specs.Block.{three_quotes, written, IsBlockString}
 use Rattle.gql_tokens.specs.Token.{characters_of, Spells, IsToken}
-use Rattle.gql_tokens.proofs.Lists.{head_is, tail_is, fronts}
+use Rattle.gql_tokens.proofs.Lists.{head_is, tail_is, fronts, begins_front}
 use Rattle.gql_tokens.proofs.NumberLaws.{integer_not_float}
 use Rattle.gql_tokens.proofs.StringLaws.{written_not_quote, string_unique}
 use Rattle.gql_tokens.proofs.BlockLaws.{block_unique}
@@ -21,7 +20,7 @@ use Rattle.gql_tokens.proofs.BlockLaws.{block_unique}
 pub data Class : Type 0 where
   punctuation naming numeric quoting : Class
 
-pub class_of : Lexeme → Class
+unfoldable pub class_of : Lexeme → Class
 class_of (lexemes.Punctuator p) = punctuation
 class_of (lexemes.Name n) = naming
 class_of (lexemes.Number n) = numeric
@@ -30,13 +29,13 @@ class_of lexemes.End = punctuation
 class_of lexemes.Unexpected = punctuation
 class_of lexemes.Unsupported = numeric
 
-pub is_punctuation : ℕ → Bool
+unfoldable pub is_punctuation : ℕ → Bool
 is_punctuation c =
     ((c == 33 || c == 36) || (c == 38 || c == 40)) || ((c == 41 || c == 46) || (c == 58 || c == 61))
     || (((c == 64 || c == 91) || (c == 93 || c == 123)) || (c == 124 || c == 125))
 
 -- a first character of the class
-pub begins_class : Class → ℕ → Bool
+unfoldable pub begins_class : Class → ℕ → Bool
 begins_class punctuation c = is_punctuation c
 begins_class naming c = is_name_start c
 begins_class numeric c = is_ascii_digit c || c == minus
@@ -72,14 +71,10 @@ unfolding begins_class
 integer_begins cs (inl h) = whole_begins cs h
 integer_begins cs (inr h) = ap (begins (begins_class numeric)) h.1
 
-begins_front : (test : ℕ → Bool) (a b cs : List ℕ) → cs ≡ a ++ b → begins test a ≡ true → begins test cs ≡ true
-begins_front test [] b cs e h = let k : false ≡ true = h in cc
-begins_front test (c ∷ a) b cs e h = ap (begins test) e ∙ h
-
 float_begins : (cs : List ℕ) → IsFloat cs → begins (begins_class numeric) cs ≡ true
-float_begins cs h = begins_front (begins_class numeric) h.0 h.1 cs h.2 (integer_begins h.0 h.3)
+float_begins cs h = ap (begins (begins_class numeric)) h.2 ∙ begins_front (begins_class numeric) h.0 h.1 (integer_begins h.0 h.3)
 
-punctuator_begins : (p : Punctuator) → begins is_punctuation (characters_of p) ≡ true
+pub punctuator_begins : (p : Punctuator) → begins is_punctuation (characters_of p) ≡ true
 unfolding is_punctuation
 punctuator_begins punctuators.Bang = refl
 punctuator_begins punctuators.Dollar = refl
@@ -164,8 +159,8 @@ string_at_quotes [] p x y h e = h.1 ∙ ap (λ l. quote ∷ l ++ quote ∷ []) h
 string_at_quotes (c ∷ v) p x y h e =
     let w = h.2 in
     absurd (written_not_quote c w.0 (w.1 ++ quote ∷ x) (quote ∷ y) w.3
-        (sym (append_assoc w.0 w.1 (quote ∷ x)) ∙ ap (λ l. l ++ quote ∷ x) (sym w.2) ∙ sym (append_assoc h.0 (quote ∷ []) x)
-         ∙ tail_is (ap (λ l. l ++ x) (sym h.1) ∙ e)))
+    (sym (append_assoc w.0 w.1 (quote ∷ x)) ∙ ap (λ l. l ++ quote ∷ x) (sym w.2) ∙ sym (append_assoc h.0 (quote ∷ []) x)
+    ∙ tail_is (ap (λ l. l ++ x) (sym h.1) ∙ e)))
 
 pub string_not_block : (v w cs : List ℕ) → IsString v cs → IsBlockString w cs → ⊥
 string_not_block v w cs h k =

@@ -52,6 +52,9 @@ is_blank c = c == tab || c == space
 abbrev pub is_line_end : ℕ → Bool
 is_line_end c = c == line_feed || c == carriage_return
 
+abbrev pub is_line_character : ℕ → Bool
+is_line_character c = not (is_line_end c)
+
 -- what may stand in strings and comments (section 2.1): tab, the ends of lines, and every character from U+0020 on
 abbrev pub is_source : ℕ → Bool
 is_source c = (c == tab || is_line_end c) || nat_le space c

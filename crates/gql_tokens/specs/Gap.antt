@@ -1,5 +1,5 @@
--- What is ignored between tokens (section 2.1.7): white space, line ends, commas, the byte order mark, and comments.
-use Rattle.std.specs.Prelude.{◌≡◌, ℕ, Bool, true, false, ◌||◌, ◌⊎◌, List, [], ◌∷◌, ◌==◌}
+-- What is ignored between tokens (GraphQL, October 2021, section 2.1.7): white space, line ends, commas, the byte order mark, and comments.
+use Rattle.std.specs.Prelude.{◌≡◌, ℕ, Bool, true, false, ◌||◌, List, [], ◌∷◌, ◌==◌}
 use Rattle.gql_tokens.specs.Characters.{hash, is_line_end, is_source, is_comment_character, is_ignored, begins}
 
 -- What goes on with an ignored text. From within a comment that is every character that may stand in a text, since what

@@ -1,5 +1,7 @@
--- The tokens of a text (section 2.1.6).
-use Rattle.std.specs.Prelude.{◌≡◌, ◌≢◌, ℕ, Bool, true, false, ◌⊎◌, List, [], ◌∷◌, ◌++◌}
+-- The tokens of a text (GraphQL, October 2021, section 2.1.6).
+use Rattle.std.specs.Prelude.{◌≡◌, ◌≢◌, ℕ, Bool, true, false, ◌⊎◌, List, [], ◌∷◌, ◌++◌, ◌≤◌, ◌<◌, ◌+◌, ◌||◌, ◌==◌, length, take, drop}
+use Rattle.std.specs.Char.{is_ascii_digit}
+use Rattle.gql_tokens.specs.Characters.{minus}
 use Rattle.gql_base.specs.declared.pos.Pos.{Pos}
 use Rattle.gql_tokens.specs.declared.token.Lexeme.{Lexeme}
 use Rattle.gql_tokens.specs.declared.token.Lexeme.TheVariants as lexemes
@@ -28,5 +30,11 @@ Lexes place text (token ∷ tokens) =
     (gap : List ℕ) × (behind : List ℕ) × (text ≡ gap ++ behind) × IsGap false gap behind
     × (token.pos ≡ place_after place gap behind)
     × ((Finishes token.lexeme behind × (tokens ≡ []))
-       ⊎ ((cs : List ℕ) × (rest : List ℕ) × (behind ≡ cs ++ rest) × IsToken token.lexeme cs rest
-          × (is_final token.lexeme ≡ false) × Lexes (place_after token.pos cs rest) rest tokens))
+    ⊎ ((cs : List ℕ) × (rest : List ℕ) × (behind ≡ cs ++ rest) × IsToken token.lexeme cs rest
+    × (is_final token.lexeme ≡ false) × Lexes (place_after token.pos cs rest) rest tokens))
+
+-- the last token is final, and no other is
+abbrev pub EndFinally : List Token → Type 0
+EndFinally [] = ⊥
+EndFinally (token ∷ []) = is_final token.lexeme ≡ true
+EndFinally (token ∷ next ∷ tokens) = (is_final token.lexeme ≡ false) × EndFinally (next ∷ tokens)

@@ -2,8 +2,10 @@ pub mod Block
 pub mod Characters
 pub mod Gap
 pub mod Lexer
+pub mod Lines
 pub mod Name
 pub mod Number
+pub mod Parts
 pub mod Place
 pub mod String
 pub mod Token

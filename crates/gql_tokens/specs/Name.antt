@@ -1,4 +1,4 @@
--- Names (section 2.1.9).
+-- Names (GraphQL, October 2021, section 2.1.9).
 use Rattle.std.specs.Prelude.{◌≡◌, ℕ, true, List}
 use Rattle.std.specs.List.{AllByRecursion}
 use Rattle.gql_tokens.specs.Characters.{is_name_start, is_name_part, begins}

@@ -1,5 +1,5 @@
--- Numbers (sections 2.9.1 and 2.9.2).
-use Rattle.std.specs.Prelude.{◌≡◌, ℕ, ◌+◌, ◌*◌, ◌-◌, ◌^◌, Bool, true, false, not, ◌&&◌, ◌||◌, ◌⊎◌, List, [], ◌∷◌, ◌++◌, ◌==◌, if◌then◌else◌, ℤ, pos, negsuc, neg_ℤ, ◌≤ℤ◌, ◌<ℤ◌, fold}
+-- Numbers (GraphQL, October 2021, sections 2.9.1 and 2.9.2).
+use Rattle.std.specs.Prelude.{◌≡◌, ◌≢◌, ℕ, ◌+◌, ◌*◌, ◌-◌, ◌^◌, ◌≤◌, Bool, true, false, ◌||◌, ◌⊎◌, List, [], ◌∷◌, ◌++◌, ◌==◌, if◌then◌else◌, Option, Some, None, length, take, drop, ℤ, pos, negsuc, neg_ℤ, ◌≤ℤ◌, ◌<ℤ◌, fold}
 use Rattle.std.specs.Char.{is_ascii_digit}
 use Rattle.std.specs.List.{AllByRecursion}
 use Rattle.gql_tokens.specs.Characters.{plus, minus, full_stop, digit_zero, is_name_start, begins}
@@ -29,22 +29,28 @@ abbrev pub is_sign : ℕ → Bool
 is_sign c = c == plus || c == minus
 
 -- an optional sign, and digits
-abbrev pub IsSignedDigits : List ℕ → Type 0
-IsSignedDigits cs =
+abbrev pub IsPower : List ℕ → Type 0
+IsPower cs =
     IsDigits cs ⊎ ((sign : ℕ) × (digits : List ℕ) × (cs ≡ sign ∷ digits) × (is_sign sign ≡ true) × IsDigits digits)
 
--- `e` or `E`, and an optional sign and digits
+-- `e` or `E`, and a power of ten
 abbrev pub IsExponent : List ℕ → Type 0
-IsExponent cs = (e : ℕ) × (power : List ℕ) × (cs ≡ e ∷ power) × (begins_exponent e ≡ true) × IsSignedDigits power
+IsExponent cs = (e : ℕ) × (power : List ℕ) × (cs ≡ e ∷ power) × (begins_exponent e ≡ true) × IsPower power
 
--- a fraction, an exponent, or both
+-- nothing, or something of this form
+abbrev pub Optional : (List ℕ → Type 0) → List ℕ → Type 0
+Optional Form cs = (cs ≡ []) ⊎ Form cs
+
+-- a fraction, an exponent, both, or none
 abbrev pub IsFloatPart : List ℕ → Type 0
 IsFloatPart cs =
-    (IsFraction cs ⊎ IsExponent cs)
-    ⊎ ((fraction : List ℕ) × (exponent : List ℕ) × (cs ≡ fraction ++ exponent) × IsFraction fraction × IsExponent exponent)
+    (fraction : List ℕ) × (exponent : List ℕ) × (cs ≡ fraction ++ exponent) × Optional IsFraction fraction
+    × Optional IsExponent exponent
 
+-- an integer with a fraction, an exponent or both
 abbrev pub IsFloat : List ℕ → Type 0
-IsFloat cs = (integer : List ℕ) × (part : List ℕ) × (cs ≡ integer ++ part) × IsInteger integer × IsFloatPart part
+IsFloat cs =
+    (integer : List ℕ) × (part : List ℕ) × (cs ≡ integer ++ part) × IsInteger integer × IsFloatPart part × (part ≢ [])
 
 -- what may not follow a number: a digit, `.` and a name's first character
 abbrev pub is_bad_after_number : ℕ → Bool

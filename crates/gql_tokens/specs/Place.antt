@@ -1,4 +1,4 @@
--- Places in a text (section 7.1.2): lines and columns count from 1, and a column is one character.
+-- Places in a text (GraphQL, October 2021, section 7.1.2): lines and columns count from 1, and a column is one character.
 use Rattle.std.specs.Prelude.{ℕ, ◌+◌, Bool, not, ◌&&◌, ◌||◌, List, [], ◌∷◌, ◌++◌, ◌==◌, if◌then◌else◌}
 use Rattle.gql_base.specs.declared.pos.Pos.{Pos}
 use Rattle.gql_tokens.specs.Characters.{line_feed, carriage_return, begins}

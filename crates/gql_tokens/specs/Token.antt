@@ -1,5 +1,5 @@
--- Tokens (section 2.1.6).
-use Rattle.std.specs.Prelude.{◌≡◌, ◌≢◌, ℕ, Bool, true, false, ◌⊎◌, List, [], ◌∷◌, ◌++◌, encode_utf8_all}
+-- Tokens (GraphQL, October 2021, section 2.1.6).
+use Rattle.std.specs.Prelude.{◌≡◌, ℕ, Bool, true, false, ◌⊎◌, List, [], ◌∷◌, ◌++◌, encode_utf8_all}
 use Rattle.gql_tokens.specs.declared.token.Punctuator.{Punctuator}
 use Rattle.gql_tokens.specs.declared.token.Punctuator.TheVariants as punctuators
 use Rattle.gql_tokens.specs.declared.token.Lexeme.{Lexeme}

@@ -1,10 +1,19 @@
 //! The tokens of a GraphQL text.
 #![tactic(auto)]
 
+mod block;
 mod characters;
 mod gap;
+mod lexer;
+mod lines;
 mod name;
+mod number;
 mod place;
+mod string;
 mod token;
 
+pub use lexer::{one_token_list, tokens_of};
 pub use token::{Lexeme, Punctuator, Token};
+
+#[cfg(test)]
+mod tests;

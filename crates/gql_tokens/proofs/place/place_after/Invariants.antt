@@ -6,5 +6,5 @@ abbrev pub invariant-loop-at : goal.invariant-loop-at
 invariant-loop-at l = record {
   exact : l.here ≡ place_after l.fn.place (take l.at l.text) (drop l.at l.text);
   line : l.here.line ≤ l.fn.place.line + l.at;
-  column : l.here.column ≤ l.fn.place.column + l.at
+  column : l.here.column ≤ l.fn.place.column + l.at;
 }

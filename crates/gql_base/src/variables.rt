@@ -1,0 +1,73 @@
+ghost use Rattle.std.specs.Prelude.{◌≡◌, ◌↔◌, IsTrue, IfOk, []};
+ghost use Rattle.std.specs.Option.{option_copied};
+ghost use Rattle.gql_base.specs.Pairs.{under};
+ghost use Rattle.gql_base.specs.Variables.{members_of_value};
+
+use crate::copied::Copied;
+use crate::made::Made;
+use crate::pairs::Pairs;
+use crate::value::Value;
+use std::alloc::Global;
+use std::marker::Model;
+
+/// The values of a request's variables, by name. Contracts see the list of the pairs.
+#[derive(Debug, Drop)]
+pub struct Variables {
+    members: Pairs<Value>,
+}
+
+impl Model for Variables {
+    ghost use Rattle.std.specs.Prelude.{List, ℕ};
+    ghost use Rattle.std.specs.Coded.{coded_list, coded×, coded_ℕ};
+    ghost use Rattle.gql_base.specs.declared.value.Value.{Value as OneValue};
+    ghost use Rattle.gql_base.specs.contracts.value.Value.{the_row};
+
+    ghost Value = { List (List ℕ × OneValue) };
+
+    ghost coded = { coded_list (coded× (coded_list coded_ℕ) the_row.coded) };
+
+    ghost view = { λ variables. variables.members };
+}
+
+impl Variables {
+    /// The members of an object; any other value gives no variable.
+    pub fn from_value(alloc: Global, value: Value) -> Variables
+        ensures { result ≡ members_of_value value }
+    {
+        match value {
+            Value::Object(members) => Variables { members },
+            _ => Variables {
+                members: Pairs::new(alloc),
+            },
+        }
+    }
+
+    /// The variables as an object.
+    pub fn into_value(self) -> Value
+        ensures { result ≡ Value.Object self }
+    {
+        let Variables { members } = self;
+        Value::Object(members)
+    }
+
+    /// The value of a variable, or none where it has none.
+    pub fn get(&self, name: &str) -> Option<&Value>
+        ensures { option_copied result ≡ under name.now self.now }
+    {
+        self.members.get(name)
+    }
+
+    /// True exactly where there is no variable.
+    pub fn is_empty(&self) -> bool
+        ensures { IsTrue result ↔ (self.now ≡ []) }
+    {
+        self.members.len() == 0
+    }
+}
+
+impl Copied for Variables {
+    fn try_clone(&self, alloc: Global) -> Made<Variables> {
+        let members = self.members.try_clone(alloc)?;
+        Ok(Variables { members })
+    }
+}

@@ -1,0 +1,195 @@
+//! First benches: one object type of constant fields, and a query for some of them.
+ghost use Rattle.std.specs.Prelude.{◌≡◌, ◌↔◌, ℕ, List, [], ◌∷◌, Some, map, IfSome, IfNone, IsTrue, IfOk, MatchOption};
+ghost use Rattle.std.specs.List.{AllZip};
+ghost use Rattle.gql_base.specs.ReadJson.{value_of};
+ghost use Rattle.gql_base.specs.declared.value.Value.{Value, out-Value};
+ghost use Rattle.gql_tokens.specs.Name.{IsName};
+ghost use Rattle.gql_tokens.specs.Characters.{is_name_start, is_name_part};
+ghost use Rattle.serde_json.specs.Data.{Data, string};
+ghost use Rattle.serde_json.specs.View.{view};
+ghost use Rattle.gql_cli.specs.FirstBench.{IsShaped, IsField, Takes, IsIntHere, object_json, schema_json};
+ghost use Rattle.gql_cli.specs.JsonShape.{object_of};
+
+use crate::json_shape::{items_in, only_item, only_member, three_members, two_members};
+use gql_base::{Items, Made, Name, Text, Value, from_json};
+use serde_json::Value as Json;
+use std::alloc::Global;
+
+/// A field of a first bench: its name, the name of its type, and the constant that it answers.
+#[derive(Debug, Drop)]
+pub struct FirstField {
+    pub name: Name,
+    pub type_name: Text,
+    pub constant: Value,
+}
+
+/// A first bench: the name of its object type, that type's fields, and the text of the query.
+#[derive(Debug, Drop)]
+pub struct FirstBench {
+    pub root: Name,
+    pub fields: Items<FirstField>,
+    pub query: Text,
+}
+
+/// The first bench that a JSON value has the shape of, if any.
+pub(crate) fn read_first_bench(alloc: Global, json: &Json) -> Made<Option<FirstBench>>
+    ensures { IfOk result (λ found. MatchOption found ((bench : _) → IsShaped (view json.now) bench → ⊥) (IsShaped (view json.now))) }
+{
+    let Some((request, schema)) = two_members(json, "request", "schema") else {
+        return Ok(None);
+    };
+    let Some(query) = only_text(request, "query") else {
+        return Ok(None);
+    };
+    let Some((root, items)) = read_schema(schema) else {
+        return Ok(None);
+    };
+    match read_fields(alloc, items)? {
+        None => Ok(None),
+        Some(fields) => Ok(Some(FirstBench {
+            root: Name::new(alloc, root)?,
+            fields,
+            query: Text::new(alloc, query)?,
+        })),
+    }
+}
+
+/// The text of the only member of an object, where it has this name.
+fn only_text<'a>(json: &'a Json, name: &str) -> Option<&'a str>
+    ensures found { IfSome result (λ text. view json.now ≡ object_of ((name.now, string text.now) ∷ [])) }
+    ensures other { IfNone result ((text : List ℕ) → view json.now ≡ object_of ((name.now, string text) ∷ []) → ⊥) }
+{
+    only_member(json, name)?.as_str()
+}
+
+/// The name of the query root and the items of its fields, where a schema has just this one object type.
+fn read_schema(json: &Json) -> Option<(&str, &[Json])>
+    ensures found { IfSome result (λ p. IsName p.0.now × (view json.now ≡ schema_json p.0.now (map view p.1.now))) }
+    ensures other { IfNone result ((root : List ℕ) (fields : List Data) → IsName root → view json.now ≡ schema_json root fields → ⊥) }
+{
+    let (query, types) = two_members(json, "query", "types")?;
+    let root = query.as_str()?;
+    let fields = read_object(only_item(types)?, root)?;
+    Some((root, fields))
+}
+
+/// The items of the fields of an object type of this name.
+fn read_object<'a>(json: &'a Json, root: &str) -> Option<&'a [Json]>
+    ensures found { IfSome result (λ items. IsName root.now × (view json.now ≡ object_json root.now (map view items.now))) }
+    ensures other { IfNone result ((fields : List Data) → IsName root.now → view json.now ≡ object_json root.now fields → ⊥) }
+{
+    let (fields, kind, name) = three_members(json, "fields", "kind", "name")?;
+    if kind.as_str()? == "object" && name.as_str()? == root && is_name(root) {
+        items_in(fields)
+    } else {
+        None
+    }
+}
+
+/// The fields that JSON values are the JSON of, if all are.
+fn read_fields(alloc: Global, items: &[Json]) -> Made<Option<Items<FirstField>>>
+    ensures { IfOk result (λ found. MatchOption found
+        ((fields : _) → AllZip IsField (map view items.now) fields → ⊥) (AllZip IsField (map view items.now))) }
+{
+    let mut fields = Items::new(alloc);
+    for json in items {
+        match read_field(alloc, json)? {
+            Some(field) => fields.push(field)?,
+            None => return Ok(None),
+        }
+    }
+    Ok(Some(fields))
+}
+
+/// The field that a JSON value is the JSON of, if any.
+fn read_field(alloc: Global, json: &Json) -> Made<Option<FirstField>>
+    ensures { IfOk result (λ found. MatchOption found ((field : _) → IsField (view json.now) field → ⊥) (IsField (view json.now))) }
+{
+    let Some((answer, name, ty)) = three_members(json, "answer", "name", "type") else {
+        return Ok(None);
+    };
+    let Some(constant) = only_member(answer, "const") else {
+        return Ok(None);
+    };
+    let (Some(name), Some(ty)) = (name.as_str(), ty.as_str()) else {
+        return Ok(None);
+    };
+    if !is_name(name) {
+        return Ok(None);
+    }
+    match read_constant(alloc, ty, constant)? {
+        None => Ok(None),
+        Some(constant) => Ok(Some(FirstField {
+            name: Name::new(alloc, name)?,
+            type_name: Text::new(alloc, ty)?,
+            constant,
+        })),
+    }
+}
+
+/// The value of a JSON value, where the type of this name takes it.
+fn read_constant(alloc: Global, type_name: &str, json: &Json) -> Made<Option<Value>>
+    ensures { IfOk result (λ found. MatchOption found
+        ((value : Value) → value_of (view json.now) ≡ Some value → Takes type_name.now value → ⊥)
+        (λ value. (value_of (view json.now) ≡ Some value) × Takes type_name.now value)) }
+{
+    match from_json(alloc, json)? {
+        Ok(value) => {
+            if takes(type_name, &value) {
+                Ok(Some(value))
+            } else {
+                Ok(None)
+            }
+        }
+        Err(_) => Ok(None),
+    }
+}
+
+/// True exactly where the type of this name takes a value. Null is taken by each.
+fn takes(type_name: &str, value: &Value) -> bool
+    ensures { IsTrue result ↔ Takes type_name.now value.now }
+{
+    match type_name {
+        "Int" => is_int(value),
+        "String" => matches!(value, Value::Null | Value::String(_)),
+        "Boolean" => matches!(value, Value::Null | Value::Boolean(_)),
+        _ => false,
+    }
+}
+
+/// True exactly for null and the whole numbers of 32 bits with a sign.
+fn is_int(value: &Value) -> bool
+    ensures { IsTrue result ↔ IsIntHere (out-Value value.now) }
+{
+    match value {
+        Value::Null => true,
+        Value::Number(number) => match number.as_i64() {
+            Some(whole) => i32::try_from(whole).is_ok(),
+            None => false,
+        },
+        _ => false,
+    }
+}
+
+/// True exactly where a text is a name.
+fn is_name(text: &str) -> bool
+    ensures { IsTrue result ↔ IsName text.now }
+{
+    let bytes = text.as_bytes();
+    match bytes.first() {
+        None => false,
+        Some(first) => starts_name(*first) && bytes.iter().all(|byte| continues_name(*byte)),
+    }
+}
+
+fn starts_name(byte: u8) -> bool
+    ensures { result ≡ is_name_start byte }
+{
+    byte.is_ascii_alphabetic() || byte == b'_'
+}
+
+fn continues_name(byte: u8) -> bool
+    ensures { result ≡ is_name_part byte }
+{
+    starts_name(byte) || byte.is_ascii_digit()
+}

@@ -1,0 +1,16 @@
+use Rattle.std.proofs.Common.{◌≡◌, ◌++◌, ◌≤◌, ◌-◌, ℕ, List, length, drop, map}
+use Rattle.gql_tokens.specs.Lines.{lines_of}
+use Rattle.gql_tokens.specs.Parts.{IsKept}
+use Rattle.gql_tokens.proofs.lines.Kept.push_others.Given as goal
+
+-- the lines so far are kept, and those that are left are the others
+abbrev pub invariant-loop-n : goal.invariant-loop-n
+invariant-loop-n l = record {
+  within : l.start ≤ length l.text;
+  so_far :
+      (done : List (List ℕ)) × (done ++ map (drop l.indent) (lines_of (drop l.start l.text)) ≡ map (drop l.indent) (lines_of l.text))
+      × ((lines : List (List ℕ)) → IsKept l.fn.self.text.items l.fn.self.length lines → IsKept l.self.text.items l.self.length (lines ++ done));
+}
+
+abbrev pub decreases-loop-n : goal.decreases-loop-n
+decreases-loop-n l = length l.text - l.start

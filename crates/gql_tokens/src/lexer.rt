@@ -1,0 +1,297 @@
+ghost use Rattle.std.specs.Prelude.{◌≡◌, ◌==◌, ◌+◌, ◌<◌, ◌≤◌, ◌^◌, ◌∷◌, [], List, ℕ, drop, true, false, length, take, nat_eq, IfOk, OnOk, MatchOption};
+ghost use Rattle.std.specs.List.{starts_with};
+ghost use Rattle.std.specs.Str.{chars};
+ghost use Rattle.std.specs.Char.{is_ascii_digit};
+ghost use Rattle.gql_tokens.specs.declared.token.Punctuator.{Punctuator as Mark};
+ghost use Rattle.gql_tokens.specs.declared.token.Token.{Token as OneToken};
+ghost use Rattle.gql_tokens.specs.Characters.{quote, begins, is_name_start};
+ghost use Rattle.gql_tokens.specs.Block.{three_quotes};
+ghost use Rattle.gql_tokens.specs.Token.{characters_of, is_final};
+ghost use Rattle.gql_tokens.specs.Lexer.{Lexes, EndFinally};
+ghost use Rattle.gql_tokens.specs.Place.{text_start};
+ghost use Rattle.gql_tokens.specs.Parts.{IsUnended, NoBlockEnds, begins_number, StandsAt, IsStep};
+
+use crate::block::block_at;
+use crate::characters::{characters_of, is_name_start, text_of};
+use crate::gap::gap_length;
+use crate::name::name_length;
+use crate::number::{number_of, numeral_at};
+use crate::place::place_after;
+use crate::string::string_at;
+use crate::token::{Lexeme, Punctuator, Token};
+use gql_base::{Items, Made, Pos, Text};
+use std::alloc::Global;
+
+/// What stands at a place: a token and how many characters spell it, or how the tokens end.
+#[derive(Drop)]
+struct Reading {
+    lexeme: Lexeme,
+    length: usize,
+}
+
+fn name_at(alloc: Global, text: &[char]) -> Made<Reading>
+    requires { begins is_name_start text.now ≡ true }
+    ensures { IfOk result (λ reading. StandsAt reading.lexeme reading.length text.now) }
+{
+    let length = name_length(text);
+    let name = text_of(alloc, &text[..length])?;
+    Ok(Reading {
+        lexeme: Lexeme::Name(name),
+        length,
+    })
+}
+
+fn number_at(text: &[char]) -> Reading
+    requires { begins begins_number text.now ≡ true }
+    ensures { StandsAt result.lexeme result.length text.now }
+{
+    let Some(numeral) = numeral_at(text) else {
+        return Reading {
+            lexeme: Lexeme::Unexpected,
+            length: 0,
+        };
+    };
+    let length = numeral.integer + numeral.part;
+    if numeral.part > 0 {
+        return Reading {
+            lexeme: Lexeme::Unsupported,
+            length,
+        };
+    }
+    match number_of(&text[..length]) {
+        Some(number) => Reading {
+            lexeme: Lexeme::Number(number),
+            length,
+        },
+        None => Reading {
+            lexeme: Lexeme::Unsupported,
+            length,
+        },
+    }
+}
+
+/// The string at a quote that no other two follow.
+fn string_token(alloc: Global, text: &[char]) -> Made<Reading>
+    requires first { begins (λ c. c == quote) text.now ≡ true }
+    requires plain { starts_with nat_eq text.now three_quotes ≡ false }
+    ensures { IfOk result (λ reading. StandsAt reading.lexeme reading.length text.now) }
+{
+    let found = string_at(alloc, text)?;
+    match found {
+        Some(string) => Ok(Reading {
+            lexeme: Lexeme::String(string.text),
+            length: string.length,
+        }),
+        None => Ok(Reading {
+            lexeme: Lexeme::Unexpected,
+            length: 0,
+        }),
+    }
+}
+
+/// The empty string, for the first two of three quotes that begin no block string.
+fn empty_string(alloc: Global) -> Reading
+    ensures { (text : List ℕ) → starts_with nat_eq text three_quotes ≡ true → IsUnended (drop 3 text)
+        → StandsAt result.lexeme result.length text }
+{
+    Reading {
+        lexeme: Lexeme::String(Text::from_string(String::new(alloc))),
+        length: 2,
+    }
+}
+
+/// The string at three quotes. `blocks_end` is false once a block string has no end: then none behind it has.
+fn block_token(alloc: Global, text: &[char], blocks_end: &mut bool) -> Made<Reading>
+    requires first { starts_with nat_eq text.now three_quotes ≡ true }
+    requires known { blocks_end.old ≡ false → NoBlockEnds text.now }
+    ensures stands { IfOk result (λ reading. StandsAt reading.lexeme reading.length text.now) }
+    ensures known { OnOk result (blocks_end.new ≡ false → NoBlockEnds text.now) }
+{
+    if !*blocks_end {
+        return Ok(empty_string(alloc));
+    }
+    let found = block_at(alloc, text)?;
+    match found {
+        Some(block) => Ok(Reading {
+            lexeme: Lexeme::String(block.text),
+            length: block.length,
+        }),
+        None => {
+            *blocks_end = false;
+            Ok(empty_string(alloc))
+        }
+    }
+}
+
+/// The string at a quote.
+fn quoted_at(alloc: Global, text: &[char], blocks_end: &mut bool) -> Made<Reading>
+    requires first { begins (λ c. c == quote) text.now ≡ true }
+    requires known { blocks_end.old ≡ false → NoBlockEnds text.now }
+    ensures stands { IfOk result (λ reading. StandsAt reading.lexeme reading.length text.now) }
+    ensures known { OnOk result (blocks_end.new ≡ false → NoBlockEnds text.now) }
+{
+    if text.starts_with(&['"', '"', '"']) {
+        block_token(alloc, text, blocks_end)
+    } else {
+        string_token(alloc, text)
+    }
+}
+
+/// The punctuator that one character spells.
+fn punctuator_of(c: char) -> Option<Punctuator>
+    ensures { MatchOption result ((mark : Mark) → characters_of mark ≡ c ∷ [] → ⊥)
+        (λ mark. characters_of mark ≡ c ∷ []) }
+{
+    match c {
+        '!' => Some(Punctuator::Bang),
+        '$' => Some(Punctuator::Dollar),
+        '&' => Some(Punctuator::Ampersand),
+        '(' => Some(Punctuator::OpenParen),
+        ')' => Some(Punctuator::CloseParen),
+        ':' => Some(Punctuator::Colon),
+        '=' => Some(Punctuator::Equals),
+        '@' => Some(Punctuator::At),
+        '[' => Some(Punctuator::OpenBracket),
+        ']' => Some(Punctuator::CloseBracket),
+        '{' => Some(Punctuator::OpenBrace),
+        '|' => Some(Punctuator::Pipe),
+        '}' => Some(Punctuator::CloseBrace),
+        _ => None,
+    }
+}
+
+/// The punctuator at the front of a text that no other token begins.
+fn punctuator_at(text: &[char]) -> Reading
+    requires some { 0 < length text.now }
+    requires name { begins is_name_start text.now ≡ false }
+    requires number { begins begins_number text.now ≡ false }
+    requires string { begins (λ c. c == quote) text.now ≡ false }
+    ensures { StandsAt result.lexeme result.length text.now }
+{
+    if text.starts_with(&['.', '.', '.']) {
+        return Reading {
+            lexeme: Lexeme::Punctuator(Punctuator::Spread),
+            length: 3,
+        };
+    }
+    match punctuator_of(text[0]) {
+        Some(punctuator) => Reading {
+            lexeme: Lexeme::Punctuator(punctuator),
+            length: 1,
+        },
+        None => Reading {
+            lexeme: Lexeme::Unexpected,
+            length: 0,
+        },
+    }
+}
+
+fn begins_number(c: char) -> bool
+    ensures { result ≡ begins_number c }
+{
+    c.is_ascii_digit() || c == '-'
+}
+
+/// What stands at the text's front, where nothing is ignored.
+fn token_at(alloc: Global, text: &[char], blocks_end: &mut bool) -> Made<Reading>
+    requires { blocks_end.old ≡ false → NoBlockEnds text.now }
+    ensures stands { IfOk result (λ reading. StandsAt reading.lexeme reading.length text.now) }
+    ensures known { OnOk result (blocks_end.new ≡ false → NoBlockEnds text.now) }
+{
+    let Some(c) = text.first() else {
+        return Ok(Reading {
+            lexeme: Lexeme::End,
+            length: 0,
+        });
+    };
+    if is_name_start(*c) {
+        name_at(alloc, text)
+    } else if begins_number(*c) {
+        Ok(number_at(text))
+    } else if *c == '"' {
+        quoted_at(alloc, text, blocks_end)
+    } else {
+        Ok(punctuator_at(text))
+    }
+}
+
+fn is_final(lexeme: &Lexeme) -> bool
+    ensures { result ≡ is_final lexeme.now }
+{
+    matches!(
+        lexeme,
+        Lexeme::End | Lexeme::Unexpected | Lexeme::Unsupported
+    )
+}
+
+/// A token, how far it and what is ignored before it reach, and the place behind it.
+#[derive(Drop)]
+struct Step {
+    token: Token,
+    length: usize,
+    place: Pos,
+}
+
+/// The first token of a text that begins at a place.
+fn step_at(alloc: Global, place: Pos, text: &[char], blocks_end: &mut bool) -> Made<Step>
+    requires line { place.line + length text.now < 2 ^ 64 }
+    requires column { place.column + length text.now < 2 ^ 64 }
+    requires known { blocks_end.old ≡ false → NoBlockEnds text.now }
+    ensures stands { IfOk result (λ step. IsStep place text.now step.token step.length step.place) }
+    ensures known { IfOk result (λ step. blocks_end.new ≡ false → NoBlockEnds (drop step.length text.now)) }
+{
+    let gap = gap_length(text);
+    let pos = place_after(place, text, gap);
+    let behind = &text[gap..];
+    let Reading { lexeme, length } = token_at(alloc, behind, blocks_end)?;
+    if is_final(&lexeme) {
+        return Ok(Step {
+            token: Token { lexeme, pos },
+            length: gap,
+            place: pos,
+        });
+    }
+    let place = place_after(pos, behind, length);
+    Ok(Step {
+        token: Token { lexeme, pos },
+        length: gap + length,
+        place,
+    })
+}
+
+/// The tokens of a list of characters.
+fn tokens_from(alloc: Global, characters: &[char]) -> Made<Items<Token>>
+    ensures { IfOk result (λ tokens. Lexes text_start characters.now tokens) }
+{
+    let mut tokens = Items::new(alloc);
+    let mut place = Pos { line: 1, column: 1 };
+    let mut at = 0;
+    let mut blocks_end = true;
+    loop {
+        let step = step_at(alloc, place, &characters[at..], &mut blocks_end)?;
+        let last = is_final(&step.token.lexeme);
+        place = step.place;
+        at += step.length;
+        tokens.push(step.token)?;
+        if last {
+            return Ok(tokens);
+        }
+    }
+}
+
+/// The tokens of a text, each with the place of its first character. The last one says how they end: at the end of the
+/// text, where no token begins, or at a number that isn't supported.
+pub fn tokens_of(alloc: Global, text: &str) -> Made<Items<Token>>
+    ensures exact { IfOk result (λ tokens. Lexes text_start (chars text.now) tokens) }
+    ensures ends { IfOk result EndFinally }
+{
+    let characters = characters_of(alloc, text)?;
+    let tokens = tokens_from(alloc, &characters)?;
+    Ok(tokens)
+}
+
+/// A text has one list of tokens.
+pub fn one_token_list()
+    ensures { (text : List ℕ) (tokens others : List OneToken) → Lexes text_start text tokens → Lexes text_start text others
+        → tokens ≡ others }
+{}
