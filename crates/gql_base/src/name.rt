@@ -1,6 +1,7 @@
 ghost use Rattle.std.specs.Prelude.{◌≡◌, ◌↔◌, IsTrue, IfOk, string_bytes};
 
 use crate::made::Made;
+use crate::text::Text;
 use std::alloc::Global;
 use std::fmt;
 use std::marker::Model;
@@ -29,6 +30,15 @@ impl Name {
     {
         let inner = String::from_str(alloc, text)?;
         Ok(Name { inner })
+    }
+
+    /// The name that a text is, moved.
+    pub fn from_text(text: Text) -> Name
+        ensures { result ≡ text }
+    {
+        Name {
+            inner: text.into_string(),
+        }
     }
 
     /// The name, borrowed.

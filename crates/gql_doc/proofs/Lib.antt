@@ -1,0 +1,16 @@
+pub mod ArgumentLaws
+pub mod Classify
+pub mod CursorLaws
+pub mod Deep
+pub mod DefinitionLaws
+pub mod Follows
+pub mod LevelLaws
+pub mod LoopLaws
+pub mod ReaderLaws
+pub mod Rows
+pub mod SelectionLaws
+pub mod TextLaws
+pub mod TokenLaws
+pub mod TypeLaws
+pub mod ValueLaws
+pub mod VariableLaws

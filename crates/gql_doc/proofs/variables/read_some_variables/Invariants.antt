@@ -1,0 +1,12 @@
+use Rattle.std.proofs.Common.{◌≡◌, length}
+use Rattle.gql_tokens.specs.declared.token.Punctuator.TheVariants.{CloseParen}
+use Rattle.gql_doc.specs.Readers.{many, some}
+use Rattle.gql_doc.specs.Reading.{other_than, variable}
+use Rattle.gql_doc.proofs.LoopLaws.{with_front}
+use Rattle.gql_doc.proofs.variables.read_some_variables.Given as goal
+
+abbrev pub invariant-more : goal.invariant-more
+invariant-more l = with_front l.variables (many (other_than CloseParen) variable l.cursor) ≡ some (other_than CloseParen) variable l.fn.cursor
+
+abbrev pub decreases-more : goal.decreases-more
+decreases-more l = length l.cursor

@@ -1,0 +1,369 @@
+//! The tokens that are left to read.
+ghost use Rattle.std.specs.Prelude.{◌≡◌, [], ◌∷◌, MatchOption};
+ghost use Rattle.std.specs.Option.{option_copied};
+ghost use Rattle.gql_doc.specs.Readers.{first, behind_first, begins, place_of, too_deep as deep_at, Leaves};
+ghost use Rattle.gql_doc.specs.Reading as reading;
+ghost use Rattle.gql_doc.specs.Reading.{is_sign, is_word, is_name, is_fragment_name, is_scalar, is_end, other_than, before_end, says_sign, says_word, scalar_in, named_value, next_operation as kind_next, take_sign as read_sign, take_word as read_word, take_name as read_name, take_fragment_name as read_fragment_name, take_scalar as read_scalar, take_operation as read_operation, take_end as read_end};
+
+use crate::document::{OperationType, Positioned};
+use crate::tree::ValueTree;
+use crate::trouble::{ReadError, Trouble};
+use gql_base::{Items, Name, Pos, Text};
+use gql_tokens::{Lexeme, Punctuator, Token};
+use std::marker::Model;
+
+/// The tokens that are left, with the next one last. Contracts see them in their order.
+#[derive(Debug, Drop)]
+pub struct Cursor {
+    tokens: Vec<Token>,
+}
+
+impl Model for Cursor {
+    ghost use Rattle.std.specs.Prelude.{List, reverse};
+    ghost use Rattle.gql_tokens.specs.declared.token.Token.{Token};
+
+    ghost Value = { List Token };
+
+    ghost view = { λ cursor. reverse cursor.tokens.items };
+}
+
+impl Cursor {
+    /// All of these tokens.
+    pub fn new(tokens: Items<Token>) -> Cursor
+        ensures { result ≡ tokens }
+    {
+        let mut tokens = tokens.into_vec();
+        tokens.reverse();
+        Cursor { tokens }
+    }
+
+    /// The next token.
+    pub fn next(&self) -> Option<&Token>
+        ensures { option_copied result ≡ first self.now }
+    {
+        self.tokens.last()
+    }
+
+    /// Takes the next token.
+    pub fn pop(&mut self) -> Option<Token>
+        ensures { MatchOption result ((self.old ≡ []) × (self.new ≡ [])) (λ token. self.old ≡ token ∷ self.new) }
+    {
+        self.tokens.pop()
+    }
+
+    /// Lets the next token go.
+    fn skip(&mut self)
+        ensures { self.new ≡ behind_first self.old }
+    {
+        drop(self.pop());
+    }
+
+    /// Whether this sign is next.
+    pub fn is_at(&self, sign: Punctuator) -> bool
+        ensures { result ≡ begins (is_sign sign) self.now }
+    {
+        match self.next() {
+            Some(token) => says(&token.lexeme, sign),
+            None => false,
+        }
+    }
+
+    /// The place of the next token.
+    pub fn pos(&self) -> Pos
+        ensures { result ≡ place_of self.now }
+    {
+        match self.next() {
+            Some(token) => token.pos,
+            None => Pos { line: 1, column: 1 },
+        }
+    }
+
+    /// Whether this word is next.
+    pub fn is_at_word(&self, word: &str) -> bool
+        ensures { result ≡ begins (is_word word.now) self.now }
+    {
+        match self.next() {
+            Some(token) => says_this(&token.lexeme, word),
+            None => false,
+        }
+    }
+
+    /// Whether a name is next.
+    pub fn is_at_name(&self) -> bool
+        ensures { result ≡ begins is_name self.now }
+    {
+        match self.next() {
+            Some(token) => says_name(&token.lexeme),
+            None => false,
+        }
+    }
+
+    /// Whether a name other than `on` is next.
+    pub fn is_at_fragment_name(&self) -> bool
+        ensures { result ≡ begins is_fragment_name self.now }
+    {
+        match self.next() {
+            Some(token) => says_name(&token.lexeme) && !says_this(&token.lexeme, "on"),
+            None => false,
+        }
+    }
+
+    /// Whether a number, a string or a name is next.
+    fn is_at_scalar(&self) -> bool
+        ensures { result ≡ begins is_scalar self.now }
+    {
+        match self.next() {
+            Some(token) => says_scalar(&token.lexeme),
+            None => false,
+        }
+    }
+
+    /// Whether the end is next.
+    fn is_at_end(&self) -> bool
+        ensures { result ≡ begins is_end self.now }
+    {
+        match self.next() {
+            Some(token) => says_end(&token.lexeme),
+            None => false,
+        }
+    }
+
+    /// The kind of operation that the next token is the word of.
+    fn next_operation(&self) -> Option<OperationType>
+        ensures { result ≡ kind_next self.now }
+    {
+        match self.next() {
+            Some(token) => operation_said(&token.lexeme),
+            None => None,
+        }
+    }
+
+    /// Whether there is a next token, and it isn't this sign.
+    pub fn is_before(&self, sign: Punctuator) -> bool
+        ensures { result ≡ begins (other_than sign) self.now }
+    {
+        match self.next() {
+            Some(token) => !says(&token.lexeme, sign),
+            None => false,
+        }
+    }
+
+    /// Whether there is a next token, and it isn't the end.
+    pub fn is_before_end(&self) -> bool
+        ensures { result ≡ begins before_end self.now }
+    {
+        match self.next() {
+            Some(token) => !says_end(&token.lexeme),
+            None => false,
+        }
+    }
+
+    /// The trouble where no level is left for what this sign opens.
+    pub fn too_deep<T>(&self, sign: Punctuator) -> Result<T, ReadError>
+        ensures { Leaves result self.now (deep_at (is_sign sign) self.now) }
+    {
+        if self.is_at(sign) {
+            Err(ReadError::Stopped(Trouble::TooDeep))
+        } else {
+            Err(ReadError::Stopped(Trouble::Unexpected))
+        }
+    }
+
+    /// Takes a sign, and answers its place.
+    #[tactic(auto, using(crate::proofs::CursorLaws::sign_taken, crate::proofs::CursorLaws::sign_missed))]
+    pub fn take_sign(&mut self, sign: Punctuator) -> Result<Pos, ReadError>
+        ensures { Leaves result self.new (read_sign sign self.old) }
+    {
+        if !self.is_at(sign) {
+            return Err(ReadError::Stopped(Trouble::Unexpected));
+        }
+        let pos = self.pos();
+        self.skip();
+        Ok(pos)
+    }
+
+    /// Takes a word, and answers its place.
+    #[tactic(auto, using(crate::proofs::CursorLaws::word_taken, crate::proofs::CursorLaws::word_missed))]
+    pub fn take_word(&mut self, word: &str) -> Result<Pos, ReadError>
+        ensures { Leaves result self.new (read_word word.now self.old) }
+    {
+        if !self.is_at_word(word) {
+            return Err(ReadError::Stopped(Trouble::Unexpected));
+        }
+        let pos = self.pos();
+        self.skip();
+        Ok(pos)
+    }
+
+    /// Takes a name.
+    #[tactic(auto, using(crate::proofs::CursorLaws::name_taken, crate::proofs::CursorLaws::name_missed))]
+    pub fn take_name(&mut self) -> Result<Positioned<Name>, ReadError>
+        ensures { Leaves result self.new (read_name self.old) }
+    {
+        if !self.is_at_name() {
+            return Err(ReadError::Stopped(Trouble::Unexpected));
+        }
+        let Some(Token { lexeme, pos }) = self.pop() else {
+            unreachable!()
+        };
+        let Lexeme::Name(text) = lexeme else {
+            unreachable!()
+        };
+        Ok(Positioned {
+            pos,
+            node: Name::from_text(text),
+        })
+    }
+
+    /// Takes a name other than `on`.
+    #[tactic(auto, using(crate::proofs::CursorLaws::fragment_name_taken, crate::proofs::CursorLaws::fragment_name_missed))]
+    pub fn take_fragment_name(&mut self) -> Result<Positioned<Name>, ReadError>
+        ensures { Leaves result self.new (read_fragment_name self.old) }
+    {
+        if !self.is_at_fragment_name() {
+            return Err(ReadError::Stopped(Trouble::Unexpected));
+        }
+        self.take_name()
+    }
+
+    /// Takes a value of one token, but no variable.
+    #[tactic(auto, using(crate::proofs::CursorLaws::scalar_missed, crate::proofs::CursorLaws::scalar_sure))]
+    pub fn take_scalar(&mut self) -> Result<ValueTree, ReadError>
+        ensures { Leaves result self.new (read_scalar self.old) }
+    {
+        if !self.is_at_scalar() {
+            return Err(ReadError::Stopped(Trouble::Unexpected));
+        }
+        let Some(Token { lexeme, pos: _ }) = self.pop() else {
+            unreachable!()
+        };
+        match scalar_of(lexeme) {
+            Some(value) => Ok(value),
+            None => unreachable!(),
+        }
+    }
+
+    /// Takes the word of a kind of operation, and answers its place and the kind.
+    #[tactic(auto, using(crate::proofs::CursorLaws::operation_taken, crate::proofs::CursorLaws::operation_missed))]
+    pub fn take_operation(&mut self) -> Result<(Pos, OperationType), ReadError>
+        ensures { Leaves result self.new (read_operation self.old) }
+    {
+        match self.next_operation() {
+            Some(kind) => {
+                let pos = self.pos();
+                self.skip();
+                Ok((pos, kind))
+            }
+            None => Err(ReadError::Stopped(Trouble::Unexpected)),
+        }
+    }
+
+    /// Takes the end of the text.
+    #[tactic(auto, using(crate::proofs::CursorLaws::end_taken, crate::proofs::CursorLaws::end_missed))]
+    pub fn take_end(&mut self) -> Result<Pos, ReadError>
+        ensures { Leaves result self.new (read_end self.old) }
+    {
+        if !self.is_at_end() {
+            return Err(ReadError::Stopped(Trouble::Unexpected));
+        }
+        let pos = self.pos();
+        self.skip();
+        Ok(pos)
+    }
+}
+
+/// Whether a token says this sign.
+fn says(lexeme: &Lexeme, sign: Punctuator) -> bool
+    ensures { result ≡ says_sign sign lexeme.now }
+{
+    match lexeme {
+        Lexeme::Punctuator(found) => *found == sign,
+        _ => false,
+    }
+}
+
+/// Whether a token is this word.
+fn says_this(lexeme: &Lexeme, word: &str) -> bool
+    ensures { result ≡ says_word word.now lexeme.now }
+{
+    match lexeme {
+        Lexeme::Name(text) => text.as_str() == word,
+        _ => false,
+    }
+}
+
+/// Whether a token is a name.
+fn says_name(lexeme: &Lexeme) -> bool
+    ensures { result ≡ reading.says_name lexeme.now }
+{
+    matches!(lexeme, Lexeme::Name(_))
+}
+
+/// Whether a token is a number, a string or a name.
+fn says_scalar(lexeme: &Lexeme) -> bool
+    ensures { result ≡ reading.says_scalar lexeme.now }
+{
+    matches!(
+        lexeme,
+        Lexeme::Number(_) | Lexeme::String(_) | Lexeme::Name(_)
+    )
+}
+
+/// Whether a token is the end.
+fn says_end(lexeme: &Lexeme) -> bool
+    ensures { result ≡ reading.says_end lexeme.now }
+{
+    matches!(lexeme, Lexeme::End)
+}
+
+/// The value that a token is.
+fn scalar_of(lexeme: Lexeme) -> Option<ValueTree>
+    ensures { result ≡ scalar_in lexeme }
+{
+    match lexeme {
+        Lexeme::Number(number) => Some(ValueTree::Number(number)),
+        Lexeme::String(text) => Some(ValueTree::String(text)),
+        Lexeme::Name(text) => Some(value_named(text)),
+        _ => None,
+    }
+}
+
+/// The value that a name is.
+fn value_named(text: Text) -> ValueTree
+    ensures { result ≡ named_value text }
+{
+    if text.as_str() == "true" {
+        ValueTree::Boolean(true)
+    } else if text.as_str() == "false" {
+        ValueTree::Boolean(false)
+    } else if text.as_str() == "null" {
+        ValueTree::Null
+    } else {
+        ValueTree::Enum(Name::from_text(text))
+    }
+}
+
+/// The kind of operation that a token is the word of.
+fn operation_said(lexeme: &Lexeme) -> Option<OperationType>
+    ensures { result ≡ reading.operation_said lexeme.now }
+{
+    match lexeme {
+        Lexeme::Name(text) => operation_named(text.as_str()),
+        _ => None,
+    }
+}
+
+/// The kind of operation of this name.
+fn operation_named(word: &str) -> Option<OperationType>
+    ensures { result ≡ reading.operation_named word.now }
+{
+    if word == "query" {
+        Some(OperationType::Query)
+    } else if word == "mutation" {
+        Some(OperationType::Mutation)
+    } else if word == "subscription" {
+        Some(OperationType::Subscription)
+    } else {
+        None
+    }
+}

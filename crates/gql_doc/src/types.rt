@@ -1,0 +1,85 @@
+//! Reads types (section 2.11).
+ghost use Rattle.gql_doc.specs.Readers.{Leaves};
+ghost use Rattle.gql_doc.specs.Reading.{type_at, bare_type_by, list_type_at, list_type_by, null_or_not, placed_type};
+
+use crate::cursor::Cursor;
+use crate::document::Positioned;
+use crate::trouble::ReadError;
+use crate::values::MAX_LEVELS;
+use gql_base::TypeRef;
+use gql_tokens::Punctuator;
+use std::alloc::Global;
+
+/// Reads a type with its place.
+#[tactic(auto, unfolding(crate::specs::Reading::placed_type))]
+pub fn read_placed_type(
+    alloc: Global,
+    cursor: &mut Cursor,
+) -> Result<Positioned<TypeRef>, ReadError>
+    ensures { Leaves result cursor.new (placed_type cursor.old) }
+{
+    let pos = cursor.pos();
+    let node = read_type(alloc, cursor, MAX_LEVELS)?;
+    Ok(Positioned { pos, node })
+}
+
+/// Reads a type. So many levels of lists may still open.
+#[cycle(ty)]
+#[tactic(auto, using(crate::proofs::LevelLaws::type_step))]
+pub fn read_type(alloc: Global, cursor: &mut Cursor, levels: usize) -> Result<TypeRef, ReadError>
+    ensures { Leaves result cursor.new (type_at levels cursor.old) }
+{
+    let bare = read_bare_type(alloc, cursor, levels)?;
+    read_bang(alloc, cursor, bare)
+}
+
+/// Reads the `!` behind a type, if one is there.
+fn read_bang(alloc: Global, cursor: &mut Cursor, bare: TypeRef) -> Result<TypeRef, ReadError>
+    ensures { Leaves result cursor.new (null_or_not bare cursor.old) }
+{
+    if !cursor.is_at(Punctuator::Bang) {
+        return Ok(bare);
+    }
+    cursor.take_sign(Punctuator::Bang)?;
+    Ok(bare.non_null(alloc)?)
+}
+
+/// Reads a type without a `!` at its end.
+#[cycle(ty)]
+fn read_bare_type(alloc: Global, cursor: &mut Cursor, levels: usize) -> Result<TypeRef, ReadError>
+    ensures { Leaves result cursor.new (bare_type_by (list_type_at levels) cursor.old) }
+{
+    if cursor.is_at(Punctuator::OpenBracket) {
+        return read_list_type(alloc, cursor, levels);
+    }
+    let name = cursor.take_name()?;
+    Ok(TypeRef::Named(name.node))
+}
+
+/// Reads a list type.
+#[cycle(ty)]
+#[tactic(auto, using(crate::proofs::LevelLaws::no_list_type, crate::proofs::LevelLaws::list_type_of))]
+fn read_list_type(alloc: Global, cursor: &mut Cursor, levels: usize) -> Result<TypeRef, ReadError>
+    ensures { Leaves result cursor.new (list_type_at levels cursor.old) }
+{
+    if levels == 0 {
+        cursor.too_deep(Punctuator::OpenBracket)
+    } else {
+        read_list_type_of(alloc, cursor, levels - 1)
+    }
+}
+
+/// Reads a list type, in which so many levels may open.
+#[cycle(ty)]
+fn read_list_type_of(
+    alloc: Global,
+    cursor: &mut Cursor,
+    levels: usize,
+) -> Result<TypeRef, ReadError>
+    ensures { Leaves result cursor.new (list_type_by (type_at levels) cursor.old) }
+{
+    cursor.take_sign(Punctuator::OpenBracket)?;
+    let inner = read_type(alloc, cursor, levels)?;
+    cursor.take_sign(Punctuator::CloseBracket)?;
+    Ok(inner.list(alloc)?)
+}
