@@ -1,4 +1,5 @@
-//! Each public call with ample memory, against texts and values from outside.
+//! Each public call with ample memory, against texts and values from outside. What a test looks at is made by small functions
+//! beside it, since a test is proved too.
 use crate::{
     Boxed, Copied, Error, ErrorExtensionValues, Items, JsonFault, Made, Name, NoMemory, Number,
     Pairs, PathSegment, Pos, ServerError, Text, TypeRef, Value, Variables, from_json, json_of,
@@ -8,27 +9,6 @@ use crate::{
 use std::alloc::{AllocError, Global};
 use std::test::Fail;
 
-/// The place of line 1 and this column.
-fn column(column: usize) -> Pos {
-    Pos { line: 1, column }
-}
-
-/// The number as a value.
-fn whole(number: i64) -> Value {
-    Value::Number(Number::from_i64(number))
-}
-
-/// The object a: 1, b: list of "x" and null.
-fn sample(alloc: Global) -> Made<Value> {
-    let mut items = Items::new(alloc);
-    items.push(Value::String(Text::new(alloc, "x")?))?;
-    items.push(Value::Null)?;
-    let mut members = Pairs::new(alloc);
-    members.add(Name::new(alloc, "a")?, whole(1))?;
-    members.add(Name::new(alloc, "b")?, Value::List(items))?;
-    Ok(Value::Object(members))
-}
-
 /// Whether a copy of a value equals it, through the bounds alone.
 fn copies<T: Copied + PartialEq + Drop>(alloc: Global, value: &T) -> Made<bool> {
     let copy = value.try_clone(alloc)?;
@@ -36,19 +16,24 @@ fn copies<T: Copied + PartialEq + Drop>(alloc: Global, value: &T) -> Made<bool> 
 }
 
 #[test]
-fn texts_and_names(rt: HostRuntime) -> Result<(), Fail> {
+fn texts(rt: HostRuntime) -> Result<(), Fail> {
     let alloc = rt.alloc();
     let text = Text::new(alloc, "né")?;
     assert_eq!(rt; text.as_str(), "né");
     assert_eq!(rt; text.len(), 3);
     assert_eq!(rt; format!(in alloc; "<{text}>")?.as_str(), "<né>");
-    assert!(rt; text == Text::from_string(String::from_str(alloc, "né")?));
     assert!(rt; copies(alloc, &text)?);
+    assert!(rt; text == Text::from_string(String::from_str(alloc, "né")?));
+    Ok(())
+}
+
+#[test]
+fn names(rt: HostRuntime) -> Result<(), Fail> {
+    let alloc = rt.alloc();
     let name = Name::new(alloc, "hero")?;
     assert_eq!(rt; name.as_str(), "hero");
     assert_eq!(rt; format!(in alloc; "{name}!")?.as_str(), "hero!");
     assert!(rt; copies(alloc, &name)?);
-    assert!(rt; name != Name::new(alloc, "heros")?);
     assert_eq!(rt; name.into_string().as_str(), "hero");
     Ok(())
 }
@@ -85,22 +70,22 @@ fn boxes_and_options(rt: HostRuntime) -> Result<(), Fail> {
     Ok(())
 }
 
+/// Sets the value under a name, and gives what stood there.
+fn inserted(alloc: Global, pairs: &mut Pairs<i64>, name: &str, value: i64) -> Made<Option<i64>> {
+    pairs.insert(Name::new(alloc, name)?, value)
+}
+
 #[test]
 fn pairs(rt: HostRuntime) -> Result<(), Fail> {
     let alloc = rt.alloc();
     let mut pairs = Pairs::new(alloc);
-    for (name, value, old) in [("b", 1, None), ("a", 2, None), ("b", 3, Some(1))] {
-        assert_eq!(rt; pairs.insert(Name::new(alloc, name)?, value)?, old);
-    }
-    pairs.add(Name::new(alloc, "a")?, 4)?;
+    assert_eq!(rt; inserted(alloc, &mut pairs, "b", 1)?, None);
+    pairs.add(Name::new(alloc, "a")?, 2)?;
+    assert_eq!(rt; inserted(alloc, &mut pairs, "b", 3)?, Some(1));
     assert_eq!(rt; pairs.len(), 2);
-    for (place, name, value) in [(0, "b", 3), (1, "a", 4)] {
-        assert!(rt; place < pairs.len());
-        let (here, held) = pairs.at(place);
-        assert_eq!(rt; here, name);
-        assert_eq!(rt; *held, value);
-    }
-    assert_eq!(rt; pairs.get("a").copied(), Some(4));
+    assert_eq!(rt; pairs.at(0).0, "b");
+    assert_eq!(rt; *pairs.at(0).1, 3);
+    assert_eq!(rt; pairs.get("a").copied(), Some(2));
     assert_eq!(rt; pairs.get("c").copied(), None);
     assert!(rt; copies::<Pairs<i64>>(alloc, &pairs)?);
     Ok(())
@@ -133,30 +118,86 @@ fn numbers(rt: HostRuntime) -> Result<(), Fail> {
     Ok(())
 }
 
+/// What is read from a JSON text.
+fn read(alloc: Global, text: &str) -> Result<Result<Value, JsonFault>, Fail> {
+    let json = serde_json::Value::from_str(alloc, text)?;
+    Ok(from_json(alloc, &json)?)
+}
+
+/// The JSON text of what is read from a JSON text, or the fault.
+fn read_again(alloc: Global, text: &str) -> Result<Text, Fail> {
+    match read(alloc, text)? {
+        Ok(value) => Ok(json_of(alloc, &value)?),
+        Err(JsonFault::Number) => Ok(Text::new(alloc, "a bad number")?),
+    }
+}
+
 #[test]
-fn values_as_texts(rt: HostRuntime) -> Result<(), Fail> {
-    let alloc = rt.alloc();
+fn values_from_json(rt: HostRuntime) -> Result<(), Fail> {
+    for (text, again) in [
+        ("-1", "-1"),
+        ("18446744073709551615", "18446744073709551615"),
+        (
+            "{\"b\": [null, \"x\"], \"a\": true}",
+            "{\"a\":true,\"b\":[null,\"x\"]}",
+        ),
+        ("1.5", "a bad number"),
+        ("[{\"a\": 18446744073709551616}]", "a bad number"),
+    ] {
+        assert_eq!(rt; read_again(rt.alloc(), text)?.as_str(), again, "{text}");
+    }
+    Ok(())
+}
+
+/// The object a: 1, b: list of "x" and null, or null where it isn't read.
+fn sample(alloc: Global) -> Result<Value, Fail> {
+    match read(alloc, "{\"a\":1,\"b\":[\"x\",null]}")? {
+        Ok(value) => Ok(value),
+        Err(_) => Ok(Value::Null),
+    }
+}
+
+fn sample_json(alloc: Global) -> Result<Text, Fail> {
     let value = sample(alloc)?;
-    assert_eq!(rt;
-        json_of(alloc, &value)?.as_str(),
-        "{\"a\":1,\"b\":[\"x\",null]}"
-    );
-    assert_eq!(rt;
-        literal_of(alloc, &value)?.as_str(),
-        "{a: 1, b: [\"x\", null]}"
-    );
-    assert!(rt; copies(alloc, &value)?);
-    let red = Value::Enum(Name::new(alloc, "RED")?);
-    assert_eq!(rt; json_of(alloc, &red)?.as_str(), "\"RED\"");
-    assert_eq!(rt; literal_of(alloc, &red)?.as_str(), "RED");
-    assert!(rt; red != Value::String(Text::new(alloc, "RED")?));
+    Ok(json_of(alloc, &value)?)
+}
+
+fn sample_literal(alloc: Global) -> Result<Text, Fail> {
+    let value = sample(alloc)?;
+    Ok(literal_of(alloc, &value)?)
+}
+
+fn sample_copies(alloc: Global) -> Result<bool, Fail> {
+    let value = sample(alloc)?;
+    Ok(copies(alloc, &value)?)
+}
+
+#[test]
+fn objects_as_texts(rt: HostRuntime) -> Result<(), Fail> {
+    let json = "{\"a\":1,\"b\":[\"x\",null]}";
+    assert_eq!(rt; sample_json(rt.alloc())?.as_str(), json);
+    let literal = "{a: 1, b: [\"x\", null]}";
+    assert_eq!(rt; sample_literal(rt.alloc())?.as_str(), literal);
+    assert!(rt; sample_copies(rt.alloc())?);
+    Ok(())
+}
+
+fn enum_texts(alloc: Global, name: &str) -> Made<(Text, Text)> {
+    let value = Value::Enum(Name::new(alloc, name)?);
+    Ok((json_of(alloc, &value)?, literal_of(alloc, &value)?))
+}
+
+#[test]
+fn enums_as_texts(rt: HostRuntime) -> Result<(), Fail> {
+    let (json, literal) = enum_texts(rt.alloc(), "RED")?;
+    assert_eq!(rt; json.as_str(), "\"RED\"");
+    assert_eq!(rt; literal.as_str(), "RED");
     Ok(())
 }
 
 #[test]
 fn parts_of_json(rt: HostRuntime) -> Result<(), Fail> {
-    let alloc = rt.alloc();
-    let mut out = String::new(alloc);
+    let mut out = String::new(rt.alloc());
     push_comma(&mut out, 0)?;
     push_name(&mut out, "k")?;
     push_json(&mut out, &Value::Boolean(true))?;
@@ -170,164 +211,193 @@ fn parts_of_json(rt: HostRuntime) -> Result<(), Fail> {
 }
 
 #[test]
-fn values_from_json(rt: HostRuntime) -> Result<(), Fail> {
-    let alloc = rt.alloc();
-    for (text, again) in [
-        ("-1", Ok("-1")),
-        ("18446744073709551615", Ok("18446744073709551615")),
-        (
-            "{\"b\": [null, \"x\"], \"a\": true}",
-            Ok("{\"a\":true,\"b\":[null,\"x\"]}"),
-        ),
-        ("1.5", Err(JsonFault::Number)),
-        ("[{\"a\": 18446744073709551616}]", Err(JsonFault::Number)),
-    ] {
-        let json = serde_json::Value::from_str(alloc, text)?;
-        match from_json(alloc, &json)? {
-            Ok(value) => assert_eq!(rt; Ok(json_of(alloc, &value)?.as_str()), again, "{text}"),
-            Err(fault) => assert_eq!(rt; Err(fault), again, "{text}"),
-        }
-    }
-    Ok(())
-}
-
-#[test]
 fn types(rt: HostRuntime) -> Result<(), Fail> {
     let alloc = rt.alloc();
-    for (ty, text, nullable) in [
-        (TypeRef::named(alloc, "MyObj")?, "MyObj", true),
-        (TypeRef::named_nn(alloc, "MyObj")?, "MyObj!", false),
-        (TypeRef::named_list(alloc, "MyObj")?, "[MyObj]", true),
-        (TypeRef::named_list_nn(alloc, "MyObj")?, "[MyObj]!", false),
-        (TypeRef::named_nn_list(alloc, "MyObj")?, "[MyObj!]", true),
-        (
-            TypeRef::named_nn_list_nn(alloc, "MyObj")?,
-            "[MyObj!]!",
-            false,
-        ),
-    ] {
-        assert_eq!(rt; ty.text(alloc)?.as_str(), text);
-        assert_eq!(rt; ty.type_name(), "MyObj");
-        assert_eq!(rt; ty.is_nullable(), nullable);
-        assert!(rt; copies(alloc, &ty)?);
-    }
-    let mut out = String::new(alloc);
-    push_type(
-        &mut out,
-        &TypeRef::named(alloc, TypeRef::INT)?
-            .list(alloc)?
-            .non_null(alloc)?,
-    )?;
-    assert_eq!(rt; out.as_str(), "[Int]!");
+    assert_eq!(rt;
+        TypeRef::named(alloc, "MyObj")?.text(alloc)?.as_str(),
+        "MyObj"
+    );
+    assert_eq!(rt;
+        TypeRef::named_nn(alloc, "MyObj")?.text(alloc)?.as_str(),
+        "MyObj!"
+    );
+    assert_eq!(rt;
+        TypeRef::named_list(alloc, "MyObj")?.text(alloc)?.as_str(),
+        "[MyObj]"
+    );
+    assert_eq!(rt;
+        TypeRef::named_list_nn(alloc, "MyObj")?
+            .text(alloc)?
+            .as_str(),
+        "[MyObj]!"
+    );
+    assert_eq!(rt;
+        TypeRef::named_nn_list(alloc, "MyObj")?
+            .text(alloc)?
+            .as_str(),
+        "[MyObj!]"
+    );
+    assert_eq!(rt;
+        TypeRef::named_nn_list_nn(alloc, "MyObj")?
+            .text(alloc)?
+            .as_str(),
+        "[MyObj!]!"
+    );
     Ok(())
 }
 
 #[test]
-fn variables(rt: HostRuntime) -> Result<(), Fail> {
+fn parts_of_types(rt: HostRuntime) -> Result<(), Fail> {
     let alloc = rt.alloc();
-    let none = Variables::from_value(alloc, Value::Null);
-    assert!(rt; none.is_empty());
-    let variables = Variables::from_value(alloc, sample(alloc)?);
+    let ty = TypeRef::named_nn_list(alloc, TypeRef::INT)?;
+    assert_eq!(rt; ty.type_name(), "Int");
+    assert!(rt; ty.is_nullable());
+    assert!(rt; copies(alloc, &ty)?);
+    let ty = ty.list(alloc)?.non_null(alloc)?;
+    assert!(rt; !ty.is_nullable());
+    let mut out = String::new(alloc);
+    push_type(&mut out, &ty)?;
+    assert_eq!(rt; out.as_str(), "[[Int!]]!");
+    Ok(())
+}
+
+/// The JSON text of the variables that a value gives.
+fn variables_of(alloc: Global, value: Value) -> Made<Text> {
+    let copy = Variables::from_value(alloc, value).try_clone(alloc)?;
+    let object = copy.into_value();
+    json_of(alloc, &object)
+}
+
+#[test]
+fn variables_as_objects(rt: HostRuntime) -> Result<(), Fail> {
+    assert_eq!(rt; variables_of(rt.alloc(), Value::Null)?.as_str(), "{}");
+    let json = "{\"a\":1,\"b\":[\"x\",null]}";
+    assert_eq!(rt;
+        variables_of(rt.alloc(), sample(rt.alloc())?)?.as_str(),
+        json
+    );
+    Ok(())
+}
+
+#[test]
+fn variables_by_name(rt: HostRuntime) -> Result<(), Fail> {
+    let variables = Variables::from_value(rt.alloc(), sample(rt.alloc())?);
     assert!(rt; !variables.is_empty());
-    assert!(rt; variables.get("a").is_some_and(|value| *value == whole(1)));
+    assert!(rt; variables.get("a") == Some(&Value::Number(Number::from_i64(1))));
     assert!(rt; variables.get("c").is_none());
-    let copy = variables.try_clone(alloc)?;
-    assert!(rt; variables.into_value() == sample(alloc)?);
-    assert!(rt; copy.into_value() == sample(alloc)?);
     Ok(())
 }
 
 /// The extensions b: 2, a: true, in this order of setting.
 fn extensions(alloc: Global) -> Made<ErrorExtensionValues> {
     let mut values = ErrorExtensionValues::new(alloc);
-    values.set("b", whole(1))?;
+    values.set("b", Value::Null)?;
     values.set("a", Value::Boolean(true))?;
-    values.set("b", whole(2))?;
+    values.set("b", Value::Number(Number::from_i64(2)))?;
     Ok(values)
 }
 
 #[test]
 fn extension_values(rt: HostRuntime) -> Result<(), Fail> {
-    let alloc = rt.alloc();
-    let mut values = extensions(alloc)?;
-    assert!(rt; copies(alloc, &values)?);
-    assert_eq!(rt; values.len(), 2);
-    for (place, name) in [(0, "a"), (1, "b")] {
-        assert!(rt; place < values.len());
-        assert_eq!(rt; values.at(place).0, name);
-    }
-    assert!(rt; values.get("b").is_some_and(|value| *value == whole(2)));
-    let mut out = String::new(alloc);
+    let mut values = extensions(rt.alloc())?;
+    assert!(rt; copies(rt.alloc(), &values)?);
+    let mut out = String::new(rt.alloc());
     push_extension_values(&mut out, &values)?;
     assert_eq!(rt; out.as_str(), "{\"a\":true,\"b\":2}");
     values.unset("c");
     values.unset("a");
     assert_eq!(rt; values.len(), 1);
+    assert_eq!(rt; values.at(0).0, "b");
     assert!(rt; values.get("a").is_none());
     Ok(())
 }
 
-/// The path a, 0.
-fn path(alloc: Global) -> Made<Items<PathSegment>> {
-    let mut path = Items::new(alloc);
-    path.push(PathSegment::Field(Text::new(alloc, "a")?))?;
-    path.push(PathSegment::Index(0))?;
-    Ok(path)
+/// The error "m" with two locations, the path a, 0, and the extensions.
+fn full_error(alloc: Global) -> Made<ServerError> {
+    let mut error = ServerError::new(alloc, "m", Some(Pos { line: 1, column: 2 }))?;
+    error.locations.push(Pos {
+        line: 3,
+        column: 40,
+    })?;
+    error.path.push(PathSegment::Field(Text::new(alloc, "a")?))?;
+    error.path.push(PathSegment::Index(0))?;
+    error.extensions = Some(extensions(alloc)?);
+    Ok(error)
+}
+
+const FULL: &str =
+    "{\"message\":\"m\",\"locations\":[{\"line\":1,\"column\":2},{\"line\":3,\"column\":40}],\
+    \"path\":[\"a\",0],\"extensions\":{\"a\":true,\"b\":2}}";
+
+fn full_text(alloc: Global) -> Made<Text> {
+    let error = full_error(alloc)?;
+    error.json(alloc)
+}
+
+fn full_copies(alloc: Global) -> Made<bool> {
+    let error = full_error(alloc)?;
+    copies(alloc, &error)
 }
 
 #[test]
-fn errors_of_a_response(rt: HostRuntime) -> Result<(), Fail> {
-    let alloc = rt.alloc();
+fn errors_with_all_parts(rt: HostRuntime) -> Result<(), Fail> {
+    assert_eq!(rt; full_text(rt.alloc())?.as_str(), FULL);
+    assert!(rt; full_copies(rt.alloc())?);
+    Ok(())
+}
+
+/// The list of an error with a message alone, after it was at another path.
+fn bare_list(alloc: Global) -> Made<Items<ServerError>> {
     let bare = ServerError::new(alloc, "say \"no\"", None)?;
-    assert_eq!(rt; format!(in alloc; "{bare}")?.as_str(), "say \"no\"");
-    let bare_text = "{\"message\":\"say \\\"no\\\"\"}";
-    assert_eq!(rt; bare.json(alloc)?.as_str(), bare_text);
-    let mut full = ServerError::new(alloc, "m", Some(column(2)))?.with_path(path(alloc)?);
-    full.locations.push(column(30))?;
-    full.extensions = Some(extensions(alloc)?);
-    assert!(rt; copies(alloc, &full)?);
-    assert!(rt; full != bare);
-    let full_text =
-        "{\"message\":\"m\",\"locations\":[{\"line\":1,\"column\":2},{\"line\":1,\"column\":30}],\
-        \"path\":[\"a\",0],\"extensions\":{\"a\":true,\"b\":2}}";
-    let mut out = String::new(alloc);
-    push_error(&mut out, &full)?;
-    assert_eq!(rt; out.as_str(), full_text);
-    let mut errors = full.into_list(alloc)?;
-    errors.append(bare.into_list(alloc)?)?;
-    let mut list = String::new(alloc);
-    push_errors(&mut list, errors.as_slice())?;
-    assert_eq!(rt;
-        list.as_str(),
-        format!(in alloc; "[{full_text},{bare_text}]")?.as_str()
-    );
+    bare.with_path(Items::new(alloc)).into_list(alloc)
+}
+
+#[test]
+fn errors_with_a_message(rt: HostRuntime) -> Result<(), Fail> {
+    let errors = bare_list(rt.alloc())?;
+    let mut out = String::new(rt.alloc());
+    push_errors(&mut out, errors.as_slice())?;
+    assert_eq!(rt; out.as_str(), "[{\"message\":\"say \\\"no\\\"\"}]");
     Ok(())
 }
 
 #[test]
-fn errors_of_a_resolver(rt: HostRuntime) -> Result<(), Fail> {
-    let alloc = rt.alloc();
+fn errors_as_messages(rt: HostRuntime) -> Result<(), Fail> {
+    let bare = ServerError::new(rt.alloc(), "say \"no\"", None)?;
+    assert_eq!(rt; format!(in rt.alloc(); "{bare}")?.as_str(), "say \"no\"");
+    let mut out = String::new(rt.alloc());
+    push_error(&mut out, &bare)?;
+    assert_eq!(rt; out.as_str(), "{\"message\":\"say \\\"no\\\"\"}");
+    Ok(())
+}
+
+/// The JSON text of an error of a resolver with empty extensions, placed.
+fn placed_text(alloc: Global) -> Made<Text> {
     let mut error = Error::new(alloc, "e")?;
     error.extensions = Some(ErrorExtensionValues::new(alloc));
-    assert!(rt; copies(alloc, &error)?);
-    assert!(rt; error != Error::new(alloc, "e")?);
-    let placed = error.into_server_error(alloc, column(4))?;
+    error
+        .into_server_error(alloc, Pos { line: 1, column: 4 })?
+        .json(alloc)
+}
+
+#[test]
+fn errors_of_a_resolver(rt: HostRuntime) -> Result<(), Fail> {
     let text = "{\"message\":\"e\",\"locations\":[{\"line\":1,\"column\":4}]}";
-    assert_eq!(rt; placed.json(alloc)?.as_str(), text);
-    assert!(rt; placed.extensions.is_some());
+    assert_eq!(rt; placed_text(rt.alloc())?.as_str(), text);
+    let error = Error::new(rt.alloc(), "e")?;
+    assert!(rt; copies(rt.alloc(), &error)?);
     Ok(())
 }
 
 #[test]
 fn path_segments(rt: HostRuntime) -> Result<(), Fail> {
     let alloc = rt.alloc();
-    for (segment, text) in [
-        (PathSegment::Field(Text::new(alloc, "hero")?), "hero"),
-        (PathSegment::Index(12), "12"),
-    ] {
-        assert_eq!(rt; format!(in alloc; "{segment}")?.as_str(), text);
-        assert!(rt; copies(alloc, &segment)?);
-    }
+    let field = PathSegment::Field(Text::new(alloc, "hero")?);
+    assert_eq!(rt; format!(in alloc; "{field}")?.as_str(), "hero");
+    assert!(rt; copies(alloc, &field)?);
+    let index = PathSegment::Index(12);
+    assert_eq!(rt; format!(in alloc; "{index}")?.as_str(), "12");
+    assert!(rt; field != index);
     Ok(())
 }
 
