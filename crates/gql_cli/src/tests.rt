@@ -94,10 +94,11 @@ fn through_pipes(rt: HostRuntime) -> Result<(), Fail> {
     Ok(())
 }
 
-/// The bench of an object type with an Int, a text and a Boolean, and this query.
+/// The bench of an object type with an Int, two texts and a Boolean, and this query.
 fn bench(alloc: Global, query: &str) -> Made<String> {
     let fields = "{\"name\":\"value\",\"type\":\"Int\",\"answer\":{\"const\":100}},\
-{\"name\":\"text\",\"type\":\"String\",\"answer\":{\"const\":\"a\\\"b\"}},\
+{\"name\":\"text\",\"type\":\"String\",\"answer\":{\"const\":\"abc\"}},\
+{\"name\":\"quoted\",\"type\":\"String\",\"answer\":{\"const\":\"a\\\"b\"}},\
 {\"name\":\"none\",\"type\":\"Boolean\",\"answer\":{\"const\":null}}";
     format!(in alloc;
         "{{\"schema\":{{\"query\":\"Query\",\"types\":[{{\"kind\":\"object\",\"name\":\"Query\",\"fields\":[{fields}]}}]}},\
@@ -113,12 +114,12 @@ fn first_benches(rt: HostRuntime) -> Result<(), Fail> {
         (
             "{ value text }",
             0,
-            "{\"data\":{\"value\":100,\"text\":\"a\\\"b\"}}\n",
+            "{\"data\":{\"value\":100,\"text\":\"abc\"}}\n",
         ),
         (
-            "{text,none value}",
+            "{quoted,none value}",
             0,
-            "{\"data\":{\"text\":\"a\\\"b\",\"none\":null,\"value\":100}}\n",
+            "{\"data\":{\"quoted\":\"a\\\"b\",\"none\":null,\"value\":100}}\n",
         ),
         ("#comment\\n{ none } ", 0, "{\"data\":{\"none\":null}}\n"),
         ("{ value value }", 3, not_built),
