@@ -1,5 +1,5 @@
--- Members that are appended one by one.
-use Rattle.std.proofs.Common.{◌≡◌, ℕ, List, [], ◌∷◌, ◌++◌, map, codes, take, length, get_or, Option, Some, String, Global, string_bytes, ◌+◌, ◌<◌, refl, ap, sym, ◌∙◌, arith, append_assoc, append-nil, length-take-le}
+-- Members that are appended one by one, and the response that they make.
+use Rattle.std.proofs.Common.{◌≡◌, ℕ, List, [], ◌∷◌, ◌++◌, map, codes, take, length, get_or, Option, Some, None, Result, Ok, Err, IfOk, MatchOption, String, Global, string_bytes, ◌+◌, ◌<◌, refl, ap, sym, ◌∙◌, subst, arith, append_assoc, append-nil, length-take-le}
 use Rattle.std.proofs.lemmas.List.{length-map, map-append}
 use Rattle.gql_base.specs.Json.{quoted, json}
 use Rattle.gql_base.specs.Separated.{separated, before}
@@ -7,7 +7,10 @@ use Rattle.gql_base.proofs.SeparatedLemmas.{separated-push}
 use Rattle.gql_base.specs.declared.value.Value.{Value}
 use Rattle.gql_base.specs.declared.value.Value.TheVariants as value
 use Rattle.gql_base.proofs.JsonLemmas.{json-object}
-use Rattle.gql_cli.specs.Answer.{IsAnswered, Chooses, shown, response_line}
+use Rattle.gql_doc.specs.declared.document.ExecutableDocument.{ExecutableDocument}
+use Rattle.gql_cli.specs.Answer.{IsAnswered, Chooses, IsResponse, shown, response_line}
+use Rattle.gql_cli.specs.Query.{Selects}
+use Rattle.gql_cli.proofs.QueryLemmas.{asks-same}
 use Rattle.gql_cli.proofs.ZipLemmas.{zip-length, zip-more}
 
 -- the members of these names were appended
@@ -51,3 +54,17 @@ response-parts chosen =
     ≡ codes "{" ++ ((quoted (codes "data") ++ (codes ":" ++ json (value.Object chosen)) ++ []) ++ codes "}") = json-object ((codes "data", value.Object chosen) ∷ []) in
     sym (ap (λ text. text ++ codes "\n") (outer ∙ ap (λ text. codes "{" ++ ((quoted (codes "data") ++ (codes ":" ++ text) ++ []) ++ codes "}")) inner)
     ∙ simp (append_assoc, append-nil))
+
+-- where a document asks for these names alone, what is made over them is its response
+pub response-over : {E : Type 0} (answers : List ℕ → Option Value) (document : ExecutableDocument) (names : List (List ℕ)) → Selects document names
+    → (made : Result (Option (List ℕ)) E)
+    → IfOk made (λ found. MatchOption found ((chosen : List (List ℕ × Value)) → Chooses answers names chosen → ⊥)
+    (λ text. (chosen : List (List ℕ × Value)) × Chooses answers names chosen × (text ≡ response_line chosen)))
+    → IfOk made (λ found. MatchOption found ((text : List ℕ) → IsResponse answers document text → ⊥) (IsResponse answers document))
+response-over answers document names selects (Ok (Some text)) (chosen, chooses, is) =
+    record { names = names; selects = selects; chosen = chosen; chooses = chooses; is = is }
+response-over answers document names selects (Ok None) never =
+    λ text response.
+    never response.chosen
+    (subst (λ ns. Chooses answers ns response.chosen) (asks-same document response.names names response.selects.0 selects.0) response.chooses)
+response-over answers document names selects (Err want) made = made

@@ -67,3 +67,7 @@ IsShaped json bench =
 -- the JSON of a first bench, whose fields have names that differ
 abbrev pub IsFirstBench : Data → FirstBench → Type 0
 IsFirstBench json bench = IsShaped json bench × HasDistinctNames (constants bench.fields)
+
+-- the JSON is that of no first bench
+abbrev pub IsNoFirstBench : Data → Type 0
+IsNoFirstBench json = (bench : FirstBench) → IsFirstBench json bench → ⊥

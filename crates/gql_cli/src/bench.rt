@@ -1,12 +1,13 @@
 //! From the bytes of a bench to the text that is written.
 ghost use Rattle.std.specs.Prelude.{◌≡◌, IfOk, IfErr, MatchOption, codes, option_map};
 ghost use Rattle.serde_json.specs.View.{view};
-ghost use Rattle.gql_cli.specs.Bench.{json_of, HasNoAnswer, JsonGives, Gives};
-ghost use Rattle.gql_cli.specs.BenchAnswers.{IsBenchOf};
+ghost use Rattle.gql_cli.specs.Bench.{json_of, JsonGives, Gives};
+ghost use Rattle.gql_cli.specs.BenchAnswers.{bench_answers, IsBenchOf, QueryGives};
+ghost use Rattle.gql_cli.specs.FirstBench.{IsNoFirstBench};
 
-use crate::answer::response_of;
+use crate::answer::{refusal_of, response_of};
 use crate::first_bench::read_first_bench;
-use crate::query::selected_names;
+use crate::parse::parse_query;
 use crate::tables::{Bench, bench_of_first};
 use gql_base::{Made, Text};
 use serde_json::Value;
@@ -17,6 +18,8 @@ use std::alloc::{AllocError, Global};
 pub enum Written {
     /// The text of the answer.
     Answered(Text),
+    /// The text that tells the fault of a query that is no document.
+    Refused(Text),
     /// The bytes are no JSON.
     NotJson,
     /// The JSON is no bench of the forms that are built.
@@ -56,18 +59,28 @@ fn bench_text(alloc: Global, json: &Value) -> Made<Written>
     ensures { IfOk result (JsonGives (view json.now)) }
 {
     match bench_of(alloc, Command::Execute, json)? {
-        Ok(bench) => match response_of(alloc, &bench, bench.request.as_slice())? {
+        Ok(bench) => query_text(alloc, &bench),
+        Err(_) => Ok(Written::NotBuilt),
+    }
+}
+
+/// What a bench's request gives.
+fn query_text(alloc: Global, bench: &Bench) -> Made<Written>
+    ensures { IfOk result (QueryGives (bench_answers bench.now) bench.now.request) }
+{
+    match parse_query(alloc, bench.request.as_str())? {
+        Ok(document) => match response_of(alloc, bench, &document)? {
             Some(text) => Ok(Written::Answered(text)),
             None => Ok(Written::NotBuilt),
         },
-        Err(_) => Ok(Written::NotBuilt),
+        Err(fault) => Ok(Written::Refused(refusal_of(alloc, fault)?)),
     }
 }
 
 /// The bench of a JSON value for a command, or `not built yet` where it is none of the forms that are built.
 pub fn bench_of(alloc: Global, command: Command, json: &Value) -> Made<Result<Bench, Text>>
     ensures built { IfOk result (λ made. IfOk made (IsBenchOf (view json.now))) }
-    ensures refused { IfOk result (λ made. IfErr made (λ text. (text ≡ codes "not built yet") × HasNoAnswer (view json.now))) }
+    ensures refused { IfOk result (λ made. IfErr made (λ text. (text ≡ codes "not built yet") × IsNoFirstBench (view json.now))) }
 {
     let Command::Execute = command;
     match first_bench_of(alloc, json)? {
@@ -78,20 +91,10 @@ pub fn bench_of(alloc: Global, command: Command, json: &Value) -> Made<Result<Be
 
 /// The bench of a first bench.
 fn first_bench_of(alloc: Global, json: &Value) -> Made<Option<Bench>>
-    ensures { IfOk result (λ made. MatchOption made (HasNoAnswer (view json.now)) (IsBenchOf (view json.now))) }
+    ensures { IfOk result (λ made. MatchOption made (IsNoFirstBench (view json.now)) (IsBenchOf (view json.now))) }
 {
     let Some(first) = read_first_bench(alloc, json)? else {
         return Ok(None);
     };
-    let Some(names) = selected_names(alloc, first.query.as_str())? else {
-        return Ok(None);
-    };
-    let Some(bench) = bench_of_first(alloc, first, names)? else {
-        return Ok(None);
-    };
-    if bench.has_fields() {
-        Ok(Some(bench))
-    } else {
-        Ok(None)
-    }
+    bench_of_first(alloc, first)
 }

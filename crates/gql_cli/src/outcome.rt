@@ -36,6 +36,7 @@ impl Outcome {
             Outcome::ReadFault => Status::ReadFault,
             Outcome::TooLong => Status::TooLong,
             Outcome::Bench(Written::Answered(_)) => Status::Done,
+            Outcome::Bench(Written::Refused(_)) => Status::HasErrors,
             Outcome::Bench(Written::NotJson | Written::NotBuilt) => Status::Refused,
         }
     }
@@ -50,7 +51,7 @@ impl Outcome {
             }
             Outcome::ReadFault => "input: read fault\n",
             Outcome::TooLong => "input: too long\n",
-            Outcome::Bench(Written::Answered(text)) => text.as_str(),
+            Outcome::Bench(Written::Answered(text) | Written::Refused(text)) => text.as_str(),
             Outcome::Bench(Written::NotJson) => "bench: not JSON\n",
             Outcome::Bench(Written::NotBuilt) => "bench: not built yet\n",
         }

@@ -42,8 +42,8 @@ pub fn run<R, I: Source, O: Sink>(
         → IfSome (I.left source.old) (λ input. INPUT_LIMIT < length input
         → (result ≡ 7) ⊎ (result ≡ 4) ⊎ IsCutOff result) }
 
-    // 0 and 3 come after the whole input was read, by what it gives as a bench.
-    ensures bench { (result ≡ 0) ⊎ (result ≡ 3)
+    // 0, 1 and 3 come after the whole input was read, by what it gives as a bench.
+    ensures bench { (result ≡ 0) ⊎ (result ≡ 1) ⊎ (result ≡ 3)
         → (input : List ℕ) × IsInput I.left I.given source.old source.new input
         × ((written : Written) × Gives input written × (result ≡ due_status (Outcome.Bench written))) }
 
@@ -96,8 +96,8 @@ pub fn run_alone<I: Source, O: Sink>(
         → IfSome (I.left source.old) (λ input. INPUT_LIMIT < length input
         → (result ≡ 7) ⊎ (result ≡ 4) ⊎ IsCutOff result) }
 
-    // 0 and 3 come after the whole input was read, by what it gives as a bench.
-    ensures bench { (result ≡ 0) ⊎ (result ≡ 3)
+    // 0, 1 and 3 come after the whole input was read, by what it gives as a bench.
+    ensures bench { (result ≡ 0) ⊎ (result ≡ 1) ⊎ (result ≡ 3)
         → (input : List ℕ) × IsInput I.left I.given source.old source.new input
         × ((written : Written) × Gives input written × (result ≡ due_status (Outcome.Bench written))) }
 

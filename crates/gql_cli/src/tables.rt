@@ -1,5 +1,5 @@
 //! The tables of a bench: its types, and the rules of its resolvers.
-ghost use Rattle.std.specs.Prelude.{◌≡◌, ℕ, List, IfOk, MatchOption, MatchBool, option_map};
+ghost use Rattle.std.specs.Prelude.{◌≡◌, ℕ, List, IfOk, MatchOption, option_map};
 ghost use Rattle.gql_base.specs.Pairs.{under, HasDistinctNames};
 ghost use Rattle.gql_schema.specs.Object.{object_name};
 ghost use Rattle.gql_cli.specs.FirstBench.{constants};
@@ -7,24 +7,22 @@ ghost use Rattle.gql_cli.specs.Tables.{root_constant, IsTabled};
 
 use crate::first_bench::{FirstBench, FirstField};
 use crate::rule::Rule;
-use gql_base::{Items, Made, Name, TypeRef, Value};
+use gql_base::{Items, Made, Name, Text, TypeRef, Value};
 use gql_schema::{Field, Object, SchemaType, Types};
 use std::alloc::{AllocError, Global};
 
 /// A bench: the types of its schema, the name of the query root, the rules of its resolvers by their numbers, and the
-/// names of the root's fields that its request asks for.
+/// query of its request.
 #[derive(Debug, Drop)]
 pub struct Bench {
     pub types: Types,
     pub query: Name,
     pub rules: Items<Rule>,
-    pub request: Items<Name>,
+    pub request: Text,
 }
 
 impl Bench {
     ghost use Rattle.std.specs.Option.{option_copied};
-    ghost use Rattle.gql_cli.specs.Answer.{Chooses, HasChosen};
-    ghost use Rattle.gql_cli.specs.BenchAnswers.{bench_answers};
 
     /// The constant that the query root's field of this name answers, or none where there is no such field.
     pub fn constant(&self, name: &str) -> Option<&Value>
@@ -36,36 +34,18 @@ impl Bench {
         let Rule::Const(value) = self.rules.get(number as usize)?;
         Some(value)
     }
-
-    /// True exactly where the query root has a field of each name that is asked for.
-    pub fn has_fields(&self) -> bool
-        ensures { MatchBool result (HasChosen (bench_answers self.now) self.now.request)
-            ((chosen : _) → Chooses (bench_answers self.now) self.now.request chosen → ⊥) }
-    {
-        for name in self.request.as_slice() {
-            match self.constant(name.as_str()) {
-                Some(_) => {}
-                None => return false,
-            }
-        }
-        true
-    }
 }
 
-/// The bench of a first bench whose query asks for these names, unless two of its fields have one name.
-pub(crate) fn bench_of_first(
-    alloc: Global,
-    first: FirstBench,
-    request: Items<Name>,
-) -> Made<Option<Bench>>
+/// The bench of a first bench, unless two of its fields have one name.
+pub(crate) fn bench_of_first(alloc: Global, first: FirstBench) -> Made<Option<Bench>>
     ensures { IfOk result (λ made. MatchOption made (HasDistinctNames (constants first.fields) → ⊥)
-        (λ bench. HasDistinctNames (constants first.fields) × (bench.request ≡ request)
+        (λ bench. HasDistinctNames (constants first.fields) × (bench.request ≡ first.query)
         × ((name : List ℕ) → root_constant bench.types bench.query bench.rules name ≡ under name (constants first.fields)))) }
 {
     let FirstBench {
         root,
         fields,
-        query: _,
+        query,
     } = first;
     match tables_of(alloc, root.as_str(), fields)? {
         None => Ok(None),
@@ -76,7 +56,7 @@ pub(crate) fn bench_of_first(
                 types,
                 query: root,
                 rules,
-                request,
+                request: query,
             }))
         }
     }

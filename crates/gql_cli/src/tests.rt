@@ -125,8 +125,8 @@ fn first_benches(rt: HostRuntime) -> Result<(), Fail> {
         ("{ value value }", 3, not_built),
         ("{ other }", 3, not_built),
         ("{ __typename }", 3, not_built),
-        ("{ }", 3, not_built),
-        ("{ value } }", 3, not_built),
+        ("{ a: value }", 3, not_built),
+        ("query Q { value }", 3, not_built),
     ] {
         let input = bench(alloc, query)?;
         let mut source = SureSource::new(Items::from_slice(alloc, input.as_bytes())?, 100);
@@ -134,6 +134,31 @@ fn first_benches(rt: HostRuntime) -> Result<(), Fail> {
         let words = execute(alloc)?;
         let answered = run_alone(alloc, words.as_slice(), &mut source, &mut sink);
         assert_eq!(rt; answered, status, "at {query}");
+        assert_eq!(rt; sink.held(), line.as_bytes(), "at {query}");
+    }
+    Ok(())
+}
+
+#[test]
+fn queries_that_are_no_documents(rt: HostRuntime) -> Result<(), Fail> {
+    let alloc = rt.alloc();
+    for (query, what, column) in [
+        ("", "unexpected token", 1),
+        ("{ % }", "unexpected character", 3),
+        ("{ a ", "unexpected token", 5),
+        ("{ value(a: 1.5) }", "number not supported", 12),
+        ("{ value } { value }", "wrong operations", 1),
+        ("query A { value } query A { value }", "doubled name", 19),
+    ] {
+        let input = bench(alloc, query)?;
+        let mut source = SureSource::new(Items::from_slice(alloc, input.as_bytes())?, 100);
+        let mut sink = SureSink::new(alloc, 7);
+        let words = execute(alloc)?;
+        let answered = run_alone(alloc, words.as_slice(), &mut source, &mut sink);
+        let line = format!(in alloc;
+            "{{\"data\":null,\"errors\":[{{\"message\":\"Syntax error: {what}\",\"locations\":[{{\"line\":1,\"column\":{column}}}]}}]}}\n"
+        )?;
+        assert_eq!(rt; answered, 1, "at {query}");
         assert_eq!(rt; sink.held(), line.as_bytes(), "at {query}");
     }
     Ok(())
@@ -161,7 +186,7 @@ fn a_bench_and_its_tables(rt: HostRuntime) -> Result<(), Fail> {
         Ok(made) => {
             assert!(rt; made.constant("value") == Some(&Value::Number(Number::from_i64(100))));
             assert!(rt; made.constant("other").is_none());
-            assert!(rt; made.has_fields());
+            assert_eq!(rt; made.request.as_str(), "{ value }");
         }
         Err(text) => panic!(rt; "{text}"),
     }

@@ -1,16 +1,11 @@
-use Rattle.std.proofs.Common.{codes, ◌++◌, ap, ◌∙◌, map}
-use Rattle.gql_base.specs.Separated.{separated}
-use Rattle.gql_cli.specs.Answer.{shown}
-use Rattle.gql_cli.proofs.AnswerLemmas.{response-parts}
+use Rattle.std.proofs.Common.{sym, subst}
+use Rattle.gql_cli.specs.BenchAnswers.{bench_answers}
+use Rattle.gql_cli.specs.Query.{Selects}
+use Rattle.gql_cli.proofs.AnswerLemmas.{response-over}
 use Rattle.gql_cli.proofs.answer.response_of.Goals as goal
 
-pub returns-in_ok-push_str : goal.returns-in_ok-push_str
-returns-in_ok-push_str c =
-    let pushed = rw c.if-branch.true at c.in_ok-push_fields.ensures in (
-      pushed.0,
-      pushed.1,
-      c.from_string.ensures ∙ c.in_ok-push_str.ensures.bytes
-          ∙ ap (λ text. text ++ codes "}}\n")
-          (pushed.2 ∙ ap (λ text. text ++ separated (codes ",") (map shown pushed.0)) c.in_ok-out.ensures.ok)
-          ∙ response-parts pushed.0,
-    )
+pub returns-in-Some : goal.returns-in-Some
+returns-in-Some c =
+    let selects = rw c.in-Some.is at c.in_ok-names.ensures in
+    response-over (bench_answers c.args.bench.now) c.args.document.now c.as_slice.result.now
+    (subst (Selects c.args.document.now) (sym c.as_slice.ensures) selects) c.names_response.result c.names_response.ensures
