@@ -2,6 +2,7 @@
 -- text that is no document.
 use Rattle.std.specs.Prelude.{◌≡◌, ℕ, List, [], ◌∷◌, ◌++◌, Option, Some, None, codes}
 use Rattle.std.specs.List.{AllZip}
+use Rattle.std.specs.Str.{chars}
 use Rattle.serde_json.specs.Data.{Data}
 use Rattle.gql_base.specs.ErrorJson.{list_json, error_json}
 use Rattle.gql_base.specs.Json.{quoted, json}
@@ -10,7 +11,7 @@ use Rattle.gql_base.specs.declared.server_error.ServerError.{ServerError}
 use Rattle.gql_base.specs.declared.value.Value.{Value}
 use Rattle.gql_base.specs.declared.value.Value.TheVariants as value
 use Rattle.gql_doc.specs.Faults.{message_of}
-use Rattle.gql_cli.specs.Text.{Spells, IsFault}
+use Rattle.gql_doc.specs.Spelled.{SpellsDocument, IsDocumentFault}
 use Rattle.gql_doc.specs.declared.document.ExecutableDocument.{ExecutableDocument}
 use Rattle.gql_doc.specs.declared.fault.ParseFault.{ParseFault}
 use Rattle.gql_cli.specs.FirstBench.{IsFirstBench, constants}
@@ -50,11 +51,11 @@ pub record IsResponse (answers : List ℕ → Option Value) (document : Executab
 
 -- the text that a query gives over what is answered under names
 abbrev pub IsAnswerOf : (List ℕ → Option Value) → List ℕ → List ℕ → Type 0
-IsAnswerOf answers query text = (document : ExecutableDocument) × Spells query document × IsResponse answers document text
+IsAnswerOf answers query text = (document : ExecutableDocument) × SpellsDocument (chars query) document × IsResponse answers document text
 
 -- the text that a query gives which is no document
 abbrev pub IsRefusalOf : List ℕ → List ℕ → Type 0
-IsRefusalOf query text = (fault : ParseFault) × IsFault query fault × (text ≡ refusal_line (error_of fault ∷ []))
+IsRefusalOf query text = (fault : ParseFault) × IsDocumentFault (chars query) fault × (text ≡ refusal_line (error_of fault ∷ []))
 
 abbrev pub answers_of : FirstBench → List ℕ → Option Value
 answers_of first name = under name (constants first.fields)

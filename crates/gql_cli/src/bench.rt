@@ -7,9 +7,9 @@ ghost use Rattle.gql_cli.specs.FirstBench.{IsNoFirstBench};
 
 use crate::answer::{refusal_of, response_of};
 use crate::first_bench::read_first_bench;
-use crate::parse::parse_query;
 use crate::tables::{Bench, bench_of_first};
 use gql_base::{Made, Text};
+use gql_doc::parse_query;
 use serde_json::Value;
 use std::alloc::{AllocError, Global};
 

@@ -7,7 +7,6 @@ mod first_bench;
 mod json_shape;
 mod memory;
 mod outcome;
-mod parse;
 mod program;
 mod query;
 mod reading;

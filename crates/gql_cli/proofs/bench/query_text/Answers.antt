@@ -1,23 +1,24 @@
 use Rattle.std.proofs.Common.{◌≡◌, sym, ◌∙◌, subst}
+use Rattle.std.specs.Str.{chars}
 use Rattle.gql_cli.specs.Answer.{IsResponse}
 use Rattle.gql_cli.specs.BenchAnswers.{bench_answers}
-use Rattle.gql_cli.specs.Text.{Spells, IsFault}
+use Rattle.gql_doc.specs.Spelled.{SpellsDocument, IsDocumentFault}
 use Rattle.gql_cli.proofs.bench.query_text.Goals as goal
 
 pub returns-in-Some : goal.returns-in-Some
 returns-in-Some c =
-    let spelled = rw c.in-Ok.is at c.in_ok-document.ensures.settled in
+    let spelled = rw c.in-Ok.is at c.in_ok-document.ensures.given in
     let response = rw c.in-Some.is at c.in_ok-text-in-Ok.ensures in
-    (c.in-Ok.document, subst (λ query. Spells query c.in-Ok.document) c.as_str.ensures spelled, response)
+    (c.in-Ok.document, subst (λ query. SpellsDocument (chars query) c.in-Ok.document) c.as_str.ensures spelled, response)
 
 pub returns-in-Ok : goal.returns-in-Ok
 returns-in-Ok c =
     let never = rw c.in-None.is at c.in_ok-text-in-Ok.ensures in (
       λ text (document, spells, response).
-          let read = sym c.in-Ok.is ∙ c.in_ok-document.ensures.spelled document (subst (λ query. Spells query document) (sym c.as_str.ensures) spells) in
+          let read = sym c.in-Ok.is ∙ c.in_ok-document.ensures.spelled document (subst (λ query. SpellsDocument (chars query) document) (sym c.as_str.ensures) spells) in
           let same : document ≡ c.in-Ok.document = cc in
           never text (subst (λ read. IsResponse (bench_answers c.args.bench.now) read text) same response),
       λ text (fault, is, line).
-          let read = sym c.in-Ok.is ∙ c.in_ok-document.ensures.faulty fault (subst (λ query. IsFault query fault) (sym c.as_str.ensures) is) in
+          let read = sym c.in-Ok.is ∙ c.in_ok-document.ensures.faulty fault (subst (λ query. IsDocumentFault (chars query) fault) (sym c.as_str.ensures) is) in
           cc,
     )
