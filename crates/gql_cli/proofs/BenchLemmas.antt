@@ -11,24 +11,27 @@ use Rattle.gql_tokens.proofs.LexerLaws.{lexes_unique}
 use Rattle.gql_cli.specs.Answer.{Chooses, HasChosen, IsAnswer, response_line}
 use Rattle.gql_cli.specs.BenchAnswers.{bench_answers, IsBenchOf}
 use Rattle.gql_cli.specs.declared.tables.Bench.{Bench}
-use Rattle.gql_cli.specs.FirstBench.{IsField, IsShaped, schema_json, constants}
+use Rattle.gql_cli.specs.FirstBench.{IsField, IsConstantAnswer, IsTurns, IsShaped, constants}
 use Rattle.gql_cli.specs.Query.{lexemes_of, Selects}
+use Rattle.gql_cli.specs.Tables.{IsTableOf}
 use Rattle.gql_cli.specs.declared.first_bench.FirstBench.{FirstBench}
 use Rattle.gql_cli.specs.declared.first_bench.FirstField.{FirstField}
-use Rattle.gql_cli.proofs.FirstBenchLemmas.{first-text, second-same, root-same, schema-same}
+use Rattle.gql_cli.proofs.FirstBenchLemmas.{parts-same, text-same, root-same, schema-same, turns-same, answer-same}
 use Rattle.gql_cli.proofs.QueryLemmas.{selected-same}
+use Rattle.gql_cli.proofs.TablesLemmas.{table-answers}
 
 some-same : {A : Type 0} {x y : A} → Some x ≡ Some y → x ≡ y
 some-same same = cc
 
 pub field-same : (json : Data) (f g : FirstField) → IsField json f → IsField json g → f ≡ g
-field-same json f g (c, shape, value, takes, named) (d, other, value', takes', named') =
+field-same json f g (a, c, shape, answer, value, takes, named) (b, d, other, answer', value', takes', named') =
     let both = sym shape ∙ other in
     let names : f.name ≡ g.name = cc in
     let types : f.type_name ≡ g.type_name = cc in
-    let inner : c ≡ d = cc in
-    let values : f.constant ≡ g.constant = some-same (sym value ∙ ap value_of inner ∙ value') in
-    λ i. record { name = names i; type_name = types i; constant = values i }
+    let answers : b ≡ a = cc in
+    let inner = answer-same a c d f.delay g.delay answer (subst (λ json. IsConstantAnswer json d g.delay) answers answer') in
+    let values : f.constant ≡ g.constant = some-same (sym value ∙ ap value_of inner.0 ∙ value') in
+    λ i. record { name = names i; type_name = types i; constant = values i; delay = inner.1 i }
 
 pub fields-same : (ds : List Data) (fs gs : List FirstField) → AllZip IsField ds fs → AllZip IsField ds gs → fs ≡ gs
 fields-same [] [] [] h k = refl
@@ -39,14 +42,14 @@ fields-same (d ∷ ds) (f ∷ fs) [] h k = absurd k
 fields-same (d ∷ ds) (f ∷ fs) (g ∷ gs) (here, h) (there, k) = λ i. field-same d f g here there i ∷ fields-same ds fs gs h k i
 
 pub shaped-same : (json : Data) (a b : FirstBench) → IsShaped json a → IsShaped json b → a ≡ b
-shaped-same json a b (ds, shape, fits, named) (es, other, fits', named') =
-    let both = sym shape ∙ other in
-    let queries : a.query ≡ b.query = first-text (codes "request") (codes "schema") (codes "query") a.query b.query (schema_json a.root ds) (schema_json b.root es) both in
-    let schemas = second-same (codes "request") (codes "schema") _ _ _ _ both in
-    let roots : a.root ≡ b.root = root-same a.root b.root ds es schemas in
-    let lists = schema-same a.root b.root ds es schemas in
+shaped-same json a b (ds, t, shape, fits, turned, named) (es, u, other, fits', turned', named') =
+    let parts = parts-same (codes "request") (codes "schema") (codes "turns") _ _ _ _ t u (sym shape ∙ other) in
+    let queries : a.query ≡ b.query = text-same (codes "query") a.query b.query parts.0 in
+    let roots : a.root ≡ b.root = root-same a.root b.root ds es parts.1 in
+    let lists = schema-same a.root b.root ds es parts.1 in
     let fields = fields-same ds a.fields b.fields fits (subst (λ fs. AllZip IsField fs b.fields) (sym lists) fits') in
-    λ i. record { root = roots i; fields = fields i; query = queries i }
+    let turns : a.turns ≡ b.turns = turns-same t a.turns b.turns turned (subst (λ json. IsTurns json b.turns) (sym parts.2) turned') in
+    λ i. record { root = roots i; fields = fields i; query = queries i; turns = turns i }
 
 pub selects-same : (text : List ℕ) (ms ns : List (List ℕ)) → Selects text ms → Selects text ns → ms ≡ ns
 selects-same text ms ns ((ts, lexes, same), fine) ((us, lexes', same'), fine') =
@@ -78,19 +81,18 @@ bench-answer json bench text chosen made chooses is = (
   (
     bench.request,
     made.selects,
-    (chosen, chooses-same (bench_answers bench) (λ name. under name (constants made.first.fields)) bench.request chosen made.answers chooses, is),
+    (chosen, chooses-same (bench_answers bench) (λ name. under name (constants made.first.fields)) bench.request chosen (table-answers made.first bench made.tabled) chooses, is),
   ),
 )
 
 -- where the tables have no answer for some name of the query, there is none
 pub no-fields : (json : Data) (text : List ℕ) (first : FirstBench) (bench : Bench) → IsShaped json first → Selects first.query bench.request
-    → ((name : List ℕ) → bench_answers bench name ≡ under name (constants first.fields))
-    → ((chosen : List (List ℕ × Value)) → Chooses (bench_answers bench) bench.request chosen → ⊥) → IsAnswer json text → ⊥
-no-fields json text first bench shaped selects answers never answer =
+    → IsTableOf first bench → ((chosen : List (List ℕ × Value)) → Chooses (bench_answers bench) bench.request chosen → ⊥) → IsAnswer json text → ⊥
+no-fields json text first bench shaped selects made never answer =
     let parts = answer-parts json text first shaped answer in
     let names = parts.1 in
     let known = names.2 in
     let same = selects-same first.query names.0 bench.request names.1 selects in
     never known.chosen
-    (chooses-same (λ name. under name (constants first.fields)) (bench_answers bench) bench.request known.chosen (λ name. sym (answers name))
+    (chooses-same (λ name. under name (constants first.fields)) (bench_answers bench) bench.request known.chosen (λ name. sym (table-answers first bench made name))
     (subst (λ ns. Chooses (λ name. under name (constants first.fields)) ns known.chosen) same known.chooses))

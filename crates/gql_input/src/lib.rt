@@ -4,6 +4,8 @@
 mod access_fault;
 mod list_accessor;
 mod object_accessor;
+#[cfg(test)]
+mod tests;
 mod value_accessor;
 
 pub use access_fault::AccessFault;
