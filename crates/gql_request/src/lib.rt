@@ -7,6 +7,8 @@ mod header_op;
 mod hooks;
 mod query_env;
 mod query_path_node;
+#[cfg(test)]
+mod tests;
 
 pub use data::{Data, DataKey, NoData};
 pub use data_context::DataContext;

@@ -13,6 +13,11 @@ pub enum IntrospectionMode {
 }
 
 impl Default for IntrospectionMode {
+    ghost use Rattle.std.specs.Prelude.{◌≡◌};
+    ghost use Rattle.gql_request.specs.declared.query_env.IntrospectionMode.TheVariants.{Enabled};
+
+    ghost is_default = { λ mode. mode ≡ Enabled };
+
     fn default() -> IntrospectionMode {
         IntrospectionMode::Enabled
     }

@@ -2,12 +2,17 @@
 #![tactic(auto)]
 
 mod answer;
+mod copied;
 mod field_future;
 mod field_value;
 mod layers;
 mod record_entry;
 mod resolver_context;
 mod resolver_set;
+#[cfg(test)]
+mod sample;
+#[cfg(test)]
+mod tests;
 mod turns;
 
 pub use answer::{Answer, Polled};
