@@ -23,11 +23,12 @@ mod tests;
 mod writing;
 
 pub use bench::{Command, Written, bench_of};
+pub use first_bench::LONGEST_DELAY;
 pub use memory::{MemorySink, MemorySource};
 pub use outcome::Outcome;
 pub use program::{run, run_alone};
 pub use reading::INPUT_LIMIT;
-pub use rule::Rule;
+pub use rule::{Rule, RuleKind};
 pub use sink::{Sink, SinkFault};
 pub use source::{Failed, Source};
 pub use status::Status;

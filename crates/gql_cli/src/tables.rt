@@ -1,23 +1,25 @@
 //! The tables of a bench: its types, and the rules of its resolvers.
-ghost use Rattle.std.specs.Prelude.{◌≡◌, ℕ, List, IfOk, MatchOption, option_map};
-ghost use Rattle.gql_base.specs.Pairs.{under, HasDistinctNames};
+ghost use Rattle.std.specs.Prelude.{◌≡◌, IfOk, MatchOption, option_map};
+ghost use Rattle.gql_base.specs.Pairs.{HasDistinctNames};
 ghost use Rattle.gql_schema.specs.Object.{object_name};
 ghost use Rattle.gql_cli.specs.FirstBench.{constants};
-ghost use Rattle.gql_cli.specs.Tables.{root_constant, IsTabled};
+ghost use Rattle.gql_cli.specs.Tables.{root_constant, IsTabled, IsTableOf};
 
 use crate::first_bench::{FirstBench, FirstField};
-use crate::rule::Rule;
+use crate::rule::{Rule, RuleKind};
 use gql_base::{Items, Made, Name, Text, TypeRef, Value};
 use gql_schema::{Field, Object, SchemaType, Types};
 use std::alloc::{AllocError, Global};
 
-/// A bench: the types of its schema, the name of the query root, the rules of its resolvers by their numbers, and the
-/// query of its request.
+/// A bench: the types of its schema, the name of the query root, the rules of its resolvers by their numbers, the cells of
+/// its world, its turns, and the query of its request.
 #[derive(Debug, Drop)]
 pub struct Bench {
     pub types: Types,
     pub query: Name,
     pub rules: Items<Rule>,
+    pub cells: Items<i64>,
+    pub turns: Items<u64>,
     pub request: Text,
 }
 
@@ -31,7 +33,8 @@ impl Bench {
         let SchemaType::Object(object) = self.types.get(self.query.as_str())?;
         let field = object.get(name)?;
         let number = field.resolver();
-        let Rule::Const(value) = self.rules.get(number as usize)?;
+        let rule = self.rules.get(number as usize)?;
+        let RuleKind::Const(value) = &rule.kind;
         Some(value)
     }
 }
@@ -39,23 +42,25 @@ impl Bench {
 /// The bench of a first bench, unless two of its fields have one name.
 pub(crate) fn bench_of_first(alloc: Global, first: FirstBench) -> Made<Option<Bench>>
     ensures { IfOk result (λ made. MatchOption made (HasDistinctNames (constants first.fields) → ⊥)
-        (λ bench. HasDistinctNames (constants first.fields) × (bench.request ≡ first.query)
-        × ((name : List ℕ) → root_constant bench.types bench.query bench.rules name ≡ under name (constants first.fields)))) }
+        (λ bench. HasDistinctNames (constants first.fields) × (bench.request ≡ first.query) × IsTableOf first bench)) }
 {
     let FirstBench {
         root,
         fields,
         query,
+        turns,
     } = first;
     match tables_of(alloc, root.as_str(), fields)? {
         None => Ok(None),
-        Some(Tables { object, rules }) => {
+        Some(Builder { object, rules }) => {
             let mut types = Types::new(alloc);
             types.register(alloc, SchemaType::Object(object))?;
             Ok(Some(Bench {
                 types,
                 query: root,
                 rules,
+                cells: Items::new(alloc),
+                turns,
                 request: query,
             }))
         }
@@ -64,23 +69,24 @@ pub(crate) fn bench_of_first(alloc: Global, first: FirstBench) -> Made<Option<Be
 
 /// An object type under construction, and the rules of its fields' resolvers.
 #[derive(Drop)]
-struct Tables {
+struct Builder {
     object: Object,
     rules: Items<Rule>,
 }
 
-impl Tables {
+impl Builder {
     ghost use Rattle.gql_cli.specs.Tables.{AddsField};
 
-    /// Adds a field with the rule of a constant, unless a field of that name is there.
-    fn add(self, alloc: Global, field: FirstField) -> Made<Option<Tables>>
+    /// Adds a field with its rule, unless a field of that name is there.
+    fn add(self, alloc: Global, field: FirstField) -> Made<Option<Builder>>
         ensures { IfOk result (λ made. AddsField self.object self.rules field (option_map (λ t. (t.object, t.rules)) made)) }
     {
-        let Tables { object, mut rules } = self;
+        let Builder { object, mut rules } = self;
         let FirstField {
             name,
             type_name,
             constant,
+            delay,
         } = field;
         if object.has_field(name.as_str()) {
             return Ok(None);
@@ -89,18 +95,21 @@ impl Tables {
         let ty = TypeRef::named(alloc, type_name.as_str())?;
         let field = Field::new(alloc, name.as_str(), ty, number)?;
         let object = object.field(alloc, field)?;
-        rules.push(Rule::Const(constant))?;
-        Ok(Some(Tables { object, rules }))
+        rules.push(Rule {
+            delay,
+            kind: RuleKind::Const(constant),
+        })?;
+        Ok(Some(Builder { object, rules }))
     }
 }
 
 /// An object type with these fields, and the rules of their resolvers, unless two of the fields have one name.
-fn tables_of(alloc: Global, root: &str, fields: Items<FirstField>) -> Made<Option<Tables>>
+fn tables_of(alloc: Global, root: &str, fields: Items<FirstField>) -> Made<Option<Builder>>
     ensures { IfOk result (λ made. MatchOption made (HasDistinctNames (constants fields) → ⊥)
-        (λ t. HasDistinctNames (constants fields) × (object_name t.object ≡ root.now) × IsTabled t.object t.rules (constants fields))) }
+        (λ t. HasDistinctNames (constants fields) × (object_name t.object ≡ root.now) × IsTabled t.object t.rules fields)) }
 {
     let object = Object::new(alloc, root)?;
-    let mut tables = Tables {
+    let mut tables = Builder {
         object,
         rules: Items::new(alloc),
     };

@@ -139,6 +139,59 @@ fn first_benches(rt: HostRuntime) -> Result<(), Fail> {
     Ok(())
 }
 
+/// The bench of one field of the type Int with this answer, and these members more.
+fn bench_of_one(alloc: Global, answer: &str, more: &str) -> Made<String> {
+    format!(in alloc;
+        "{{\"schema\":{{\"query\":\"Query\",\"types\":[{{\"kind\":\"object\",\"name\":\"Query\",\"fields\":[\
+{{\"name\":\"value\",\"type\":\"Int\",\"answer\":{answer}}}]}}]}},\"request\":{{\"query\":\"{{ value }}\"}}{more}}}"
+    )
+}
+
+#[test]
+fn delays_and_turns(rt: HostRuntime) -> Result<(), Fail> {
+    let alloc = rt.alloc();
+    for (answer, more, status) in [
+        ("{\"const\":1,\"delay\":0}", "", 0),
+        (
+            "{\"delay\":1000000,\"const\":1}",
+            ",\"turns\":[1,0,18446744073709551615]",
+            0,
+        ),
+        ("{\"const\":1}", ",\"turns\":[]", 0),
+        ("{\"const\":1,\"delay\":1000001}", "", 3),
+        ("{\"const\":1,\"delay\":-1}", "", 3),
+        ("{\"const\":1,\"delay\":null}", "", 3),
+        ("{\"const\":1}", ",\"turns\":[-1]", 3),
+        ("{\"const\":1}", ",\"turns\":[18446744073709551616]", 3),
+        ("{\"const\":1}", ",\"turns\":1", 3),
+        ("{\"const\":1}", ",\"later\":[]", 3),
+    ] {
+        let input = bench_of_one(alloc, answer, more)?;
+        let mut source = SureSource::new(Items::from_slice(alloc, input.as_bytes())?, 100);
+        let mut sink = SureSink::new(alloc, 100);
+        let words = execute(alloc)?;
+        let answered = run_alone(alloc, words.as_slice(), &mut source, &mut sink);
+        assert_eq!(rt; answered, status, "at {answer}{more}");
+    }
+    Ok(())
+}
+
+#[test]
+fn a_bench_has_its_delays_and_turns(rt: HostRuntime) -> Result<(), Fail> {
+    let alloc = rt.alloc();
+    let text = bench_of_one(alloc, "{\"const\":1,\"delay\":3}", ",\"turns\":[7,0]")?;
+    let json = Json::from_str(alloc, text.as_str())?;
+    match bench_of(alloc, Command::Execute, &json)? {
+        Ok(made) => {
+            assert_eq!(rt; made.turns.as_slice(), [7, 0].as_slice());
+            assert_eq!(rt; made.rules.get(0).map(|rule| rule.delay), Some(3));
+            assert!(rt; made.cells.is_empty());
+        }
+        Err(text) => panic!(rt; "{text}"),
+    }
+    Ok(())
+}
+
 #[test]
 fn queries_that_are_no_documents(rt: HostRuntime) -> Result<(), Fail> {
     let alloc = rt.alloc();

@@ -1,0 +1,3 @@
+pub mod AccessFault
+pub mod Accessor
+pub mod Kinds

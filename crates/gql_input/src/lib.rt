@@ -1,0 +1,14 @@
+//! Values as a resolver reads them: accessors, each over one value, one object or one list.
+#![tactic(auto)]
+
+mod access_fault;
+mod list_accessor;
+mod object_accessor;
+#[cfg(test)]
+mod tests;
+mod value_accessor;
+
+pub use access_fault::AccessFault;
+pub use list_accessor::ListAccessor;
+pub use object_accessor::ObjectAccessor;
+pub use value_accessor::ValueAccessor;

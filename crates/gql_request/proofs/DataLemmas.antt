@@ -1,0 +1,103 @@
+-- Keys beside their values: what look-up and `put_key` come to where the pairs are made of two lists.
+use Rattle.std.proofs.Common.{◌≡◌, ℕ, zero, suc, ◌+◌, ◌<◌, ◌≤◌, ◌==◌, Bool, true, false, cond, not, List, [], ◌∷◌, ◌++◌, length, Some, None, slice_get, slice_set, slice_index_or, refl, ap, sym, ◌∙◌, arith, ◌↔◌, nat_eq}
+use Rattle.std.proofs.lemmas.Option.{slice_get_past, slice_get_read}
+use Rattle.std.specs.List.{zip, position, position_or_len, list_any}
+use Rattle.indexmap.specs.IndexSet.{insert_key}
+use Rattle.gql_base.proofs.PairLemmas.{position-is, position-none}
+use Rattle.gql_request.specs.Data.{under_key, put_key}
+
+one-more : (n : ℕ) → 1 + n ≡ suc n
+one-more n = omega arith
+
+-- the first place of a key, or the length
+abbrev first_place : ℕ → List ℕ → ℕ
+first_place sought ks = position_or_len (λ k. sought == k) ks
+
+-- there are no pairs exactly where there are no values
+none-zipped : {T : Type 0} (ks : List ℕ) (vs : List T) → length vs ≡ length ks → (length vs ≡ 0) ↔ (zip ks vs ≡ [])
+none-zipped [] [] e = (λ h. refl, λ h. refl)
+none-zipped [] (v ∷ vs) e = absurd (omega arith)
+none-zipped (k ∷ ks) [] e = absurd (omega arith)
+none-zipped (k ∷ ks) (v ∷ vs) e = (λ h. absurd (omega arith), λ h. cc)
+
+pub none-among : {T : Type 0} (ks : List ℕ) (vs : List T) (ps : List (ℕ × T)) (n : ℕ) → length vs ≡ length ks → zip ks vs ≡ ps → n ≡ length vs
+    → (n ≡ 0) ↔ (ps ≡ [])
+none-among ks vs ps n same made long =
+    let each = none-zipped ks vs same in
+    (λ h. sym made ∙ each.0 (sym long ∙ h), λ h. long ∙ each.1 (made ∙ h))
+
+module _ {T : Type 0} (sought : ℕ) where
+  zipped-push : (ks : List ℕ) (vs : List T) (k : ℕ) (v : T) → length vs ≡ length ks → zip (ks ++ k ∷ []) (vs ++ v ∷ []) ≡ zip ks vs ++ (k, v) ∷ []
+  zipped-push [] [] k v e = refl
+  zipped-push [] (y ∷ vs) k v e = absurd (omega arith)
+  zipped-push (x ∷ ks) [] k v e = absurd (omega arith)
+  zipped-push (x ∷ ks) (y ∷ vs) k v e = ap (λ ps. (x, y) ∷ ps) (zipped-push ks vs k v (omega arith))
+
+  -- the value under a key stands at the first place of that key, if any
+  under-zipped : (ks : List ℕ) (vs : List T) → length vs ≡ length ks → under_key sought (zip ks vs) ≡ slice_get vs (first_place sought ks)
+  under-zipped [] [] e = refl
+  under-zipped [] (v ∷ vs) e = absurd (omega arith)
+  under-zipped (k ∷ ks) [] e = absurd (omega arith)
+  under-zipped (k ∷ ks) (v ∷ vs) e =
+      let P : Bool → Type 0 = λ b. cond b (Some v) (under_key sought (zip ks vs)) ≡ slice_get (v ∷ vs) (cond (not b) (1 + first_place sought ks) 0) in
+      let step : under_key sought (zip ks vs) ≡ slice_get vs (first_place sought ks) = under-zipped ks vs (omega arith) in
+      elim (sought == k) as P [ true ↦ refl | false ↦ rw (one-more (first_place sought ks)) step ]
+
+  put-zipped : (ks : List ℕ) (vs : List T) (v : T) → length vs ≡ length ks → first_place sought ks < length ks
+      → put_key (zip ks vs) sought v ≡ zip ks (slice_set vs (first_place sought ks) v)
+  put-zipped [] vs v e within = absurd (omega arith)
+  put-zipped (k ∷ ks) [] v e within = absurd (omega arith)
+  put-zipped (k ∷ ks) (y ∷ vs) v e within =
+      let P : Bool → Type 0 = λ b. cond (not b) (1 + first_place sought ks) 0 < suc (length ks)
+      → cond b ((k, v) ∷ zip ks vs) ((k, y) ∷ put_key (zip ks vs) sought v)
+      ≡ zip (k ∷ ks) (slice_set (y ∷ vs) (cond (not b) (1 + first_place sought ks) 0) v) in
+      (elim (sought == k) as P [
+        | true ↦ λ h. refl
+        | false ↦ λ h. rw (one-more (first_place sought ks)) (ap (λ ps. (k, y) ∷ ps) (put-zipped ks vs v (omega arith) (omega arith)))
+      ]) within
+
+  put-absent : (ks : List ℕ) (vs : List T) (v : T) → length vs ≡ length ks → length ks ≤ first_place sought ks
+      → put_key (zip ks vs) sought v ≡ zip ks vs ++ (sought, v) ∷ []
+  put-absent [] [] v e past = refl
+  put-absent [] (y ∷ vs) v e past = absurd (omega arith)
+  put-absent (k ∷ ks) [] v e past = absurd (omega arith)
+  put-absent (k ∷ ks) (y ∷ vs) v e past =
+      let P : Bool → Type 0 = λ b. suc (length ks) ≤ cond (not b) (1 + first_place sought ks) 0
+      → cond b ((k, v) ∷ zip ks vs) ((k, y) ∷ put_key (zip ks vs) sought v) ≡ (k, y) ∷ (zip ks vs ++ (sought, v) ∷ []) in
+      (elim (sought == k) as P [
+        | true ↦ λ h. absurd (omega arith)
+        | false ↦ λ h. ap (λ ps. (k, y) ∷ ps) (put-absent ks vs v (omega arith) (omega arith))
+      ]) past
+
+  -- by what a set of keys answers of a key's place
+  module _ (ks : List ℕ) (vs : List T) (ps : List (ℕ × T)) where
+    pub under-found : (i : ℕ) (v : T) → Some i ≡ position (λ k. sought == k) ks → length vs ≡ length ks → v ≡ slice_index_or vs i v
+        → zip ks vs ≡ ps → Some v ≡ under_key sought ps
+    under-found i v found same read made =
+        let at = position-is (λ k. sought == k) ks i found in
+        sym (ap (under_key sought) (sym made) ∙ under-zipped ks vs same ∙ ap (slice_get vs) at.0
+        ∙ slice_get_read vs (length ks) i v (sym same) at.1 read)
+
+    pub under-missing : None ≡ position (λ k. sought == k) ks → length vs ≡ length ks → zip ks vs ≡ ps → None ≡ under_key sought ps
+    under-missing missing same made =
+        sym (ap (under_key sought) (sym made) ∙ under-zipped ks vs same
+        ∙ slice_get_past vs _ (rw same (position-none (λ k. sought == k) ks missing)))
+
+    pub put-found : (i : ℕ) (v : T) → Some i ≡ position (λ k. sought == k) ks → length vs ≡ length ks → zip ks vs ≡ ps
+        → zip ks (slice_set vs i v) ≡ put_key ps sought v
+    put-found i v found same made =
+        let at = position-is (λ k. sought == k) ks i found in
+        ap (λ j. zip ks (slice_set vs j v)) (sym at.0)
+        ∙ sym (put-zipped ks vs v same (rw at.0 at.1)) ∙ ap (λ qs. put_key qs sought v) made
+
+    pub put-missing : (v : T) → None ≡ position (λ k. sought == k) ks → length vs ≡ length ks → zip ks vs ≡ ps
+        → zip (ks ++ sought ∷ []) (vs ++ v ∷ []) ≡ put_key ps sought v
+    put-missing v missing same made =
+        zipped-push ks vs sought v same
+        ∙ sym (put-absent ks vs v same (position-none (λ k. sought == k) ks missing)) ∙ ap (λ qs. put_key qs sought v) made
+
+-- a key that isn't there goes to the end of a set's keys
+pub insert_key-absent : (ks : List ℕ) (k : ℕ) → false ≡ list_any (λ q. k == q) ks → insert_key nat_eq ks k ≡ ks ++ k ∷ []
+insert_key-absent ks k absent =
+    let other : list_any (nat_eq k) ks ≡ false = sym absent in
+    rw other refl

@@ -1,0 +1,116 @@
+ghost use Rattle.std.specs.Prelude.{◌≡◌, ◌<◌, ◌++◌, IsSome, Some, IfOk, OnOk, length, map, codes, string_bytes};
+ghost use Rattle.gql_base.specs.PathSegment.{segment_text};
+ghost use Rattle.gql_base.specs.Separated.{separated, before};
+ghost use Rattle.gql_request.specs.Path.{last_field, proper_prefixes};
+
+use gql_base::{Items, Made, PathSegment, Text};
+use std::alloc::Global;
+
+/// A place of a response by its path, which has at least one segment (GraphQL, October 2021, section 7.1.2).
+#[derive(Clone, Copy, Debug)]
+pub struct QueryPathNode<'a> {
+    pub segments: &'a [PathSegment],
+    pub ghost not_empty: { 0 < length segments.now },
+}
+
+impl<'a> QueryPathNode<'a> {
+    /// The key of the innermost field on the path.
+    pub fn field_name(&self) -> &'a str
+        requires { IsSome (last_field self.now.segments.now) }
+        ensures { last_field self.now.segments.now ≡ Some result.now }
+    {
+        let mut last = None;
+        for segment in self.segments {
+            if let PathSegment::Field(name) = segment {
+                last = Some(name.as_str());
+            }
+        }
+        last.unwrap()
+    }
+
+    /// The places that this one lies in: the proper prefixes of its path, longest first.
+    pub fn parents(&self) -> Parents<'a>
+        ensures { result.current.segments.now ≡ self.now.segments.now }
+    {
+        Parents { current: *self }
+    }
+
+    /// The texts of the segments, in their order.
+    pub fn to_string_vec(&self, alloc: Global) -> Made<Items<Text>>
+        ensures { IfOk result (λ texts. texts ≡ map segment_text self.now.segments.now) }
+    {
+        let mut texts = Items::new(alloc);
+        for segment in self.segments {
+            texts.push(text_of(alloc, segment)?)?;
+        }
+        Ok(texts)
+    }
+
+    /// The texts of the segments, joined by dots.
+    #[tactic(auto, using(gql_base::proofs::SeparatedLemmas::separated_more))]
+    pub fn text(&self, alloc: Global) -> Made<Text>
+        ensures { IfOk result (λ text. text ≡ separated (codes ".") (map segment_text self.now.segments.now)) }
+    {
+        let mut out = String::new(alloc);
+        for (place, segment) in self.segments.iter().enumerate() {
+            push_dot(&mut out, place)?;
+            write!(out, "{segment}")?;
+        }
+        Ok(Text::from_string(out))
+    }
+}
+
+fn text_of(alloc: Global, segment: &PathSegment) -> Made<Text>
+    ensures { IfOk result (λ text. text ≡ segment_text segment.now) }
+{
+    let mut out = String::new(alloc);
+    write!(out, "{segment}")?;
+    Ok(Text::from_string(out))
+}
+
+/// Appends a dot, but before the segment at place 0 nothing.
+fn push_dot(out: &mut String, place: usize) -> Made<()>
+    ensures { OnOk result (string_bytes out.new ≡ string_bytes out.old ++ before (codes ".") place) }
+{
+    if place == 0 { Ok(()) } else { out.push('.') }
+}
+
+/// The places that a place lies in, longest path first.
+#[derive(Clone, Copy, Debug)]
+pub struct Parents<'a> {
+    current: QueryPathNode<'a>,
+}
+
+impl<'a> Parents<'a> {
+    /// The place whose parent comes next.
+    pub fn current(&self) -> QueryPathNode<'a>
+        ensures { result.segments.now ≡ self.now.current.segments.now }
+    {
+        self.current
+    }
+}
+
+impl<'a> Iterator for Parents<'a> {
+    type Item = QueryPathNode<'a>;
+
+    ghost use Rattle.std.specs.Prelude.{option_map};
+    ghost use Rattle.std.specs.Iterator.{YieldsFirst, item_count};
+    ghost use Rattle.gql_request.specs.Path.{proper_prefixes, YieldsPrefix};
+
+    ghost next_gives = { λ before parent after.
+        YieldsPrefix (proper_prefixes before.current.segments.now) (option_map (λ node. node.segments.now) parent) (proper_prefixes after.current.segments.now) };
+
+    ghost remaining = { item_count (λ parents. proper_prefixes parents.current.segments.now) };
+
+    #[tactic(auto, using(crate::proofs::PathLemmas::proper_prefixes_step, crate::proofs::PathLemmas::proper_prefixes_none))]
+    fn next(&mut self) -> Option<QueryPathNode<'a>> {
+        let length = self.current.segments.len();
+        if length < 2 {
+            return None;
+        }
+        self.current = QueryPathNode {
+            segments: &self.current.segments[..length - 1],
+        };
+        Some(self.current)
+    }
+}

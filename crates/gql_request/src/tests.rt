@@ -1,0 +1,83 @@
+//! Each public call with ample memory. What a test looks at is made by small functions beside it, since a test is proved too.
+use crate::{Data, DataKey, HeaderOp, Hooks, IntrospectionMode, QueryPathNode};
+use gql_base::{Copied, Made, Number, PathSegment, Text, Value};
+use http_header::{HeaderName, HeaderValue};
+use std::alloc::Global;
+use std::test::Fail;
+
+fn number(number: u64) -> Value {
+    Value::Number(Number::from_u64(number))
+}
+
+/// The number under a key.
+fn number_under(data: &Data, key: u32) -> Option<u64> {
+    match data.get(DataKey(key)) {
+        Some(Value::Number(number)) => number.as_u64(),
+        _ => None,
+    }
+}
+
+#[test]
+fn data_keep_one_value_a_key(rt: HostRuntime) -> Result<(), Fail> {
+    let mut data = Data::new(rt.alloc());
+    assert!(rt; data.is_empty());
+    for (key, value) in [(7, 1), (4, 2), (7, 3)] {
+        data.insert(DataKey(key), number(value))?;
+    }
+    assert!(rt; !data.is_empty());
+    assert_eq!(rt; number_under(&data, 7), Some(3));
+    assert_eq!(rt; number_under(&data, 4), Some(2));
+    assert_eq!(rt; number_under(&data, 5), None);
+    Ok(())
+}
+
+/// The path `hero.friends.1.name`.
+fn path(alloc: Global) -> Made<[PathSegment; 4]> {
+    Ok([
+        PathSegment::Field(Text::new(alloc, "hero")?),
+        PathSegment::Field(Text::new(alloc, "friends")?),
+        PathSegment::Index(1),
+        PathSegment::Field(Text::new(alloc, "name")?),
+    ])
+}
+
+#[test]
+fn paths_and_their_parents(rt: HostRuntime) -> Result<(), Fail> {
+    let alloc = rt.alloc();
+    let segments = path(alloc)?;
+    let node = QueryPathNode {
+        segments: &segments,
+    };
+    assert_eq!(rt; node.field_name(), "name");
+    assert_eq!(rt; node.text(alloc)?.as_str(), "hero.friends.1.name");
+    let texts = node.to_string_vec(alloc)?;
+    assert_eq!(rt; texts.len(), 4);
+    assert_eq!(rt; texts.get(2).map(|text| text.as_str() == "1"), Some(true));
+    let mut parents = node.parents();
+    for text in ["hero.friends.1", "hero.friends", "hero"] {
+        let parent = parents.next().ok_or("too few parents")?;
+        assert_eq!(rt; parent.text(alloc)?.as_str(), text);
+        assert_eq!(rt; parents.current().text(alloc)?.as_str(), text);
+    }
+    assert!(rt; parents.next().is_none());
+    Ok(())
+}
+
+#[test]
+fn header_operations_and_hooks(rt: HostRuntime) -> Result<(), Fail> {
+    let alloc = rt.alloc();
+    let op = HeaderOp::Append(
+        HeaderName::from_static("x-a"),
+        HeaderValue::from_static("1"),
+    );
+    let is_same = match op.try_clone(alloc)? {
+        HeaderOp::Append(name, value) => {
+            name == HeaderName::from_static("x-a") && value == HeaderValue::from_static("1")
+        }
+        HeaderOp::Insert(_, _) => false,
+    };
+    assert!(rt; is_same);
+    let _hooks = Hooks::none(alloc);
+    assert!(rt; IntrospectionMode::default() == IntrospectionMode::Enabled);
+    Ok(())
+}

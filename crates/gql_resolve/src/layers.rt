@@ -1,0 +1,61 @@
+ghost use Rattle.std.specs.Prelude.{◌≡◌, IsSome, Some, None, MatchResult};
+ghost use Rattle.std.specs.Option.{option_copied, option_or};
+ghost use Rattle.gql_request.specs.Data.{under_key};
+
+use gql_base::Value;
+use gql_request::{Data, DataContext, DataKey, NoData};
+
+/// The data that a resolver sees, in layers. A key is searched in the order in which they stand here.
+#[derive(Clone, Copy)]
+pub struct Layers<'a> {
+    /// What hooks added for this execution, if any.
+    pub execute: Option<&'a Data>,
+    /// What the request brought.
+    pub query: &'a Data,
+    /// What the session brought.
+    pub session: &'a Data,
+    /// What the schema was built with.
+    pub schema: &'a Data,
+}
+
+impl<'a> DataContext<'a> for Layers<'a> {
+    ghost use Rattle.gql_resolve.specs.Layers.{layers_of, found};
+
+    ghost held = { λ layers key. found key (layers_of layers) };
+
+    fn data_opt(&self, key: DataKey) -> Option<&'a Value> {
+        let added = match self.execute {
+            Some(layer) => layer.get(key),
+            None => None,
+        };
+        found_or(
+            found_or(found_or(added, self.query, key), self.session, key),
+            self.schema,
+            key,
+        )
+    }
+
+    fn data(&self, key: DataKey) -> Result<&'a Value, NoData> {
+        match self.data_opt(key) {
+            Some(value) => Ok(value),
+            None => Err(NoData(key)),
+        }
+    }
+
+    fn data_unchecked(&self, key: DataKey) -> &'a Value {
+        match self.data_opt(key) {
+            Some(value) => value,
+            None => unreachable!(),
+        }
+    }
+}
+
+/// What was found in an earlier layer, else what this one has.
+fn found_or<'a>(earlier: Option<&'a Value>, layer: &'a Data, key: DataKey) -> Option<&'a Value>
+    ensures { option_copied result ≡ option_or (option_copied earlier.entry) (under_key key.0 layer.now) }
+{
+    match earlier {
+        Some(value) => Some(value),
+        None => layer.get(key),
+    }
+}

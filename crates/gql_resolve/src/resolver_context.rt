@@ -1,0 +1,47 @@
+ghost use Rattle.std.specs.Prelude.{◌≡◌, IsSome, Some, None, MatchResult};
+
+use crate::field_value::FieldValue;
+use crate::layers::Layers;
+use gql_base::Value;
+use gql_doc::Field;
+use gql_input::ObjectAccessor;
+use gql_request::{DataContext, DataKey, NoData, QueryEnv, QueryPathNode};
+
+/// What a resolver is called with.
+#[derive(Clone, Copy)]
+pub struct ResolverContext<'a, V> {
+    /// The number of the resolver.
+    pub resolver: u32,
+    /// The number of the task, in the order of making.
+    pub task: u64,
+    /// The arguments of the field.
+    pub args: ObjectAccessor<'a>,
+    /// What the resolver above gave, or the root value.
+    pub parent_value: &'a FieldValue<V>,
+    /// The path to the field.
+    pub path_node: QueryPathNode<'a>,
+    /// The field as it stands in the document.
+    pub item: &'a Field,
+    /// The environment of the query.
+    pub env: &'a QueryEnv,
+    /// The data of the layers.
+    pub layers: Layers<'a>,
+}
+
+impl<'a, V> DataContext<'a> for ResolverContext<'a, V> {
+    ghost use Rattle.gql_resolve.specs.Layers.{layers_of, found};
+
+    ghost held = { λ context key. found key (layers_of context.layers) };
+
+    fn data_opt(&self, key: DataKey) -> Option<&'a Value> {
+        self.layers.data_opt(key)
+    }
+
+    fn data(&self, key: DataKey) -> Result<&'a Value, NoData> {
+        self.layers.data(key)
+    }
+
+    fn data_unchecked(&self, key: DataKey) -> &'a Value {
+        self.layers.data_unchecked(key)
+    }
+}
