@@ -1,7 +1,7 @@
 ghost use Rattle.std.specs.Prelude.{◌≡◌, ◌<◌, ◌++◌, IsSome, Some, IfOk, OnOk, length, map, codes, string_bytes};
 ghost use Rattle.gql_base.specs.PathSegment.{segment_text};
 ghost use Rattle.gql_base.specs.Separated.{separated, before};
-ghost use Rattle.gql_request.specs.Path.{last_field, proper_prefixes};
+ghost use Rattle.gql_request.specs.Path.{last_field};
 
 use gql_base::{Items, Made, PathSegment, Text};
 use std::alloc::Global;
@@ -14,6 +14,8 @@ pub struct QueryPathNode<'a> {
 }
 
 impl<'a> QueryPathNode<'a> {
+    ghost use Rattle.gql_request.specs.Parents.{path_behind};
+
     /// The key of the innermost field on the path.
     pub fn field_name(&self) -> &'a str
         requires { IsSome (last_field self.now.segments.now) }
@@ -30,7 +32,7 @@ impl<'a> QueryPathNode<'a> {
 
     /// The places that this one lies in: the proper prefixes of its path, longest first.
     pub fn parents(&self) -> Parents<'a>
-        ensures { result.current.segments.now ≡ self.now.segments.now }
+        ensures { path_behind result ≡ self.now.segments.now }
     {
         Parents { current: *self }
     }
@@ -82,9 +84,11 @@ pub struct Parents<'a> {
 }
 
 impl<'a> Parents<'a> {
+    ghost use Rattle.gql_request.specs.Parents.{path_behind};
+
     /// The place whose parent comes next.
     pub fn current(&self) -> QueryPathNode<'a>
-        ensures { result.segments.now ≡ self.now.current.segments.now }
+        ensures { result.segments.now ≡ path_behind self.now }
     {
         self.current
     }
@@ -96,11 +100,12 @@ impl<'a> Iterator for Parents<'a> {
     ghost use Rattle.std.specs.Prelude.{option_map};
     ghost use Rattle.std.specs.Iterator.{YieldsFirst, item_count};
     ghost use Rattle.gql_request.specs.Path.{proper_prefixes, YieldsPrefix};
+    ghost use Rattle.gql_request.specs.Parents.{path_behind};
 
     ghost next_gives = { λ before parent after.
-        YieldsPrefix (proper_prefixes before.current.segments.now) (option_map (λ node. node.segments.now) parent) (proper_prefixes after.current.segments.now) };
+        YieldsPrefix (proper_prefixes (path_behind before)) (option_map (λ node. node.segments.now) parent) (proper_prefixes (path_behind after)) };
 
-    ghost remaining = { item_count (λ parents. proper_prefixes parents.current.segments.now) };
+    ghost remaining = { item_count (λ parents. proper_prefixes (path_behind parents)) };
 
     #[tactic(auto, using(crate::proofs::PathLemmas::proper_prefixes_step, crate::proofs::PathLemmas::proper_prefixes_none))]
     fn next(&mut self) -> Option<QueryPathNode<'a>> {
