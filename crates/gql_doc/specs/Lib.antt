@@ -1,8 +1,12 @@
+pub mod Building
+pub mod Builds
 pub mod Document
 pub mod Faults
 pub mod Grammar
 pub mod NameRules
 pub mod Readers
 pub mod Reading
+pub mod Ruled
+pub mod Spelled
 pub mod Spelling
 pub mod Words

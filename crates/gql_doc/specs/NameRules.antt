@@ -1,8 +1,8 @@
 -- The rules on operations and names of a document (GraphQL, October 2021, sections 5.2.1.1, 5.2.2.1, 5.5.1.1 and 5.6.3),
 -- as the place of the first fault against them.
-use Rattle.std.specs.Prelude.{ℕ, Bool, nat_eq, List, [], ◌∷◌, Option, Some, None, if◌then◌else◌}
+use Rattle.std.specs.Prelude.{ℕ, Bool, List, [], ◌∷◌, ◌++◌, Option, Some, None, if◌then◌else◌}
 use Rattle.std.specs.List.{list_any}
-use Rattle.std.specs.Cmp.Lexicographic.{pointwise}
+use Rattle.std.specs.Str.{bytes_eq}
 use mathlib.Core.Former.{Count}
 use Rattle.gql_base.specs.declared.pos.Pos.{Pos}
 use Rattle.gql_doc.specs.declared.tree.SetTree.{SetTree}
@@ -56,7 +56,14 @@ abbrev pub wrong_operations : List DefinitionTree → Option Pos
 wrong_operations definitions = wrong_among (operations definitions) definitions
 
 abbrev pub is_among : List ℕ → List (List ℕ) → Bool
-is_among name names = list_any (pointwise nat_eq name) names
+is_among name names = list_any (bytes_eq name) names
+
+-- the place, where the name is among those before
+abbrev pub if_among : List (List ℕ) → List ℕ → Pos → Option Pos
+if_among names name pos = if is_among name names then Some pos else None
+
+abbrev pub if_doubled : List (List ℕ) → PlacedName → Option Pos
+if_doubled names name = if_among names name.node name.pos
 
 -- The second name in an object value, the first such in a value. `names` are those before in the object.
 abbrev mutual
@@ -72,14 +79,19 @@ abbrev mutual
   pub doubled_in_members : List (List ℕ) → {m : Count} → Row_of-MemberTree m → Option Pos
   doubled_in_members names end_of-MemberTree = None
   doubled_in_members names (more_of-MemberTree name value members) =
-      if is_among name.node names then Some name.pos
-      else first_of (doubled_in_value value) (doubled_in_members (name.node ∷ names) members)
+      first_of (first_of (if_doubled names name) (doubled_in_value value)) (doubled_in_members (names ++ name.node ∷ []) members)
+
+abbrev pub doubled_in_argument : ArgumentTree → Option Pos
+doubled_in_argument argument = doubled_in_value argument.value.node
 
 abbrev pub doubled_in_arguments : List ArgumentTree → Option Pos
-doubled_in_arguments = first_in (λ argument. doubled_in_value argument.value.node)
+doubled_in_arguments = first_in doubled_in_argument
+
+abbrev pub doubled_in_directive : DirectiveTree → Option Pos
+doubled_in_directive directive = doubled_in_arguments directive.arguments
 
 abbrev pub doubled_in_directives : List DirectiveTree → Option Pos
-doubled_in_directives = first_in (λ directive. doubled_in_arguments directive.arguments)
+doubled_in_directives = first_in doubled_in_directive
 
 abbrev pub doubled_in_default : Option PlacedValue → Option Pos
 doubled_in_default None = None
@@ -112,28 +124,39 @@ doubled_in_operation operation =
 abbrev pub doubled_in_fragment : FragmentTree → Option Pos
 doubled_in_fragment fragment = first_of (doubled_in_directives fragment.directives) (doubled_in_set fragment.set)
 
--- the names with that of one more definition, where it has one
-abbrev pub with_name : Option PlacedName → List (List ℕ) → List (List ℕ)
-with_name None names = names
-with_name (Some name) names = name.node ∷ names
+-- the place of an operation whose name is among those before
+abbrev pub if_named_among : List (List ℕ) → Option PlacedName → Pos → Option Pos
+if_named_among names None pos = None
+if_named_among names (Some name) pos = if_among names name.node pos
 
--- the place of a definition whose name is among those before
-abbrev pub if_among : Option PlacedName → List (List ℕ) → Pos → Option Pos
-if_among None names pos = None
-if_among (Some name) names pos = if is_among name.node names then Some pos else None
+-- the name of an operation, if the definition is one that has a name
+abbrev pub name_in : Option PlacedName → List (List ℕ)
+name_in None = []
+name_in (Some name) = name.node ∷ []
 
--- The second definition of a name, or the second name in an object value: the first such in a document. `queries` are
+abbrev pub operation_names : DefinitionTree → List (List ℕ)
+operation_names (Operation operation) = name_in operation.name
+operation_names (Fragment fragment) = []
+
+-- the name of a fragment, if the definition is one
+abbrev pub fragment_names : DefinitionTree → List (List ℕ)
+fragment_names (Operation operation) = []
+fragment_names (Fragment fragment) = fragment.name.node ∷ []
+
+-- The second definition of a name, or the second name in an object value: the first such in a definition. `queries` are
 -- the names of the operations before, and `fragments` those of the fragments before.
+abbrev pub doubled_in_definition : List (List ℕ) → List (List ℕ) → DefinitionTree → Option Pos
+doubled_in_definition queries fragments (Operation operation) =
+    first_of (if_named_among queries operation.name operation.pos) (doubled_in_operation operation)
+doubled_in_definition queries fragments (Fragment fragment) =
+    first_of (if_among fragments fragment.name.node fragment.pos) (doubled_in_fragment fragment)
+
+-- the same in definitions
 abbrev pub doubled_among : List (List ℕ) → List (List ℕ) → List DefinitionTree → Option Pos
 doubled_among queries fragments [] = None
-doubled_among queries fragments (Operation operation ∷ definitions) =
-    first_of (if_among operation.name queries operation.pos)
-    (first_of (doubled_in_operation operation)
-    (doubled_among (with_name operation.name queries) fragments definitions))
-doubled_among queries fragments (Fragment fragment ∷ definitions) =
-    first_of (if_among (Some fragment.name) fragments fragment.pos)
-    (first_of (doubled_in_fragment fragment)
-    (doubled_among queries (fragment.name.node ∷ fragments) definitions))
+doubled_among queries fragments (definition ∷ definitions) =
+    first_of (doubled_in_definition queries fragments definition)
+    (doubled_among (queries ++ operation_names definition) (fragments ++ fragment_names definition) definitions)
 
 abbrev pub doubled_name : List DefinitionTree → Option Pos
 doubled_name = doubled_among [] []

@@ -1,11 +1,17 @@
 //! Executable documents of GraphQL and their grammar (GraphQL, October 2021, section 2).
 #![tactic(auto)]
 
+mod argument_building;
 mod arguments;
+mod constant_building;
 mod cursor;
+mod definition_building;
 mod definitions;
 mod document;
 mod fault;
+mod operation_rule;
+mod parse;
+mod selection_building;
 mod selections;
 #[cfg(test)]
 mod tests;
@@ -13,7 +19,9 @@ mod tree;
 mod tree_of;
 mod trouble;
 mod types;
+mod value_building;
 mod values;
+mod variable_building;
 mod variables;
 
 pub use document::{
@@ -22,3 +30,4 @@ pub use document::{
     Positioned, Selection, SelectionSet, VariableDefinition,
 };
 pub use fault::{ParseFault, ParseKind};
+pub use parse::{one_reading_of_a_document, one_reading_of_a_type, parse_query, parse_type};

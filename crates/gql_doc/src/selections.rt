@@ -109,7 +109,7 @@ fn read_head(cursor: &mut Cursor) -> Result<(Option<Positioned<Name>>, Positione
 }
 
 /// The place of a field: its first token's.
-fn pos_of(alias: &Option<Positioned<Name>>, name: &Positioned<Name>) -> Pos
+pub fn pos_of(alias: &Option<Positioned<Name>>, name: &Positioned<Name>) -> Pos
     ensures { result ≡ head_pos alias.now name.now }
 {
     match alias {
