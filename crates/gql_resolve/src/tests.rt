@@ -133,15 +133,27 @@ fn context<'a, V>(
 
 /// The number that a set answers at the path `2.5`, asked as its bounds allow.
 fn asked<R: ResolverSet<Own = u32>>(alloc: Global, set: &mut R) -> Made<Option<u32>> {
-    let segments = [PathSegment::Index(2), PathSegment::Index(5)];
-    let arguments = Pairs::new(alloc);
-    let root = FieldValue::NULL;
     let item = field(alloc, "hero")?;
     let env = environment(alloc, OperationType::Mutation);
+    asked_of(alloc, set, &item, &env)
+}
+
+fn asked_of<R: ResolverSet<Own = u32>>(
+    alloc: Global,
+    set: &mut R,
+    item: &Field,
+    env: &QueryEnv,
+) -> Made<Option<u32>> {
+    let segments = [PathSegment::Index(2), PathSegment::Index(5)];
+    let arguments = Pairs::new(alloc);
     let none = Data::new(alloc);
-    let call = context(&segments, &arguments, &root, &item, &env, &none);
-    let answer = answer_of(alloc, set, &call)?;
-    Ok(own_of(&answer))
+    let call = context(&segments, &arguments, &FieldValue::NULL, item, env, &none);
+    let answer = answer_of(alloc, set, &call);
+    number_of(answer)
+}
+
+fn number_of(answer: Made<Answer<u32>>) -> Made<Option<u32>> {
+    Ok(own_of(&answer?))
 }
 
 #[test]
