@@ -20,9 +20,9 @@ none-zipped [] (v ∷ vs) e = absurd (omega arith)
 none-zipped (k ∷ ks) [] e = absurd (omega arith)
 none-zipped (k ∷ ks) (v ∷ vs) e = (λ h. absurd (omega arith), λ h. cc)
 
-pub none-among : {T : Type 0} (ks : List ℕ) (vs : List T) (ps : List (ℕ × T)) (n : ℕ) → length vs ≡ length ks → zip ks vs ≡ ps → n ≡ length vs
+pub none_among : {T : Type 0} (ks : List ℕ) (vs : List T) (ps : List (ℕ × T)) (n : ℕ) → length vs ≡ length ks → zip ks vs ≡ ps → n ≡ length vs
     → (n ≡ 0) ↔ (ps ≡ [])
-none-among ks vs ps n same made long =
+none_among ks vs ps n same made long =
     let each = none-zipped ks vs same in
     (λ h. sym made ∙ each.0 (sym long ∙ h), λ h. long ∙ each.1 (made ∙ h))
 
@@ -71,33 +71,50 @@ module _ {T : Type 0} (sought : ℕ) where
 
   -- by what a set of keys answers of a key's place
   module _ (ks : List ℕ) (vs : List T) (ps : List (ℕ × T)) where
-    pub under-found : (i : ℕ) (v : T) → Some i ≡ position (λ k. sought == k) ks → length vs ≡ length ks → v ≡ slice_index_or vs i v
+    pub under_found : (i : ℕ) (v : T) → Some i ≡ position (λ k. sought == k) ks → length vs ≡ length ks → v ≡ slice_index_or vs i v
         → zip ks vs ≡ ps → Some v ≡ under_key sought ps
-    under-found i v found same read made =
+    under_found i v found same read made =
         let at = position-is (λ k. sought == k) ks i found in
         sym (ap (under_key sought) (sym made) ∙ under-zipped ks vs same ∙ ap (slice_get vs) at.0
         ∙ slice_get_read vs (length ks) i v (sym same) at.1 read)
 
-    pub under-missing : None ≡ position (λ k. sought == k) ks → length vs ≡ length ks → zip ks vs ≡ ps → None ≡ under_key sought ps
-    under-missing missing same made =
+    pub under_missing : None ≡ position (λ k. sought == k) ks → length vs ≡ length ks → zip ks vs ≡ ps → None ≡ under_key sought ps
+    under_missing missing same made =
         sym (ap (under_key sought) (sym made) ∙ under-zipped ks vs same
         ∙ slice_get_past vs _ (rw same (position-none (λ k. sought == k) ks missing)))
 
-    pub put-found : (i : ℕ) (v : T) → Some i ≡ position (λ k. sought == k) ks → length vs ≡ length ks → zip ks vs ≡ ps
+    pub put_found : (i : ℕ) (v : T) → Some i ≡ position (λ k. sought == k) ks → length vs ≡ length ks → zip ks vs ≡ ps
         → zip ks (slice_set vs i v) ≡ put_key ps sought v
-    put-found i v found same made =
+    put_found i v found same made =
         let at = position-is (λ k. sought == k) ks i found in
         ap (λ j. zip ks (slice_set vs j v)) (sym at.0)
         ∙ sym (put-zipped ks vs v same (rw at.0 at.1)) ∙ ap (λ qs. put_key qs sought v) made
 
-    pub put-missing : (v : T) → None ≡ position (λ k. sought == k) ks → length vs ≡ length ks → zip ks vs ≡ ps
+    pub put_missing : (v : T) → None ≡ position (λ k. sought == k) ks → length vs ≡ length ks → zip ks vs ≡ ps
         → zip (ks ++ sought ∷ []) (vs ++ v ∷ []) ≡ put_key ps sought v
-    put-missing v missing same made =
+    put_missing v missing same made =
         zipped-push ks vs sought v same
         ∙ sym (put-absent ks vs v same (position-none (λ k. sought == k) ks missing)) ∙ ap (λ qs. put_key qs sought v) made
 
 -- a key that isn't there goes to the end of a set's keys
-pub insert_key-absent : (ks : List ℕ) (k : ℕ) → false ≡ list_any (λ q. k == q) ks → insert_key nat_eq ks k ≡ ks ++ k ∷ []
-insert_key-absent ks k absent =
+pub insert_key_absent : (ks : List ℕ) (k : ℕ) → false ≡ list_any (λ q. k == q) ks → insert_key nat_eq ks k ≡ ks ++ k ∷ []
+insert_key_absent ks k absent =
     let other : list_any (nat_eq k) ks ≡ false = sym absent in
     rw other refl
+
+-- the same in the form in which the search finds them: what the lists make comes first
+pub finds : {T : Type 0} (sought : ℕ) (ks : List ℕ) (vs : List T) (ps : List (ℕ × T)) (i : ℕ) (v : T) → zip ks vs ≡ ps
+    → Some i ≡ position (λ k. sought == k) ks → length vs ≡ length ks → v ≡ slice_index_or vs i v → Some v ≡ under_key sought ps
+finds sought ks vs ps i v made found same read = under_found sought ks vs ps i v found same read made
+
+pub misses : {T : Type 0} (sought : ℕ) (ks : List ℕ) (vs : List T) (ps : List (ℕ × T)) → zip ks vs ≡ ps
+    → None ≡ position (λ k. sought == k) ks → length vs ≡ length ks → None ≡ under_key sought ps
+misses sought ks vs ps made missing same = under_missing sought ks vs ps missing same made
+
+-- a key that isn't there, inserted among the keys of a set, with its value behind the values
+pub inserts : {T : Type 0} (sought : ℕ) (ks ks' : List ℕ) (vs vs' : List T) (ps : List (ℕ × T)) (v : T) → zip ks vs ≡ ps
+    → None ≡ position (λ k. sought == k) ks → false ≡ list_any (λ k. sought == k) ks → length vs ≡ length ks
+    → ks' ≡ insert_key nat_eq ks sought → vs' ≡ vs ++ v ∷ [] → zip ks' vs' ≡ put_key ps sought v
+inserts sought ks ks' vs vs' ps v made missing absent same keys values =
+    let one = keys ∙ insert_key_absent ks sought absent in
+    (λ i. zip (one i) (values i)) ∙ put_missing sought ks vs ps v missing same made

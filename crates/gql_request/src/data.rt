@@ -6,7 +6,6 @@ use gql_base::{Made, Value};
 use indexmap::IndexSet;
 use std::alloc::Global;
 use std::marker::Model;
-use std::mem;
 use thiserror::Error;
 
 /// The key of a value of a layer.
@@ -54,13 +53,14 @@ impl Data {
 
     /// Sets the value under a key. A key that is there keeps its place, and another goes to the end. Where memory is
     /// wanting the data stay as they were.
+    #[tactic(auto, using(crate::proofs::DataLemmas::put_found, crate::proofs::DataLemmas::inserts))]
     pub fn insert(&mut self, key: DataKey, value: Value) -> Made<()>
         ensures ok { OnOk result (self.new ≡ put_key self.old key.0 value) }
         ensures err { OnErr result (self.new ≡ self.old) }
     {
         match self.keys.get_index_of(&key.0) {
             Some(place) => {
-                drop(mem::replace(&mut self.values[place], value));
+                self.values[place] = value;
                 Ok(())
             }
             None => {
@@ -74,6 +74,7 @@ impl Data {
 
     /// The value under a key, or none where the key isn't there. The key is hashed, so that it takes the same time
     /// however many keys there are.
+    #[tactic(auto, using(crate::proofs::DataLemmas::finds, crate::proofs::DataLemmas::misses))]
     pub fn get(&self, key: DataKey) -> Option<&Value>
         ensures { option_copied result ≡ under_key key.0 self.now }
     {

@@ -1,5 +1,6 @@
 //! Each public call with ample memory, and the traits through their bounds at a tiny set. What a test looks at is made by
 //! small functions beside it, since a test is proved too.
+ghost use Rattle.std.specs.Prelude.{◌<◌, length};
 ghost use Rattle.gql_resolve.specs.Call.{call_of};
 
 use crate::sample::{Echo, Last};
@@ -99,43 +100,67 @@ fn record_text(alloc: Global, set: &Echo) -> Made<String> {
     Ok(out)
 }
 
-/// The number that a set answers at a path, asked as its bounds allow.
-fn asked<R: ResolverSet<Own = u32>>(
-    alloc: Global,
-    set: &mut R,
-    path: &QueryPathNode<'_>,
-) -> Made<Option<u32>> {
-    let item = field(alloc, "hero")?;
-    let env = environment(alloc, OperationType::Mutation);
-    let arguments = Pairs::new(alloc);
-    let none = Data::new(alloc);
-    let root = FieldValue::NULL;
-    let call = ResolverContext {
+/// A context of a task of resolver 7 with no data.
+fn context<'a, V>(
+    segments: &'a [PathSegment],
+    arguments: &'a Pairs<Value>,
+    parent_value: &'a FieldValue<V>,
+    item: &'a Field,
+    env: &'a QueryEnv,
+    none: &'a Data,
+) -> ResolverContext<'a, V>
+    requires { 0 < length segments.now }
+{
+    let args = ObjectAccessor::new(arguments);
+    let path_node = QueryPathNode { segments };
+    let layers = Layers {
+        execute: None,
+        query: none,
+        session: none,
+        schema: none,
+    };
+    ResolverContext {
         resolver: 7,
         task: 3,
-        args: ObjectAccessor::new(&arguments),
-        parent_value: &root,
-        path_node: *path,
-        item: &item,
-        env: &env,
-        layers: Layers {
-            execute: None,
-            query: &none,
-            session: &none,
-            schema: &none,
-        },
-    };
-    let answer = answer_of(alloc, set, &call)?;
-    Ok(own_of(&answer))
+        args,
+        parent_value,
+        path_node,
+        item,
+        env,
+        layers,
+    }
+}
+
+/// The number that a set answers at the path `2.5`, asked as its bounds allow.
+fn asked<R: ResolverSet<Own = u32>>(alloc: Global, set: &mut R) -> Made<Option<u32>> {
+    let item = field(alloc, "hero")?;
+    let env = environment(alloc, OperationType::Mutation);
+    asked_of(alloc, set, &item, &env)
+}
+
+fn asked_of<R: ResolverSet<Own = u32>>(
+    alloc: Global,
+    set: &mut R,
+    item: &Field,
+    env: &QueryEnv,
+) -> Made<Option<u32>> {
+    let segments = [PathSegment::Index(2), PathSegment::Index(5)];
+    let arguments = Pairs::new(alloc);
+    let none = Data::new(alloc);
+    let call = context(&segments, &arguments, &FieldValue::NULL, item, env, &none);
+    let answer = answer_of(alloc, set, &call);
+    number_of(answer)
+}
+
+fn number_of(answer: Made<Answer<u32>>) -> Made<Option<u32>> {
+    Ok(own_of(&answer?))
 }
 
 #[test]
 fn a_set_through_its_bound(rt: HostRuntime) -> Result<(), Fail> {
     let alloc = rt.alloc();
-    let path = [PathSegment::Index(2), PathSegment::Index(5)];
     let mut set = Echo::new(alloc, 1);
-    let number = asked(alloc, &mut set, &QueryPathNode { segments: &path })?;
-    assert_eq!(rt; number, Some(7));
+    assert_eq!(rt; asked(alloc, &mut set)?, Some(7));
     assert_eq!(rt; set.snapshot(alloc)?, 7);
     assert_eq!(rt;
         record_text(alloc, &set)?.as_str(),
