@@ -1,10 +1,11 @@
 //! Resolver sets of benches and turns of lists, through the bounds of their traits. What a test looks at is made by small
 //! functions beside it, since a test is proved too.
+ghost use Rattle.std.specs.Prelude.{◌<◌, length};
 ghost use Rattle.gql_resolve.specs.Call.{call_of};
 
 use crate::tables::Bench;
 use crate::{Command, ListTurns, Table, TableMaker, Tables, bench_of};
-use gql_base::{Items, Made, Name, Pairs, PathSegment, Pos, Text, Value, Variables};
+use gql_base::{Items, Made, Name, Pairs, PathSegment, Pos, Value, Variables};
 use gql_doc::{Field, OperationDefinition, OperationType, Positioned, SelectionSet};
 use gql_input::ObjectAccessor;
 use gql_request::{Data, IntrospectionMode, QueryEnv, QueryPathNode};
@@ -53,7 +54,39 @@ fn environment(alloc: Global) -> QueryEnv {
     }
 }
 
-/// Asks a resolver as task 4 at the path `value`, and counts its pending polls. 9 stands for more than there should be.
+/// A context of task 4, with no data.
+fn context<'a>(
+    resolver: u32,
+    segments: &'a [PathSegment],
+    arguments: &'a Pairs<Value>,
+    parent_value: &'a FieldValue<i64>,
+    item: &'a Field,
+    env: &'a QueryEnv,
+    none: &'a Data,
+) -> ResolverContext<'a, i64>
+    requires { 0 < length segments.now }
+{
+    let args = ObjectAccessor::new(arguments);
+    let path_node = QueryPathNode { segments };
+    let layers = Layers {
+        execute: None,
+        query: none,
+        session: none,
+        schema: none,
+    };
+    ResolverContext {
+        resolver,
+        task: 4,
+        args,
+        parent_value,
+        path_node,
+        item,
+        env,
+        layers,
+    }
+}
+
+/// Asks a resolver as task 4 at the path `1`, and counts its pending polls. 9 stands for more than there should be.
 fn pending_polls<S: ResolverSet<Own = i64>>(
     alloc: Global,
     set: &mut S,
@@ -61,25 +94,21 @@ fn pending_polls<S: ResolverSet<Own = i64>>(
 ) -> Made<usize> {
     let item = field(alloc)?;
     let env = environment(alloc);
+    polls_at(alloc, set, resolver, &item, &env)
+}
+
+fn polls_at<S: ResolverSet<Own = i64>>(
+    alloc: Global,
+    set: &mut S,
+    resolver: u32,
+    item: &Field,
+    env: &QueryEnv,
+) -> Made<usize> {
     let arguments = Pairs::new(alloc);
     let none = Data::new(alloc);
     let root = FieldValue::NULL;
-    let path = [PathSegment::Field(Text::new(alloc, "value")?)];
-    let call = ResolverContext {
-        resolver,
-        task: 4,
-        args: ObjectAccessor::new(&arguments),
-        parent_value: &root,
-        path_node: QueryPathNode { segments: &path },
-        item: &item,
-        env: &env,
-        layers: Layers {
-            execute: None,
-            query: &none,
-            session: &none,
-            schema: &none,
-        },
-    };
+    let path = [PathSegment::Index(1)];
+    let call = context(resolver, &path, &arguments, &root, item, env, &none);
     match set.start(alloc, &call)? {
         FieldFuture::Value(_) => Ok(0),
         FieldFuture::Future(future) => polled(alloc, set, future, &call),
@@ -143,7 +172,7 @@ fn tables_through_their_bound(rt: HostRuntime) -> Result<(), Fail> {
     assert_eq!(rt; asked_and_held(alloc, &mut tables, &made)?, 2);
     assert_eq!(rt;
         record_text(alloc, tables.told())?.as_str(),
-        "4 0 value false;4 0 value false;4 0 value true;"
+        "4 0 1 false;4 0 1 false;4 0 1 true;"
     );
     Ok(())
 }
@@ -155,10 +184,7 @@ fn a_number_without_a_rule(rt: HostRuntime) -> Result<(), Fail> {
     let mut table = Table::of(alloc, &made)?;
     assert_eq!(rt; pending_polls(alloc, &mut table, 5)?, 0);
     assert!(rt; table.snapshot(alloc)?.is_empty());
-    assert_eq!(rt;
-        record_text(alloc, table.record())?.as_str(),
-        "4 5 value true;"
-    );
+    assert_eq!(rt; record_text(alloc, table.record())?.as_str(), "4 5 1 true;");
     Ok(())
 }
 
