@@ -5,6 +5,7 @@ mod answer;
 mod bench;
 mod first_bench;
 mod json_shape;
+mod list_turns;
 mod memory;
 mod outcome;
 mod program;
@@ -17,6 +18,10 @@ mod source;
 mod status;
 mod streams;
 mod sure;
+mod table;
+mod table_maker;
+#[cfg(test)]
+mod table_tests;
 mod tables;
 #[cfg(test)]
 mod tests;
@@ -24,6 +29,7 @@ mod writing;
 
 pub use bench::{Command, Written, bench_of};
 pub use first_bench::LONGEST_DELAY;
+pub use list_turns::ListTurns;
 pub use memory::{MemorySink, MemorySource};
 pub use outcome::Outcome;
 pub use program::{run, run_alone};
@@ -34,4 +40,6 @@ pub use source::{Failed, Source};
 pub use status::Status;
 pub use streams::{StdSink, StdSource};
 pub use sure::{SureSink, SureSource};
+pub use table::{Table, TableFuture};
+pub use table_maker::{TableMaker, Tables};
 pub use tables::Bench;

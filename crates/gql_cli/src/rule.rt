@@ -1,4 +1,5 @@
-use gql_base::Value;
+use gql_base::{Copied, Made, Value};
+use std::alloc::Global;
 
 /// How a resolver answers, and when.
 #[derive(Debug, Drop)]
@@ -14,4 +15,21 @@ pub struct Rule {
 pub enum RuleKind {
     /// This value.
     Const(Value),
+}
+
+impl Copied for Rule {
+    fn try_clone(&self, alloc: Global) -> Made<Rule> {
+        Ok(Rule {
+            delay: self.delay,
+            kind: self.kind.try_clone(alloc)?,
+        })
+    }
+}
+
+impl Copied for RuleKind {
+    fn try_clone(&self, alloc: Global) -> Made<RuleKind> {
+        match self {
+            RuleKind::Const(value) => Ok(RuleKind::Const(value.try_clone(alloc)?)),
+        }
+    }
 }
