@@ -1,0 +1,9 @@
+pub mod AdvanceLemmas
+pub mod ArenaLemmas
+pub mod Lists
+pub mod NearerLemmas
+pub mod PickLemmas
+pub mod ProgressLemmas
+pub mod RecordLemmas
+pub mod SoundLemmas
+pub mod TurnLemmas

@@ -1,0 +1,5 @@
+pub mod Arena
+pub mod Plan
+pub mod Progress
+pub mod Record
+pub mod Turn
