@@ -1,4 +1,8 @@
+pub mod Apart
+pub mod ApartPlan
 pub mod Arena
+pub mod Completion
+pub mod Path
 pub mod Plan
 pub mod Progress
 pub mod Record

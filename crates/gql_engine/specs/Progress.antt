@@ -1,10 +1,10 @@
 -- What stands between two turns, and what lies between two such stages.
-use Rattle.std.specs.Prelude.{ℕ, ◌≡◌, List, Option, false}
+use Rattle.std.specs.Prelude.{ℕ, ◌≡◌, List, [], Option, false}
 use Rattle.gql_resolve.specs.Call.{Call}
 use Rattle.gql_resolve.specs.declared.answer.Answer.{Answer}
 use Rattle.gql_resolve.specs.declared.record_entry.RecordEntry.{RecordEntry}
 use Rattle.gql_engine.specs.declared.arena.State.{State}
-use Rattle.gql_engine.specs.Record.{Story, Ran, Stopped}
+use Rattle.gql_engine.specs.Record.{Story, Made, Ran, Stopped, fresh, waiting}
 use Rattle.gql_engine.specs.Arena.{Subject, IsRight, made_of}
 
 -- the tasks and their states, what the set told, and the state of the turns
@@ -48,3 +48,15 @@ pub record Ended {V Task F T : Type 0} (lawful quiet : Type 0) (subject : Subjec
     (choice : T → ℕ → ℕ) (after : T → ℕ → T) (old : Stage Task F T) (told : Option (List RecordEntry)) (starts : Option (List ℕ)) : Type 0 where
   pub stopped : lawful → quiet → (answers : Task → Answer V) → Agrees subject due answers
       → Stopped choice after (story_of subject answers) old.told told old.starts starts old.turns (made_of old.tasks old.states)
+
+-- a whole execution of tasks that are fresh: a turned record that leaves none waiting
+pub record RunsWhole {V Task T : Type 0} (choice : T → ℕ → ℕ) (after : T → ℕ → T) (subject : Subject V Task) (due : Call V → Answer V) (tasks : List Task)
+    (told told' : Option (List RecordEntry)) (starts starts' : Option (List ℕ)) (turns turns' : Option T) : Type 0 where
+  pub made : Made Task
+  pub ran : Ran choice after (story_of subject (λ task. due (subject.call task))) told told' starts starts' turns turns' (fresh tasks) made
+  pub whole : waiting made ≡ []
+
+-- an execution that ended for want of memory
+pub record RunStopped {V Task T : Type 0} (choice : T → ℕ → ℕ) (after : T → ℕ → T) (subject : Subject V Task) (due : Call V → Answer V) (tasks : List Task)
+    (told told' : Option (List RecordEntry)) (starts starts' : Option (List ℕ)) (turns : Option T) : Type 0 where
+  pub stopped : Stopped choice after (story_of subject (λ task. due (subject.call task))) told told' starts starts' turns (fresh tasks)

@@ -5,6 +5,7 @@ ghost use Rattle.gql_engine.specs.Plan.{IsContextOf};
 
 use gql_base::Made;
 use gql_resolve::{Answer, ResolverContext};
+use std::alloc::Global;
 
 /// A growing list of tasks: what each asks, and what its answer makes beneath. The engine knows nothing else of GraphQL.
 pub trait Plan<V> {
@@ -31,7 +32,7 @@ pub trait Plan<V> {
         ensures { (task : Task) → slice_get (tasks self.now) number ≡ Some task → IsContextOf number (call task) (path task) result };
 
     /// Keeps what a task was answered, makes the tasks beneath, and tells their number.
-    fn complete(&mut self, number: usize, answer: Answer<V>) -> Made<usize>
+    fn complete(&mut self, alloc: Global, number: usize, answer: Answer<V>) -> Made<usize>
         requires { number < length (tasks self.old) }
         ensures made { (task : Task) → slice_get (tasks self.old) number ≡ Some task → IfOk result (λ count. (tasks self.new ≡ tasks self.old ++ beneath task answer) × (count ≡ length (beneath task answer))) }
         ensures holds { OnOk result (holds self.new number answer) }

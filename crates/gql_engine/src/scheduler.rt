@@ -43,7 +43,7 @@ fn advance<R: ResolverSet, L: Plan<R::Own>, H: Rounds<R::Own>, P: Turns>(
         Turn::Begun => Ok(true),
         Turn::Pending => Ok(false),
         Turn::Answered(answer) => {
-            let count = plan.complete(number, answer)?;
+            let count = plan.complete(alloc, number, answer)?;
             settle(arena, place, number, count)?;
             Ok(true)
         }
