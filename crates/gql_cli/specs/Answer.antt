@@ -25,6 +25,11 @@ IsAnswered answers name chosen = (chosen.0 ≡ name) × (answers name ≡ Some c
 abbrev pub Chooses : (List ℕ → Option Value) → List (List ℕ) → List (List ℕ × Value) → Type 0
 Chooses answers = AllZip (IsAnswered answers)
 
+-- something is answered under each of the names
+pub record HasChosen (answers : List ℕ → Option Value) (names : List (List ℕ)) : Type 0 where
+  pub chosen : List (List ℕ × Value)
+  pub chooses : Chooses answers names chosen
+
 -- a member of the data
 abbrev pub shown : List ℕ × Value → List ℕ
 shown p = quoted p.0 ++ (codes ":" ++ json p.1)

@@ -1,13 +1,20 @@
 -- What a bench's tables answer, and which JSON they are made of.
-use Rattle.std.specs.Prelude.{◌≡◌, ℕ, List, Option}
+use Rattle.std.specs.Prelude.{◌≡◌, ℕ, ℤ, List, Option, All, option_map, slice_get}
 use Rattle.serde_json.specs.Data.{Data}
+use Rattle.gql_base.specs.Pairs.{under}
 use Rattle.gql_base.specs.declared.value.Value.{Value}
+use Rattle.gql_resolve.specs.Call.{Call}
+use Rattle.gql_resolve.specs.declared.answer.Answer.{Answer}
+use Rattle.gql_schema.specs.Table.{types_of}
+use Rattle.gql_schema.specs.declared.object.Object.{Object}
 use Rattle.gql_cli.specs.Answer.{IsAnswerOf, IsRefusalOf}
-use Rattle.gql_cli.specs.FirstBench.{IsFirstBench}
-use Rattle.gql_cli.specs.Tables.{root_constant, IsTableOf}
+use Rattle.gql_cli.specs.FirstBench.{IsFirstBench, Takes}
+use Rattle.gql_cli.specs.Table.{rule_answer}
+use Rattle.gql_cli.specs.Tables.{root_constant, object_in, IsTableOf}
 use Rattle.gql_cli.specs.declared.bench.Written.{Written}
 use Rattle.gql_cli.specs.declared.bench.Written.TheVariants.{Answered, Refused, NotJson, NotBuilt}
 use Rattle.gql_cli.specs.declared.first_bench.FirstBench.{FirstBench}
+use Rattle.gql_cli.specs.declared.rule.Rule.{Rule}
 use Rattle.gql_cli.specs.declared.tables.Bench.{Bench}
 
 -- what is answered under the name of a field of the query root
@@ -28,3 +35,17 @@ QueryGives answers query (Answered text) = IsAnswerOf answers query text
 QueryGives answers query (Refused text) = IsRefusalOf query text
 QueryGives answers query NotBuilt = ((text : List ℕ) → IsAnswerOf answers query text → ⊥) × ((text : List ℕ) → IsRefusalOf query text → ⊥)
 QueryGives answers query NotJson = ⊥
+
+-- the query root
+abbrev pub bench_object : Bench → Option Object
+bench_object bench = option_map object_in (under bench.query (types_of bench.types))
+
+-- the bench has the tables of a first bench, whose constants are of their fields' types
+pub record IsSuited (bench : Bench) : Type 0 where
+  pub first : FirstBench
+  pub tabled : IsTableOf first bench
+  pub taken : All (λ field. Takes field.type_name field.constant) first.fields
+
+-- the answers are those of the rules
+pub record AnswersBy (rules : List Rule) (answer : Call ℤ → Answer ℤ) : Type 0 where
+  pub ruled : (call : Call ℤ) → answer call ≡ rule_answer (slice_get rules call.resolver)

@@ -59,3 +59,8 @@ IsSelectable names = (names ≢ []) × AreDistinct names × All (λ name. name �
 -- the document asks for these names, and they can be selected together
 abbrev pub Selects : ExecutableDocument → List (List ℕ) → Type 0
 Selects document names = Asks document names × IsSelectable names
+
+-- the document asks for some names
+pub record IsNamesQuery (document : ExecutableDocument) : Type 0 where
+  pub names : List (List ℕ)
+  pub asks : Asks document names

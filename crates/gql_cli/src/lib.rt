@@ -3,6 +3,7 @@
 
 mod answer;
 mod bench;
+mod execution;
 mod first_bench;
 mod json_shape;
 mod list_turns;

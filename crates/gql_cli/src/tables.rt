@@ -24,7 +24,10 @@ pub struct Bench {
 }
 
 impl Bench {
+    ghost use Rattle.std.specs.Prelude.{◌≡◌, Some, MatchBool};
     ghost use Rattle.std.specs.Option.{option_copied};
+    ghost use Rattle.gql_cli.specs.Answer.{Chooses, HasChosen};
+    ghost use Rattle.gql_cli.specs.BenchAnswers.{bench_answers, bench_object, IsSuited};
 
     /// The constant that the query root's field of this name answers, or none where there is no such field.
     pub fn constant(&self, name: &str) -> Option<&Value>
@@ -36,6 +39,31 @@ impl Bench {
         let rule = self.rules.get(number as usize)?;
         let RuleKind::Const(value) = &rule.kind;
         Some(value)
+    }
+
+    /// The query root.
+    pub(crate) fn root(&self) -> &Object
+        requires { IsSuited self.now }
+        ensures { bench_object self.now ≡ Some result.now }
+    {
+        match self.types.get(self.query.as_str()) {
+            Some(SchemaType::Object(object)) => object,
+            None => unreachable!(),
+        }
+    }
+
+    /// True exactly where the query root has a field of each of these names.
+    pub(crate) fn has_fields(&self, names: &[Name]) -> bool
+        ensures { MatchBool result (HasChosen (bench_answers self.now) names.now)
+            ((chosen : _) → Chooses (bench_answers self.now) names.now chosen → ⊥) }
+    {
+        for name in names {
+            match self.constant(name.as_str()) {
+                Some(_) => {}
+                None => return false,
+            }
+        }
+        true
     }
 }
 
