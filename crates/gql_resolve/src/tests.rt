@@ -147,7 +147,8 @@ fn asked_of<R: ResolverSet<Own = u32>>(
     let segments = [PathSegment::Index(2), PathSegment::Index(5)];
     let arguments = Pairs::new(alloc);
     let none = Data::new(alloc);
-    let call = context(&segments, &arguments, &FieldValue::NULL, item, env, &none);
+    let root = FieldValue::NULL;
+    let call = context(&segments, &arguments, &root, item, env, &none);
     let answer = answer_of(alloc, set, &call);
     number_of(answer)
 }
