@@ -163,28 +163,44 @@ fn asked_and_held<M: Tables>(alloc: Global, tables: &mut M, bench: &Bench) -> Ma
     count
 }
 
+/// The record of new tables that are asked for a bench's field, where they had none before and it took two polls.
+fn record_of(alloc: Global, bench: &Bench) -> Made<String> {
+    let mut tables = TableMaker::new();
+    let empty = tables.told().is_empty();
+    let count = asked_and_held(alloc, &mut tables, bench)?;
+    if empty && count == 2 {
+        record_text(alloc, tables.told())
+    } else {
+        Ok(String::new(alloc))
+    }
+}
+
 #[test]
 fn tables_through_their_bound(rt: HostRuntime) -> Result<(), Fail> {
     let alloc = rt.alloc();
     let made = bench(alloc)?.ok_or("no bench")?;
-    let mut tables = TableMaker::new();
-    assert!(rt; tables.told().is_empty());
-    assert_eq!(rt; asked_and_held(alloc, &mut tables, &made)?, 2);
-    assert_eq!(rt;
-        record_text(alloc, tables.told())?.as_str(),
-        "4 0 1 false;4 0 1 false;4 0 1 true;"
-    );
+    let record = record_of(alloc, &made)?;
+    assert_eq!(rt; record.as_str(), "4 0 1 false;4 0 1 false;4 0 1 true;");
     Ok(())
+}
+
+/// The record of a bench's table that is asked for a resolver without a rule, where its world has no cell.
+fn record_without_a_rule(alloc: Global, bench: &Bench) -> Made<String> {
+    let mut table = Table::of(alloc, bench)?;
+    let count = pending_polls(alloc, &mut table, 5)?;
+    if count == 0 && table.snapshot(alloc)?.is_empty() {
+        record_text(alloc, table.record())
+    } else {
+        Ok(String::new(alloc))
+    }
 }
 
 #[test]
 fn a_number_without_a_rule(rt: HostRuntime) -> Result<(), Fail> {
     let alloc = rt.alloc();
     let made = bench(alloc)?.ok_or("no bench")?;
-    let mut table = Table::of(alloc, &made)?;
-    assert_eq!(rt; pending_polls(alloc, &mut table, 5)?, 0);
-    assert!(rt; table.snapshot(alloc)?.is_empty());
-    assert_eq!(rt; record_text(alloc, table.record())?.as_str(), "4 5 1 true;");
+    let record = record_without_a_rule(alloc, &made)?;
+    assert_eq!(rt; record.as_str(), "4 5 1 true;");
     Ok(())
 }
 

@@ -14,6 +14,8 @@ mod parse;
 mod selection_building;
 mod selections;
 #[cfg(test)]
+mod summary;
+#[cfg(test)]
 mod tests;
 mod tree;
 mod tree_of;
