@@ -7,8 +7,8 @@ use Rattle.gql_base.specs.ReadJson.{value_of}
 use Rattle.gql_base.specs.declared.value.Value.{Value}
 use Rattle.gql_cli.specs.Answer.{Chooses, IsResponse, IsAnswerOf, IsRefusalOf, answers_of}
 use Rattle.gql_cli.specs.Bench.{JsonGives}
-use Rattle.gql_cli.specs.BenchAnswers.{bench_answers, IsBenchOf, QueryGives}
-use Rattle.gql_cli.specs.FirstBench.{IsField, IsConstantAnswer, IsTurns, IsShaped, IsFirstBench, IsNoFirstBench, constants}
+use Rattle.gql_cli.specs.BenchAnswers.{bench_answers, IsBenchOf, IsSuited, QueryGives}
+use Rattle.gql_cli.specs.FirstBench.{AreTaken, IsField, IsConstantAnswer, IsTurns, IsShaped, IsFirstBench, IsNoFirstBench, constants}
 use Rattle.gql_cli.specs.Tables.{IsTableOf}
 use Rattle.gql_cli.specs.declared.bench.Written.{Written}
 use Rattle.gql_cli.specs.declared.bench.Written.TheVariants.{Answered, Refused, NotJson, NotBuilt}
@@ -122,3 +122,15 @@ made-bench json first shaped (Ok (Some bench)) (distinct, request, tabled) =
 made-bench json first shaped (Ok None) doubled =
     λ other (fits, distinct). doubled (subst (λ (f : FirstBench). HasDistinctNames (constants f.fields)) (shaped-same json other first fits shaped) distinct)
 made-bench json first shaped (Err want) made = made
+
+all-taken : (ds : List Data) (fs : List FirstField) → AllZip IsField ds fs → AreTaken fs
+all-taken [] [] fits = tt
+all-taken [] (f ∷ fs) fits = absurd fits
+all-taken (d ∷ ds) [] fits = tt
+all-taken (d ∷ ds) (f ∷ fs) ((answer, constant, same, told, value, takes, named), fits) = (takes, all-taken ds fs fits)
+
+-- the bench of a JSON value is suited: its constants are of their fields' types
+pub suited : (json : Data) (bench : Bench) → IsBenchOf json bench → IsSuited bench
+suited json bench made =
+    let (fields, turns, shape, fits, turned, named) = made.shaped.0 in
+    record { first = made.first; tabled = made.tabled; taken = all-taken fields made.first.fields fits }

@@ -30,7 +30,7 @@ under-append name (p ∷ ps) qs =
     let P : Bool → Type 0 = λ b. cond b (Some p.1) (under name (ps ++ qs)) ≡ or_else (cond b (Some p.1) (under name ps)) (under name qs) in
     elim (bytes_eq name p.0) as P [ true ↦ refl | false ↦ under-append name ps qs ]
 
-slice_get-at : {X : Type 0} (front : List X) (x : X) (rest : List X) → slice_get (front ++ x ∷ rest) (length front) ≡ Some x
+pub slice_get-at : {X : Type 0} (front : List X) (x : X) (rest : List X) → slice_get (front ++ x ∷ rest) (length front) ≡ Some x
 slice_get-at [] x rest = refl
 slice_get-at (z ∷ front) x rest = slice_get-at front x rest
 

@@ -1,5 +1,5 @@
 -- What a bench's tables answer, and which JSON they are made of.
-use Rattle.std.specs.Prelude.{◌≡◌, ℕ, ℤ, List, Option, All, option_map, slice_get}
+use Rattle.std.specs.Prelude.{◌≡◌, ℕ, ℤ, List, Option, option_map, slice_get}
 use Rattle.serde_json.specs.Data.{Data}
 use Rattle.gql_base.specs.Pairs.{under}
 use Rattle.gql_base.specs.declared.value.Value.{Value}
@@ -8,7 +8,7 @@ use Rattle.gql_resolve.specs.declared.answer.Answer.{Answer}
 use Rattle.gql_schema.specs.Table.{types_of}
 use Rattle.gql_schema.specs.declared.object.Object.{Object}
 use Rattle.gql_cli.specs.Answer.{IsAnswerOf, IsRefusalOf}
-use Rattle.gql_cli.specs.FirstBench.{IsFirstBench, Takes}
+use Rattle.gql_cli.specs.FirstBench.{IsFirstBench, AreTaken}
 use Rattle.gql_cli.specs.Table.{rule_answer}
 use Rattle.gql_cli.specs.Tables.{root_constant, object_in, IsTableOf}
 use Rattle.gql_cli.specs.declared.bench.Written.{Written}
@@ -44,7 +44,7 @@ bench_object bench = option_map object_in (under bench.query (types_of bench.typ
 pub record IsSuited (bench : Bench) : Type 0 where
   pub first : FirstBench
   pub tabled : IsTableOf first bench
-  pub taken : All (λ field. Takes field.type_name field.constant) first.fields
+  pub taken : AreTaken first.fields
 
 -- the answers are those of the rules
 pub record AnswersBy (rules : List Rule) (answer : Call ℤ → Answer ℤ) : Type 0 where

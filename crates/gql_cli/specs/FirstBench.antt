@@ -89,3 +89,8 @@ IsFirstBench json bench = IsShaped json bench × HasDistinctNames (constants ben
 -- the JSON is that of no first bench
 abbrev pub IsNoFirstBench : Data → Type 0
 IsNoFirstBench json = (bench : FirstBench) → IsFirstBench json bench → ⊥
+
+-- each constant is of its field's type
+abbrev pub AreTaken : List FirstField → Type 0
+AreTaken [] = Unit {0}
+AreTaken (field ∷ fields) = Takes field.type_name field.constant × AreTaken fields

@@ -2,11 +2,12 @@
 ghost use Rattle.std.specs.Prelude.{◌≡◌, IfOk, IfErr, MatchOption, codes, option_map};
 ghost use Rattle.serde_json.specs.View.{view};
 ghost use Rattle.gql_cli.specs.Bench.{json_of, JsonGives, Gives};
-ghost use Rattle.gql_cli.specs.BenchAnswers.{bench_answers, IsBenchOf, QueryGives};
+ghost use Rattle.gql_cli.specs.BenchAnswers.{bench_answers, IsBenchOf, IsSuited, QueryGives};
 ghost use Rattle.gql_cli.specs.FirstBench.{IsNoFirstBench};
 
 use crate::answer::{refusal_of, response_of};
 use crate::first_bench::read_first_bench;
+use crate::table_maker::Tables;
 use crate::tables::{Bench, bench_of_first};
 use gql_base::{Made, Text};
 use gql_doc::parse_query;
@@ -34,12 +35,12 @@ pub enum Command {
 }
 
 /// What the bytes of a bench give.
-pub(crate) fn text_of(alloc: Global, bytes: &[u8]) -> Made<Written>
+pub(crate) fn text_of<M: Tables>(alloc: Global, bytes: &[u8], tables: &mut M) -> Made<Written>
     ensures { IfOk result (Gives bytes.now) }
 {
     match json_value(alloc, bytes)? {
         None => Ok(Written::NotJson),
-        Some(json) => bench_text(alloc, &json),
+        Some(json) => bench_text(alloc, &json, tables),
     }
 }
 
@@ -55,21 +56,22 @@ fn json_value(alloc: Global, bytes: &[u8]) -> Made<Option<Value>>
 }
 
 /// What a JSON value gives as a bench.
-fn bench_text(alloc: Global, json: &Value) -> Made<Written>
+fn bench_text<M: Tables>(alloc: Global, json: &Value, tables: &mut M) -> Made<Written>
     ensures { IfOk result (JsonGives (view json.now)) }
 {
     match bench_of(alloc, Command::Execute, json)? {
-        Ok(bench) => query_text(alloc, &bench),
+        Ok(bench) => query_text(alloc, &bench, tables),
         Err(_) => Ok(Written::NotBuilt),
     }
 }
 
 /// What a bench's request gives.
-fn query_text(alloc: Global, bench: &Bench) -> Made<Written>
+fn query_text<M: Tables>(alloc: Global, bench: &Bench, tables: &mut M) -> Made<Written>
+    requires { IsSuited bench.now }
     ensures { IfOk result (QueryGives (bench_answers bench.now) bench.now.request) }
 {
     match parse_query(alloc, bench.request.as_str())? {
-        Ok(document) => match response_of(alloc, bench, &document)? {
+        Ok(document) => match response_of(alloc, bench, document, tables)? {
             Some(text) => Ok(Written::Answered(text)),
             None => Ok(Written::NotBuilt),
         },

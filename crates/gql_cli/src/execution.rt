@@ -1,6 +1,6 @@
 //! The execution of a bench's request by the engine.
 ghost use Rattle.std.specs.Prelude.{◌≡◌, ℕ, List, Some, false, IfOk};
-ghost use Rattle.gql_base.specs.declared.value.Value.{Value as Data};
+ghost use Rattle.gql_base.specs.declared.value.Value.{Value as OneValue};
 ghost use Rattle.gql_doc.specs.declared.document.DocumentOperations.TheVariants as operations;
 ghost use Rattle.gql_resolve.specs.Call.{is_mutation};
 ghost use Rattle.gql_cli.specs.Answer.{Chooses};
@@ -28,7 +28,7 @@ pub(crate) fn run_query<M: Tables>(
 ) -> Made<Place>
     requires suited { IsSuited bench.now }
     requires query { IsNamesQuery document }
-    ensures data { (names : List (List ℕ)) → Asks document names → AreDistinct names → (chosen : List (List ℕ × Data))
+    ensures data { (names : List (List ℕ)) → Asks document names → AreDistinct names → (chosen : List (List ℕ × OneValue))
         → Chooses (bench_answers bench.now) names chosen → IfOk result (λ place. data_of place ≡ chosen) }
 {
     let env = env_of(alloc, document);
@@ -69,7 +69,7 @@ fn run_env<S: ResolverSet<Own = i64>>(
     requires suited { IsSuited bench.now }
     requires query { is_mutation env.now.operation.node.ty ≡ false }
     ensures data { S.is_lawful set.old → AnswersBy bench.now.rules (λ call. S.answer (S.rules set.old) call (S.world set.old))
-        → (names : List (List ℕ)) → IsBareQuery env.now.operation.node names → AreDistinct names → (chosen : List (List ℕ × Data))
+        → (names : List (List ℕ)) → IsBareQuery env.now.operation.node names → AreDistinct names → (chosen : List (List ℕ × OneValue))
         → Chooses (bench_answers bench.now) names chosen → IfOk result (λ place. data_of place ≡ chosen) }
 {
     let data = Data::new(alloc);
@@ -90,7 +90,7 @@ fn scene_of<'a>(
     root: &'a FieldValue<i64>,
     data: &'a Data,
 ) -> Scene<'a, i64>
-    requires { IsSuited bench.entry.now }
+    requires { IsSuited bench.now }
     ensures env { result.env.now ≡ env.entry.now }
     ensures object { bench_object bench.entry.now ≡ Some result.object.now }
 {

@@ -6,6 +6,7 @@ use crate::bench::{Written, text_of};
 use crate::reading::{Reading, read_whole};
 use crate::source::Source;
 use crate::status::Status;
+use crate::table_maker::Tables;
 use gql_base::Made;
 use std::alloc::Global;
 
@@ -59,7 +60,12 @@ impl Outcome {
 }
 
 /// Finds what is due: the words are looked at first, and where they are listed the source is read whole.
-pub(crate) fn decide<I: Source>(alloc: Global, words: &[String], source: &mut I) -> Made<Outcome>
+pub(crate) fn decide<I: Source, M: Tables>(
+    alloc: Global,
+    words: &[String],
+    source: &mut I,
+    tables: &mut M,
+) -> Made<Outcome>
     ensures due { IfOk result (IsDue I.left I.given I.faults source.old source.new (map string_bytes words.now)) }
     ensures unread { ¬ IsListed (map string_bytes words.now) → source.new ≡ source.old }
 {
@@ -67,7 +73,7 @@ pub(crate) fn decide<I: Source>(alloc: Global, words: &[String], source: &mut I)
         return Ok(Outcome::Usage);
     }
     match read_whole(alloc, source)? {
-        Reading::Whole(bytes) => Ok(Outcome::Bench(text_of(alloc, bytes.as_slice())?)),
+        Reading::Whole(bytes) => Ok(Outcome::Bench(text_of(alloc, bytes.as_slice(), tables)?)),
         Reading::TooLong => Ok(Outcome::TooLong),
         Reading::Failed => Ok(Outcome::ReadFault),
     }

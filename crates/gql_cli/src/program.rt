@@ -14,17 +14,19 @@ use crate::reading::INPUT_LIMIT;
 use crate::sink::{Sink, SinkFault};
 use crate::source::Source;
 use crate::status::Status;
+use crate::table_maker::Tables;
 use crate::writing::write_whole;
 use std::alloc::Global;
 
 /// Runs the program on the words after its name. It reads its source whole, writes to its sink the text that is due or
 /// the line of a fault, and answers the status.
-pub fn run<R, I: Source, O: Sink>(
+pub fn run<R, I: Source, O: Sink, M: Tables>(
     _rt: &R,
     alloc: Global,
     words: &[String],
     source: &mut I,
     sink: &mut O,
+    tables: &mut M,
 ) -> u8
     // 2 comes exactly where the words are no listed form, and then nothing is read.
     ensures usage { result ≡ 2 → ¬ IsListed (map string_bytes words.now) }
@@ -70,15 +72,16 @@ pub fn run<R, I: Source, O: Sink>(
         → (result ≡ 6) ⊎ ((written : Written) × Gives input written × (result ≡ due_status (Outcome.Bench written))
         × Appends (O.held sink.old) (O.held sink.new) (due_text (Outcome.Bench written)))) }
 {
-    run_alone(alloc, words, source, sink)
+    run_alone(alloc, words, source, sink, tables)
 }
 
 /// Runs the program as `run` does, without a runtime.
-pub fn run_alone<I: Source, O: Sink>(
+pub fn run_alone<I: Source, O: Sink, M: Tables>(
     alloc: Global,
     words: &[String],
     source: &mut I,
     sink: &mut O,
+    tables: &mut M,
 ) -> u8
     // 2 comes exactly where the words are no listed form, and then nothing is read.
     ensures usage { result ≡ 2 → ¬ IsListed (map string_bytes words.now) }
@@ -124,7 +127,7 @@ pub fn run_alone<I: Source, O: Sink>(
         → (result ≡ 6) ⊎ ((written : Written) × Gives input written × (result ≡ due_status (Outcome.Bench written))
         × Appends (O.held sink.old) (O.held sink.new) (due_text (Outcome.Bench written)))) }
 {
-    match decide(alloc, words, source) {
+    match decide(alloc, words, source, tables) {
         Ok(due) => deliver(&due, sink).code(),
         Err(_) => Status::NoMemory.code(),
     }

@@ -1,11 +1,13 @@
-use Rattle.std.proofs.Common.{sym, subst}
+use Rattle.std.proofs.Common.{sym, ◌∙◌, subst}
+use Rattle.gql_cli.specs.Answer.{Chooses}
 use Rattle.gql_cli.specs.BenchAnswers.{bench_answers}
-use Rattle.gql_cli.specs.Query.{Selects}
-use Rattle.gql_cli.proofs.AnswerLemmas.{response-over}
+use Rattle.gql_cli.proofs.QueryLemmas.{asks-same}
 use Rattle.gql_cli.proofs.answer.response_of.Goals as goal
 
-pub returns-in-Some : goal.returns-in-Some
-returns-in-Some c =
+pub returns-then-not-has_fields : goal.returns-then-not-has_fields
+returns-then-not-has_fields g c =
+    λ text response.
     let selects = rw c.in-Some.is at c.in_ok-names.ensures in
-    response-over (bench_answers c.args.bench.now) c.args.document.now c.as_slice.result.now
-    (subst (Selects c.args.document.now) (sym c.as_slice.ensures) selects) c.names_response.result c.names_response.ensures
+    let same = asks-same c.args.document response.names c.in-Some.names response.selects.0 selects.0 in
+    c.if-not-has_fields.ensures response.chosen
+    (subst (λ names. Chooses (bench_answers c.args.bench.now) names response.chosen) (same ∙ sym c.as_slice.ensures) response.chooses)

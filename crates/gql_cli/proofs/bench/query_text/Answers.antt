@@ -6,13 +6,13 @@ use Rattle.gql_doc.specs.Spelled.{SpellsDocument, IsDocumentFault}
 use Rattle.gql_cli.proofs.bench.query_text.Goals as goal
 
 pub returns-in-Some : goal.returns-in-Some
-returns-in-Some c =
+returns-in-Some g c =
     let spelled = rw c.in-Ok.is at c.in_ok-document.ensures.given in
     let response = rw c.in-Some.is at c.in_ok-text-in-Ok.ensures in
     (c.in-Ok.document, subst (λ query. SpellsDocument (chars query) c.in-Ok.document) c.as_str.ensures spelled, response)
 
-pub returns-in-Ok : goal.returns-in-Ok
-returns-in-Ok c =
+pub returns-in-None : goal.returns-in-None
+returns-in-None g c =
     let never = rw c.in-None.is at c.in_ok-text-in-Ok.ensures in (
       λ text (document, spells, response).
           let read = sym c.in-Ok.is ∙ c.in_ok-document.ensures.spelled document (subst (λ query. SpellsDocument (chars query) document) (sym c.as_str.ensures) spells) in
