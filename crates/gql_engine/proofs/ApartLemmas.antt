@@ -1,0 +1,60 @@
+-- Occurrences that are gathered, and places that are united under their keys.
+use Rattle.std.proofs.Common.{ℕ, zero, suc, ◌≡◌, ◌+◌, ◌<◌, Bool, true, false, cond, List, [], ◌∷◌, ◌++◌, length, get_or, drop, refl, sym, ap, subst, ◌∙◌, arith, append_assoc}
+use Rattle.std.proofs.lemmas.List.{drop_more}
+use Rattle.std.specs.Prelude.{Option, Some, None, is_some}
+use Rattle.std.specs.List.{flat_map}
+use Rattle.std.specs.Str.{bytes_eq}
+use Rattle.gql_base.specs.Pairs.{under, put}
+use Rattle.gql_doc.specs.declared.document.Positioned.{Positioned}
+use Rattle.gql_doc.specs.declared.document.Selection.{Selection, out-Selection}
+use Rattle.gql_engine.specs.Apart.{Asked, asked, field_here, unite, unite_all, join}
+use Rattle.gql_engine.specs.ApartPlan.{place_here, places_here}
+use Rattle.gql_engine.specs.declared.occurrence.Occurrence.{Occurrence}
+use Rattle.gql_engine.specs.declared.place.Place.{Place}
+use Rattle.gql_engine.specs.declared.scene.Scene.{Scene}
+
+flat_append : {X Y : Type 0} (f : X → List Y) (one other : List X) → flat_map f (one ++ other) ≡ flat_map f one ++ flat_map f other
+flat_append f [] other = refl
+flat_append f (x ∷ one) other = ap (λ ys. f x ++ ys) (flat_append f one other) ∙ sym (append_assoc (f x) (flat_map f one) (flat_map f other))
+
+-- one more selection is looked at
+pub gathered : (V : Type 0) (scene : Scene V) (xs : List (Positioned Selection)) (i : ℕ) (x : Positioned Selection) (old new all : List (Asked V))
+    → i < length xs → x ≡ get_or xs i x
+    → new ≡ old ++ asked scene (field_here (out-Selection x.node))
+    → old ++ asked scene (flat_map (λ selection. field_here (out-Selection selection.node)) (drop i xs)) ≡ all
+    → new ++ asked scene (flat_map (λ selection. field_here (out-Selection selection.node)) (drop (i + 1) xs)) ≡ all
+gathered V scene xs i x old new all within read added before =
+    let own : Positioned Selection → List (Positioned _) = λ selection. field_here (out-Selection selection.node) in
+    let rest = drop (i + 1) xs in
+    ap (λ ts. ts ++ asked scene (flat_map own rest)) added
+    ∙ append_assoc old (asked scene (own x)) (asked scene (flat_map own rest))
+    ∙ ap (λ ts. old ++ ts) (sym (flat_append _ (own x) (flat_map own rest)))
+    ∙ ap (λ ys. old ++ asked scene (flat_map own ys)) (sym (drop_more xs i x within ∙ ap (λ y. y ∷ rest) (sym read)))
+    ∙ before
+
+pub unite_all-append : {T : Type 0} (both : T → T → T) (ps one other : List (List ℕ × T)) → unite_all both ps (one ++ other) ≡ unite_all both (unite_all both ps one) other
+unite_all-append both ps [] other = refl
+unite_all-append both ps (q ∷ one) other = unite_all-append both (unite both q.0 q.1 ps) one other
+
+-- one more occurrence is placed
+pub united : (members members' : List (List ℕ × Place)) (os rest : List Occurrence) (o : Occurrence) (all : List (List ℕ × Place))
+    → os ≡ o ∷ rest → members' ≡ unite_all join members (place_here o) → unite_all join members (places_here os) ≡ all
+    → unite_all join members' (places_here rest) ≡ all
+united members members' os rest o all is added before =
+    ap (λ ms. unite_all join ms (places_here rest)) added
+    ∙ sym (unite_all-append join members (place_here o) (places_here rest))
+    ∙ ap (λ xs. unite_all join members (places_here xs)) (sym is)
+    ∙ before
+
+-- a key that is there keeps its first place
+pub unite_there : (key : List ℕ) (place : Place) (ps : List (List ℕ × Place)) → is_some (under key ps) ≡ true → ps ≡ unite join key place ps
+unite_there key place [] is = absurd (cc)
+unite_there key place (p ∷ ps) is =
+    let P : Bool → Type 0 = λ b. is_some (cond b (Some p.1) (under key ps)) ≡ true → p ∷ ps ≡ cond b ((p.0, join p.1 place) ∷ ps) (p ∷ unite join key place ps) in
+    (elim (bytes_eq key p.0) as P [ true ↦ λ e. refl | false ↦ λ e. ap (λ qs. p ∷ qs) (unite_there key place ps e) ]) is
+
+pub unite_new : (key : List ℕ) (place : Place) (ps : List (List ℕ × Place)) → is_some (under key ps) ≡ false → put ps key place ≡ unite join key place ps
+unite_new key place [] is = refl
+unite_new key place (p ∷ ps) is =
+    let P : Bool → Type 0 = λ b. is_some (cond b (Some p.1) (under key ps)) ≡ false → cond b ((p.0, place) ∷ ps) (p ∷ put ps key place) ≡ cond b ((p.0, join p.1 place) ∷ ps) (p ∷ unite join key place ps) in
+    (elim (bytes_eq key p.0) as P [ true ↦ λ e. absurd (cc) | false ↦ λ e. ap (λ qs. p ∷ qs) (unite_new key place ps e) ]) is

@@ -1,0 +1,12 @@
+pub mod AdvanceLemmas
+pub mod ApartLemmas
+pub mod ApartPlanLemmas
+pub mod ArenaLemmas
+pub mod Lists
+pub mod NearerLemmas
+pub mod PickLemmas
+pub mod ProgressLemmas
+pub mod RecordLemmas
+pub mod RunLemmas
+pub mod SoundLemmas
+pub mod TurnLemmas

@@ -1,0 +1,11 @@
+use Rattle.std.proofs.Common.{rules, ◌≡◌, ◌<◌, length, arith}
+use Rattle.gql_engine.specs.ApartPlan.{all_seen}
+use Rattle.gql_engine.specs.Apart.{asked_in}
+use Rattle.gql_engine.proofs.ApartLemmas.{gathered}
+use Rattle.gql_engine.proofs.gathering.plan_of.Goals as goal
+
+pub loop-selection-preserved : goal.loop-selection-preserved
+loop-selection-preserved g c =
+    gathered g.row.V.Denot c.args.scene.now c.as_slice-selection-items.result.now c.loop-selection.selection-index c.selection-item.result
+    (all_seen c.args.scene.now c.loop-selection.occurrences.items) (all_seen c.args.scene.now c.add_selection.new.occurrences.items) (asked_in c.args.scene.now)
+    c.loop-selection-test.true c.selection-item.is c.in_ok-add_selection.ensures c.loop-selection.invariant

@@ -1,0 +1,130 @@
+-- The response of a flat object, where each occurrence of a field asks an answer of its own, and places under one key are joined
+-- (GraphQL, October 2021, section 6.3).
+use Rattle.std.specs.Prelude.{ℕ, ◌++◌, ◌&&◌, not, Bool, false, List, [], ◌∷◌, Option, Some, None, if◌then◌else◌, map, codes, length}
+use Rattle.std.specs.List.{flat_map}
+use Rattle.std.specs.Str.{bytes_eq}
+use Rattle.gql_base.specs.Pairs.{under}
+use Rattle.gql_base.specs.PathSegment.{segment_text}
+use Rattle.gql_base.specs.Separated.{separated}
+use Rattle.gql_base.specs.TypeRef.{is_nullable}
+use Rattle.gql_base.specs.declared.pos.Pos.{Pos}
+use Rattle.gql_base.specs.declared.type_ref.TypeRef.{TypeRef}
+use Rattle.gql_doc.specs.declared.document.Positioned.{Positioned}
+use Rattle.gql_doc.specs.declared.document.Field.{Field, out-Field}
+use Rattle.gql_doc.specs.declared.document.InlineFragment.{InlineFragment}
+use Rattle.gql_doc.specs.declared.document.Selection.{Selection, out-Selection}
+use Rattle.gql_doc.specs.declared.document.Selection.TheOpen.{Selection-F}
+use Rattle.gql_doc.specs.declared.document.SelectionSet.{SelectionSet, out-SelectionSet}
+use Rattle.gql_resolve.specs.Call.{Call, is_mutation, is_single}
+use Rattle.gql_resolve.specs.Layers.{layers_of}
+use Rattle.gql_resolve.specs.declared.answer.Answer.{Answer}
+use Rattle.gql_schema.specs.Field.{field_type, resolver_of}
+use Rattle.gql_schema.specs.Object.{fields_of}
+use Rattle.gql_schema.specs.declared.field.Field.{Field as SchemaField}
+use Rattle.gql_engine.specs.Arena.{Subject, subject_of}
+use Rattle.gql_engine.specs.Completion.{shape_of}
+use Rattle.gql_engine.specs.Path.{key_text, path_of}
+use Rattle.gql_engine.specs.declared.place.Place.{Place}
+use Rattle.gql_engine.specs.declared.place.Tree.{Tree}
+use Rattle.gql_engine.specs.declared.place.Tree.TheVariants as tree
+use Rattle.gql_engine.specs.declared.scene.Scene.{Scene}
+use Rattle.gql_engine.specs.declared.shape.Shape.{Shape}
+use Rattle.gql_engine.specs.declared.shape.Shape.TheVariants as shape
+
+-- the occurrences of fields in a set, in document order (section 6.3.2); fragments are to come
+abbrev pub field_here : Selection-F Selection Field InlineFragment SelectionSet → List (Positioned Field)
+field_here (Selection-F.Field field) = field ∷ []
+field_here (Selection-F.FragmentSpread spread) = []
+field_here (Selection-F.InlineFragment fragment) = []
+
+abbrev pub collected : SelectionSet → List (Positioned Field)
+collected set = flat_map (λ selection. field_here (out-Selection selection.node)) (out-SelectionSet set).items
+
+abbrev pub name_of : Positioned Field → List ℕ
+name_of occurrence = (out-Field occurrence.node).name.node
+
+-- an occurrence that asks an answer: its call, the text of its path, and what its place shows of it
+pub record Asked (V : Type 0) : Type 0 where
+  pub call : Call V
+  pub path : List ℕ
+  pub key : List ℕ
+  pub place : Pos
+  pub ty : TypeRef
+
+abbrev pub asked_of : {V : Type 0} → Scene V → Positioned Field → SchemaField → Asked V
+asked_of scene occurrence declared = record {
+  call = record {
+    is_root = is_mutation scene.env.now.operation.node.ty && is_single (path_of occurrence);
+    resolver = resolver_of declared;
+    parent = scene.root.now;
+    arguments = [];
+    layers = layers_of scene.layers;
+  };
+  path = separated (codes ".") (map segment_text (path_of occurrence));
+  key = key_text occurrence;
+  place = occurrence.pos;
+  ty = field_type declared;
+}
+
+abbrev pub asked_at : {V : Type 0} → Scene V → Positioned Field → Option SchemaField → List (Asked V)
+asked_at scene occurrence None = []
+asked_at scene occurrence (Some declared) = asked_of scene occurrence declared ∷ []
+
+-- the occurrences of fields that the object has, each of which asks an answer of its own
+abbrev pub asked : {V : Type 0} → Scene V → List (Positioned Field) → List (Asked V)
+asked scene occurrences = flat_map (λ occurrence. asked_at scene occurrence (under (name_of occurrence) (fields_of scene.object.now))) occurrences
+
+abbrev pub asked_in : {V : Type 0} → Scene V → List (Asked V)
+asked_in scene = asked scene (collected scene.env.now.operation.node.selection_set.node)
+
+-- nothing is beneath a flat object's fields
+abbrev pub subject_in : {V : Type 0} → Subject V (Asked V)
+subject_in = subject_of (λ task. task.call) (λ task. task.path) (λ task answer. [])
+
+-- the place of an occurrence (section 6.4)
+abbrev pub fill : Shape → Tree
+fill shape.Absent = tree.Absent
+fill (shape.Leaf value) = tree.Leaf value
+fill (shape.Fault error) = tree.Fault error
+
+abbrev pub place_with : {V : Type 0} → Pos → TypeRef → Answer V → Place
+place_with place ty answer = record {
+  pos = place;
+  non_null = not (is_nullable ty);
+  added = answer.added;
+  headers = answer.headers;
+  tree = fill (shape_of ty answer.result);
+}
+
+abbrev pub place_of : {V : Type 0} → Asked V → Answer V → Place
+place_of task answer = place_with task.place task.ty answer
+
+-- a key that is there keeps its place, and its value is united with the new one; another goes to the end
+abbrev pub unite : {T : Type 0} → (T → T → T) → List ℕ → T → List (List ℕ × T) → List (List ℕ × T)
+unite both key value [] = (key, value) ∷ []
+unite both key value (p ∷ ps) = if bytes_eq key p.0 then (p.0, both p.1 value) ∷ ps else p ∷ unite both key value ps
+
+abbrev pub unite_all : {T : Type 0} → (T → T → T) → List (List ℕ × T) → List (List ℕ × T) → List (List ℕ × T)
+unite_all both ps [] = ps
+unite_all both ps (q ∷ qs) = unite_all both (unite both q.0 q.1 ps) qs
+
+-- two places of one key: of leaves, faults and absences the first stays
+abbrev pub join : Place → Place → Place
+join first second = first
+
+abbrev pub placed : {V : Type 0} → (Call V → Answer V) → List (Asked V) → List (List ℕ × Place)
+placed answer [] = []
+placed answer (task ∷ tasks) = (task.key, place_of task (answer task.call)) ∷ placed answer tasks
+
+abbrev pub root_of : {V : Type 0} → Scene V → List (List ℕ × Place) → Place
+root_of scene members = record {
+  pos = scene.env.now.operation.pos;
+  non_null = false;
+  added = [];
+  headers = [];
+  tree = tree.Object members;
+}
+
+-- the place of the whole response
+abbrev pub respond : {V : Type 0} → Scene V → (Call V → Answer V) → Place
+respond scene answer = root_of scene (unite_all join [] (placed answer (asked_in scene)))

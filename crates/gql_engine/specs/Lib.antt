@@ -1,0 +1,9 @@
+pub mod Apart
+pub mod ApartPlan
+pub mod Arena
+pub mod Completion
+pub mod Path
+pub mod Plan
+pub mod Progress
+pub mod Record
+pub mod Turn

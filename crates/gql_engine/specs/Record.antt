@@ -1,0 +1,111 @@
+-- The record of an execution: one entry for each poll that answered, and what it says about the turns.
+-- A task is one call of a resolver. Tasks are numbered from 0 in the order in which they are made.
+use Rattle.std.specs.Prelude.{ℕ, zero, suc, ◌≡◌, ◌+◌, ◌-◌, ◌≤◌, ◌==◌, ◌↔◌, IsTrue, List, [], ◌∷◌, ◌++◌, Option, Some, None, Bool, if◌then◌else◌, length, map, slice_get, slice_set, slice_index, option_map}
+use Rattle.std.specs.Option.{ForSome}
+use Rattle.gql_resolve.specs.Record.{with_more}
+use Rattle.gql_resolve.specs.declared.record_entry.RecordEntry.{RecordEntry}
+
+-- how far a task has come in the record: it has no entry, only pending entries, or its ready entry
+pub data Mark : Type 0 where
+  untold : Mark
+  begun : Mark
+  ready : Mark
+
+-- what is fixed of each task: the number of its resolver, the text of its path, and the tasks beneath its answer
+pub record Story (Task : Type 0) : Type 0 where
+  pub resolver : Task → ℕ
+  pub path : Task → List ℕ
+  pub beneath : Task → List Task
+
+-- the tasks that are made so far, with the mark of each
+pub record Made (Task : Type 0) : Type 0 where
+  pub tasks : List Task
+  pub marks : List Mark
+
+-- the numbers of the tasks without a ready entry, in the order of making, counted from the first number
+abbrev pub waiting_from : ℕ → List Mark → List ℕ
+waiting_from n [] = []
+waiting_from n (untold ∷ marks) = n ∷ waiting_from (suc n) marks
+waiting_from n (begun ∷ marks) = n ∷ waiting_from (suc n) marks
+waiting_from n (ready ∷ marks) = waiting_from (suc n) marks
+
+abbrev pub waiting : {Task : Type 0} → Made Task → List ℕ
+waiting made = waiting_from 0 made.marks
+
+-- new tasks, without an entry
+abbrev pub untold_marks : {Task : Type 0} → List Task → List Mark
+untold_marks [] = []
+untold_marks (task ∷ tasks) = untold ∷ untold_marks tasks
+
+abbrev pub fresh : {Task : Type 0} → List Task → Made Task
+fresh tasks = record { tasks = tasks; marks = untold_marks tasks }
+
+abbrev pub beneath_of : {Task : Type 0} → Story Task → Option Task → List Task
+beneath_of story None = []
+beneath_of story (Some task) = story.beneath task
+
+-- a pending entry marks its task; a ready entry marks it too, and the tasks beneath its answer are made
+abbrev pub after_pending : {Task : Type 0} → Made Task → ℕ → Made Task
+after_pending made task = record { tasks = made.tasks; marks = slice_set made.marks task begun }
+
+abbrev pub after_ready : {Task : Type 0} → Made Task → ℕ → List Task → Made Task
+after_ready made task more = record { tasks = made.tasks ++ more; marks = slice_set made.marks task ready ++ untold_marks more }
+
+abbrev pub after_mark : {Task : Type 0} → Story Task → Made Task → ℕ → Bool → Made Task
+after_mark story made task is_ready = if is_ready then after_ready made task (beneath_of story (slice_get made.tasks task)) else after_pending made task
+
+abbrev pub after_entry : {Task : Type 0} → Story Task → Made Task → RecordEntry → Made Task
+after_entry story made entry = after_mark story made entry.task entry.ready
+
+-- an entry has the resolver's number and the path's text of its task
+abbrev pub NamesTask : {Task : Type 0} → Story Task → Option Task → RecordEntry → Type 0
+NamesTask story None entry = ⊥
+NamesTask story (Some task) entry = (entry.resolver ≡ story.resolver task) × (entry.path ≡ story.path task)
+
+-- each entry is of the task that the turns choose among those that wait before it
+abbrev pub Turned : {Task State : Type 0} → (State → ℕ → ℕ) → (State → ℕ → State) → Story Task → State → Made Task → List RecordEntry → Type 0
+Turned choice after story state made [] = Unit {0}
+Turned choice after story state made (entry ∷ entries) =
+    (slice_get (waiting made) (choice state (length (waiting made))) ≡ Some entry.task)
+    × NamesTask story (slice_get made.tasks entry.task) entry
+    × Turned choice after story (after state (length (waiting made))) (after_entry story made entry) entries
+
+-- the state of the turns after a record, and the tasks and marks after it
+abbrev pub state_at : {Task State : Type 0} → (State → ℕ → State) → Story Task → State → Made Task → List RecordEntry → State
+state_at after story state made [] = state
+state_at after story state made (entry ∷ entries) = state_at after story (after state (length (waiting made))) (after_entry story made entry) entries
+
+abbrev pub made_at : {Task : Type 0} → Story Task → Made Task → List RecordEntry → Made Task
+made_at story made [] = made
+made_at story made (entry ∷ entries) = made_at story (after_entry story made entry) entries
+
+-- the tasks that begin in a record, each at its first entry
+abbrev pub begins : ℕ → Option Mark → List ℕ
+begins task None = []
+begins task (Some untold) = task ∷ []
+begins task (Some begun) = []
+begins task (Some ready) = []
+
+abbrev pub begun_at : {Task : Type 0} → Story Task → Made Task → List RecordEntry → List ℕ
+begun_at story made [] = []
+begun_at story made (entry ∷ entries) = begins entry.task (slice_get made.marks entry.task) ++ begun_at story (after_entry story made entry) entries
+
+-- one stretch of an execution: the entries that the set was told, which the turns chose, and what stands after them
+pub record Ran {Task State : Type 0} (choice : State → ℕ → ℕ) (after : State → ℕ → State) (story : Story Task)
+    (told told' : Option (List RecordEntry)) (starts starts' : Option (List ℕ)) (state state' : Option State) (made made' : Made Task) : Type 0 where
+  pub entries : List RecordEntry
+  pub told_is : told' ≡ with_more told entries
+  pub starts_is : starts' ≡ with_more starts (begun_at story made entries)
+  pub turned : ForSome state (λ s. Turned choice after story s made entries)
+  pub state_is : state' ≡ option_map (λ s. state_at after story s made entries) state
+  pub made_is : made' ≡ made_at story made entries
+
+-- what an execution that ended for want of memory has told: such a stretch, and at most one task more has begun
+pub record Stopped {Task State : Type 0} (choice : State → ℕ → ℕ) (after : State → ℕ → State) (story : Story Task)
+    (told told' : Option (List RecordEntry)) (starts starts' : Option (List ℕ)) (state : Option State) (made : Made Task) : Type 0 where
+  pub entries : List RecordEntry
+  pub told_is : told' ≡ with_more told entries
+  pub last : List ℕ
+  pub at_most_one : length last ≤ 1
+  pub starts_is : starts' ≡ with_more starts (begun_at story made entries ++ last)
+  pub turned : ForSome state (λ s. Turned choice after story s made entries)

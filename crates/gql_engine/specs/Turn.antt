@@ -1,0 +1,67 @@
+-- What one turn does to the task that it takes.
+use Rattle.std.specs.Prelude.{ℕ, ◌≡◌, ◌<◌, ◌+◌, List, [], ◌∷◌, ◌⊎◌, Option, Result, Ok, Err, Bool, true, false}
+use Rattle.gql_resolve.specs.declared.answer.Answer.{Answer}
+use Rattle.gql_resolve.specs.declared.record_entry.RecordEntry.{RecordEntry}
+use Rattle.gql_resolve.specs.declared.resolver_context.ResolverContext.{ResolverContext}
+use Rattle.gql_resolve.specs.Record.{entry_of, with_more}
+use Rattle.gql_engine.specs.declared.rounds.Entered.{Entered}
+use Rattle.gql_engine.specs.declared.rounds.Entered.TheVariants as entered
+use Rattle.gql_engine.specs.declared.arena.State.{State}
+use Rattle.gql_engine.specs.declared.arena.State.TheVariants as state
+use Rattle.gql_engine.specs.declared.arena.Turn.{Turn}
+use Rattle.gql_engine.specs.declared.arena.Turn.TheVariants as turn
+
+-- the hooks answer nothing themselves
+abbrev pub GoesOn : {V E : Type 0} → Result (Entered V) E → Type 0
+GoesOn (Ok entered.Go) = Unit {0}
+GoesOn (Ok (entered.Answer answer)) = ⊥
+GoesOn (Err e) = Unit {0}
+
+-- a state whose task may be taken up: its future, where it has one, is for its call
+abbrev pub IsOpen : {F C : Type 0} → (F → C → Type 0) → C → State F → Type 0
+IsOpen is_for call state.Fresh = Unit {0}
+IsOpen is_for call (state.Waiting future) = is_for future call
+IsOpen is_for call state.Done = ⊥
+
+-- what stands after a turn without an answer: a future for the call, which is new, or whose number fell
+abbrev pub StartsWaiting : {F C : Type 0} → (F → C → Type 0) → C → State F → State F → Type 0
+StartsWaiting is_for call state.Fresh (state.Waiting new) = is_for new call
+StartsWaiting is_for call state.Fresh state.Fresh = ⊥
+StartsWaiting is_for call state.Fresh state.Done = ⊥
+StartsWaiting is_for call (state.Waiting old) new = ⊥
+StartsWaiting is_for call state.Done new = ⊥
+
+abbrev pub KeepsWaiting : {F C : Type 0} → (F → C → Type 0) → (F → ℕ) → C → State F → State F → Type 0
+KeepsWaiting is_for number call (state.Waiting old) (state.Waiting new) = is_for new call × (number new < number old)
+KeepsWaiting is_for number call (state.Waiting old) state.Fresh = ⊥
+KeepsWaiting is_for number call (state.Waiting old) state.Done = ⊥
+KeepsWaiting is_for number call state.Fresh new = ⊥
+KeepsWaiting is_for number call state.Done new = ⊥
+
+abbrev pub TurnOf : {V F C : Type 0} → (F → C → Type 0) → (F → ℕ) → C → State F → State F → Turn V → Type 0
+TurnOf is_for number call old new (turn.Answered answer) = Unit {0}
+TurnOf is_for number call old new turn.Begun = StartsWaiting is_for call old new
+TurnOf is_for number call old new turn.Pending = KeepsWaiting is_for number call old new
+
+-- an answer is the one that is due
+abbrev pub AnswersRightly : {V E : Type 0} → Answer V → Result (Turn V) E → Type 0
+AnswersRightly due (Ok (turn.Answered answer)) = answer ≡ due
+AnswersRightly due (Ok turn.Begun) = Unit {0}
+AnswersRightly due (Ok turn.Pending) = Unit {0}
+AnswersRightly due (Err e) = Unit {0}
+
+-- the entry that a turn adds to the record, and the task that it begins
+abbrev pub told_by_turn : {V E : Type 0} → ResolverContext V → Result (Turn V) E → List RecordEntry
+told_by_turn context (Ok (turn.Answered answer)) = entry_of context true ∷ []
+told_by_turn context (Ok turn.Begun) = entry_of context false ∷ []
+told_by_turn context (Ok turn.Pending) = entry_of context false ∷ []
+told_by_turn context (Err e) = []
+
+abbrev pub begins_now : {F : Type 0} → ℕ → State F → List ℕ
+begins_now task state.Fresh = task ∷ []
+begins_now task (state.Waiting future) = []
+begins_now task state.Done = []
+
+-- where memory was wanting, the task may have begun without an entry
+abbrev pub BeginsAtMost : ℕ → Option (List ℕ) → Option (List ℕ) → Type 0
+BeginsAtMost task old new = (new ≡ old) ⊎ (new ≡ with_more old (task ∷ []))

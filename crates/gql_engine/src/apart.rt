@@ -1,0 +1,63 @@
+ghost use Rattle.std.specs.Prelude.{◌≡◌, [], false, IfOk, IfErr, OnOk, OnErr};
+ghost use Rattle.gql_resolve.specs.Call.{is_mutation};
+ghost use Rattle.gql_engine.specs.Apart.{respond, asked_in, subject_in, root_of, unite_all, join};
+ghost use Rattle.gql_engine.specs.ApartPlan.{places_here};
+ghost use Rattle.gql_engine.specs.Progress.{RunsWhole, RunStopped};
+
+use crate::apart_plan::ApartPlan;
+use crate::arena::Arena;
+use crate::assembling::members_of;
+use crate::gathering::plan_of;
+use crate::place::{Place, Tree};
+use crate::scene::Scene;
+use crate::scheduler::finish;
+use crate::settling::fresh_arena;
+use gql_base::{Items, Made, NoMemory};
+use gql_request::Hooks;
+use gql_resolve::{ResolverSet, Turns};
+use std::alloc::Global;
+
+/// The place of the whole response of a flat object: each occurrence of a field is one task, and the tasks take the turns
+/// that are chosen for them.
+pub fn run_apart<R: ResolverSet, P: Turns>(
+    alloc: Global,
+    scene: &Scene<'_, R::Own>,
+    resolvers: &mut R,
+    hooks: &mut Hooks,
+    turns: &mut P,
+) -> Result<Place, NoMemory>
+    requires { is_mutation scene.now.env.now.operation.node.ty ≡ false }
+    ensures places { R.is_lawful resolvers.old → IfOk result (λ place. place ≡ respond scene.now (λ call. R.answer (R.rules resolvers.old) call (R.world resolvers.old))) }
+    ensures rules { R.rules resolvers.new ≡ R.rules resolvers.old }
+    ensures lawful { R.is_lawful resolvers.old → R.is_lawful resolvers.new }
+    ensures world { R.is_lawful resolvers.old → R.world resolvers.new ≡ R.world resolvers.old }
+    ensures record { R.is_lawful resolvers.old → OnOk result (RunsWhole P.choice P.after subject_in (λ call. R.answer (R.rules resolvers.old) call (R.world resolvers.old)) (asked_in scene.now)
+        (R.told resolvers.old) (R.told resolvers.new) (R.begun resolvers.old) (R.begun resolvers.new) (P.state turns.old) (P.state turns.new)) }
+    ensures stopped { R.is_lawful resolvers.old → OnErr result (RunStopped P.choice P.after subject_in (λ call. R.answer (R.rules resolvers.old) call (R.world resolvers.old)) (asked_in scene.now)
+        (R.told resolvers.old) (R.told resolvers.new) (R.begun resolvers.old) (R.begun resolvers.new) (P.state turns.old)) }
+    ensures roots { IfErr result (λ want. want.roots ≡ 0) }
+{
+    let mut plan = plan_of(alloc, scene)?;
+    let mut arena = fresh_arena(alloc, plan.occurrences.len())?;
+    finish(alloc, &mut plan, &mut arena, resolvers, hooks, turns)?;
+    Ok(root_place(alloc, scene, plan)?)
+}
+
+/// The place of the root, of the places of its fields.
+fn root_place<V: Drop>(alloc: Global, scene: &Scene<'_, V>, plan: ApartPlan<'_, V>) -> Made<Place>
+    ensures { IfOk result (λ place. place ≡ root_of scene.now (unite_all join [] (places_here plan.entry.occurrences.items))) }
+{
+    let ApartPlan {
+        scene: _,
+        arguments: _,
+        occurrences,
+    } = plan;
+    let members = members_of(alloc, occurrences)?;
+    Ok(Place {
+        pos: scene.env.operation.pos,
+        non_null: false,
+        added: Items::new(alloc),
+        headers: Items::new(alloc),
+        tree: Tree::Object(members),
+    })
+}

@@ -1,0 +1,71 @@
+ghost use Rattle.std.specs.Prelude.{◌≡◌, []};
+
+use crate::occurrence::Occurrence;
+use crate::placing::place_at;
+use crate::plan::Plan;
+use crate::scene::Scene;
+use gql_base::{Made, Pairs, Value};
+use gql_input::ObjectAccessor;
+use gql_request::QueryPathNode;
+use gql_resolve::{Answer, ResolverContext};
+use std::alloc::Global;
+
+/// The occurrences of a flat object's fields, each with its place once it is answered.
+#[derive(Drop)]
+pub struct ApartPlan<'a, V> {
+    pub scene: &'a Scene<'a, V>,
+    pub arguments: Pairs<Value>,
+    pub occurrences: Vec<Occurrence<'a>>,
+    pub ghost bare: { arguments ≡ [] },
+}
+
+impl<'a, V: Drop> Plan<V> for ApartPlan<'a, V> {
+    ghost use Rattle.std.specs.Prelude.{ℕ, ◌<◌, ◌++◌, false, Some, List, length, slice_get, IfOk, OnOk};
+    ghost use Rattle.gql_engine.specs.Apart.{Asked};
+    ghost use Rattle.gql_engine.specs.ApartPlan.{all_seen, Keeps};
+    ghost use Rattle.std.proofs.Common.{rules};
+
+    ghost Task = { Asked V };
+
+    ghost tasks = { λ plan. all_seen plan.scene.now plan.occurrences.items };
+
+    ghost call = { λ task. task.call };
+
+    ghost path = { λ task. task.path };
+
+    ghost beneath = { λ task answer. [] };
+
+    ghost holds = { λ plan number answer. Keeps plan.scene.now plan.occurrences.items number answer };
+
+    ghost never_roots = { λ task answer place below is. Prim.search rules };
+
+    fn context<'c>(&'c self, number: usize) -> ResolverContext<'c, V> {
+        let occurrence = &self.occurrences[number];
+        ResolverContext {
+            resolver: occurrence.declared.resolver(),
+            task: number as u64,
+            args: ObjectAccessor::new(&self.arguments),
+            parent_value: self.scene.root,
+            path_node: QueryPathNode {
+                segments: occurrence.path.as_slice(),
+            },
+            item: &occurrence.item.node,
+            env: self.scene.env,
+            layers: self.scene.layers,
+        }
+    }
+
+    fn complete(&mut self, alloc: Global, number: usize, answer: Answer<V>) -> Made<usize>
+        requires { number < length (all_seen self.old.scene.now self.old.occurrences.items) }
+        ensures made { (task : Asked V) → slice_get (all_seen self.old.scene.now self.old.occurrences.items) number ≡ Some task
+            → IfOk result (λ count. (all_seen self.new.scene.now self.new.occurrences.items ≡ all_seen self.old.scene.now self.old.occurrences.items ++ []) × (count ≡ 0)) }
+        ensures holds { OnOk result (Keeps self.new.scene.now self.new.occurrences.items number answer) }
+        ensures keeps { OnOk result ((other : ℕ) (a : Answer V) → (other ≡ number → ⊥) → Keeps self.old.scene.now self.old.occurrences.items other a
+            → Keeps self.new.scene.now self.new.occurrences.items other a) }
+    {
+        let occurrence = &self.occurrences[number];
+        let place = place_at(alloc, occurrence, answer)?;
+        self.occurrences[number].place = Some(place);
+        Ok(0)
+    }
+}

@@ -1,0 +1,25 @@
+use gql_resolve::Answer;
+use std::collections::VecDeque;
+
+/// How far a task has come: it was never begun, its resolver's future waits, or it has its answer.
+#[derive(Debug, Drop)]
+pub enum State<F> {
+    Fresh,
+    Waiting(F),
+    Done,
+}
+
+/// The states of the tasks of a plan, and the numbers of those without an answer, in the order of making.
+#[derive(Debug, Drop)]
+pub struct Arena<F> {
+    pub states: Vec<State<F>>,
+    pub waiting: VecDeque<usize>,
+}
+
+/// What one turn gave: the task's answer, its first pending poll, or a later one.
+#[derive(Debug, Drop)]
+pub enum Turn<V> {
+    Answered(Answer<V>),
+    Begun,
+    Pending,
+}

@@ -1,0 +1,32 @@
+//! The engine of tasks: resolver calls that wait independently, taken up by turns.
+#![tactic(auto)]
+
+mod apart;
+mod apart_plan;
+mod arena;
+mod assembling;
+mod completion;
+mod gathering;
+#[cfg(test)]
+mod meeting;
+mod occurrence;
+mod place;
+mod placing;
+mod plan;
+mod rounds;
+mod scene;
+mod scheduler;
+mod settling;
+mod shape;
+#[cfg(test)]
+mod tests;
+mod turning;
+
+pub use apart::run_apart;
+pub use arena::{Arena, State, Turn};
+pub use place::{Place, Tree};
+pub use plan::Plan;
+pub use rounds::{Entered, Rounds};
+pub use scene::Scene;
+pub use scheduler::finish;
+pub use settling::fresh_arena;

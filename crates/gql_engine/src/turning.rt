@@ -1,0 +1,106 @@
+ghost use Rattle.std.specs.Prelude.{ℕ, ◌≡◌, ◌<◌, ◌++◌, [], ◌∷◌, Some, length, OnOk, IfOk, OnErr};
+ghost use Rattle.gql_resolve.specs.Record.{with_more};
+ghost use Rattle.gql_resolve.specs.Lawful.{plain_answer};
+ghost use Rattle.gql_resolve.specs.Call.{call_of};
+ghost use Rattle.gql_engine.specs.Turn.{BeginsAtMost, IsOpen, TurnOf, AnswersRightly, told_by_turn, begins_now};
+
+use crate::arena::{State, Turn};
+use crate::rounds::{Entered, Rounds};
+use gql_base::{Items, Made};
+use gql_resolve::{Answer, FieldFuture, FieldValue, Polled, ResolverContext, ResolverSet};
+use std::alloc::Global;
+
+#[tactic(auto, using(crate::proofs::RecordLemmas::with_more_none))]
+/// Takes up a task: begins it where it is fresh, and polls its future.
+pub fn take_turn<R: ResolverSet, H: Rounds<R::Own>>(
+    alloc: Global,
+    resolvers: &mut R,
+    hooks: &mut H,
+    state: &mut State<R::Future>,
+    context: &ResolverContext<'_, R::Own>,
+) -> Made<Turn<R::Own>>
+    requires { IsOpen R.is_for (call_of context.now) state.old }
+    ensures rules { R.rules resolvers.new ≡ R.rules resolvers.old }
+    ensures promise { IfOk result (TurnOf R.is_for R.number (call_of context.now) state.old state.new) }
+    ensures lawful { R.is_lawful resolvers.old → R.is_lawful resolvers.new }
+    ensures world { R.is_lawful resolvers.old → R.world resolvers.new ≡ R.world resolvers.old }
+    ensures quiet { H.are_quiet hooks.old → H.are_quiet hooks.new }
+    ensures answer { R.is_lawful resolvers.old → H.are_quiet hooks.old → AnswersRightly (R.answer (R.rules resolvers.old) (call_of context.now) (R.world resolvers.old)) result }
+    ensures told { H.are_quiet hooks.old → R.told resolvers.new ≡ with_more (R.told resolvers.old) (told_by_turn context.now result) }
+    ensures begun { H.are_quiet hooks.old → OnOk result (R.begun resolvers.new ≡ with_more (R.begun resolvers.old) (begins_now context.now.task state.old)) }
+    ensures unbegun { H.are_quiet hooks.old → OnErr result (BeginsAtMost context.now.task (R.begun resolvers.old) (R.begun resolvers.new)) }
+{
+    match state {
+        State::Fresh => begin(alloc, resolvers, hooks, state, context),
+        State::Waiting(future) => match resolvers.poll(alloc, future, context)? {
+            Polled::Ready(answer) => Ok(Turn::Answered(answer)),
+            Polled::Pending => Ok(Turn::Pending),
+        },
+        State::Done => unreachable!(),
+    }
+}
+
+/// The first turn of a task: the hooks, the start, and the first poll of a future.
+fn begin<R: ResolverSet, H: Rounds<R::Own>>(
+    alloc: Global,
+    resolvers: &mut R,
+    hooks: &mut H,
+    state: &mut State<R::Future>,
+    context: &ResolverContext<'_, R::Own>,
+) -> Made<Turn<R::Own>>
+    ensures rules { R.rules resolvers.new ≡ R.rules resolvers.old }
+    ensures promise { IfOk result (TurnOf R.is_for R.number (call_of context.now) State.Fresh state.new) }
+    ensures lawful { R.is_lawful resolvers.old → R.is_lawful resolvers.new }
+    ensures world { R.is_lawful resolvers.old → R.world resolvers.new ≡ R.world resolvers.old }
+    ensures quiet { H.are_quiet hooks.old → H.are_quiet hooks.new }
+    ensures answer { R.is_lawful resolvers.old → H.are_quiet hooks.old → AnswersRightly (R.answer (R.rules resolvers.old) (call_of context.now) (R.world resolvers.old)) result }
+    ensures told { H.are_quiet hooks.old → R.told resolvers.new ≡ with_more (R.told resolvers.old) (told_by_turn context.now result) }
+    ensures begun { H.are_quiet hooks.old → OnOk result (R.begun resolvers.new ≡ with_more (R.begun resolvers.old) (context.now.task ∷ [])) }
+    ensures unbegun { H.are_quiet hooks.old → OnErr result (BeginsAtMost context.now.task (R.begun resolvers.old) (R.begun resolvers.new)) }
+{
+    match hooks.enter(context)? {
+        Entered::Answer(answer) => Ok(Turn::Answered(answer)),
+        Entered::Go => match resolvers.start(alloc, context)? {
+            FieldFuture::Value(value) => Ok(Turn::Answered(answer_of(alloc, value))),
+            FieldFuture::Future(future) => poll_first(alloc, resolvers, state, future, context),
+        },
+    }
+}
+
+/// Polls a future for the first time, and keeps it where it is pending.
+fn poll_first<R: ResolverSet>(
+    alloc: Global,
+    resolvers: &mut R,
+    state: &mut State<R::Future>,
+    future: R::Future,
+    context: &ResolverContext<'_, R::Own>,
+) -> Made<Turn<R::Own>>
+    requires { R.is_for future (call_of context.now) }
+    ensures rules { R.rules resolvers.new ≡ R.rules resolvers.old }
+    ensures promise { IfOk result (TurnOf R.is_for R.number (call_of context.now) State.Fresh state.new) }
+    ensures lawful { R.is_lawful resolvers.old → R.is_lawful resolvers.new }
+    ensures world { R.is_lawful resolvers.old → R.world resolvers.new ≡ R.world resolvers.old }
+    ensures answer { R.is_lawful resolvers.old → AnswersRightly (R.answer (R.rules resolvers.old) (call_of context.now) (R.world resolvers.old)) result }
+    ensures told { R.told resolvers.new ≡ with_more (R.told resolvers.old) (told_by_turn context.now result) }
+    ensures begun { R.begun resolvers.new ≡ R.begun resolvers.old }
+{
+    let mut future = future;
+    match resolvers.poll(alloc, &mut future, context)? {
+        Polled::Ready(answer) => Ok(Turn::Answered(answer)),
+        Polled::Pending => {
+            *state = State::Waiting(future);
+            Ok(Turn::Begun)
+        }
+    }
+}
+
+/// The answer of a start that gives a value: no error and no header is added.
+fn answer_of<V>(alloc: Global, value: Option<FieldValue<V>>) -> Answer<V>
+    ensures { result ≡ plain_answer value }
+{
+    Answer {
+        result: Ok(value),
+        added: Items::new(alloc),
+        headers: Items::new(alloc),
+    }
+}
