@@ -1,6 +1,6 @@
 -- One turn: what it does to the tasks, their states and the record.
-use Rattle.std.proofs.Common.{ℕ, zero, suc, ◌≡◌, ◌+◌, ◌^◌, ◌<◌, ◌≤◌, List, [], ◌∷◌, ◌++◌, length, get_or, refl, sym, ap, subst, ◌∙◌, arith, inl, inr}
-use Rattle.std.specs.Prelude.{Option, Some, None, option_map, slice_get, slice_set, true, false, ◌⊎◌, Result, Ok, Err, OnErr}
+use Rattle.std.proofs.Common.{ℕ, ◌≡◌, ◌^◌, ◌≤◌, List, [], ◌∷◌, ◌++◌, length, get_or, refl, sym, ap, subst, ◌∙◌, arith, inl, inr}
+use Rattle.std.specs.Prelude.{Option, Some, option_map, slice_get, slice_set, true, false, Result, Ok, Err, OnErr}
 use Rattle.std.specs.Option.{ForSome}
 use Rattle.gql_resolve.specs.Call.{Call, call_of}
 use Rattle.gql_resolve.specs.Record.{with_more, entry_of}
@@ -9,11 +9,11 @@ use Rattle.gql_resolve.specs.declared.record_entry.RecordEntry.{RecordEntry}
 use Rattle.gql_resolve.specs.declared.resolver_context.ResolverContext.{ResolverContext}
 use Rattle.gql_engine.specs.declared.arena.State.{State}
 use Rattle.gql_engine.specs.declared.arena.State.TheVariants as state
-use Rattle.gql_engine.specs.Record.{waiting_from, Ran, Stopped}
-use Rattle.gql_engine.specs.Arena.{marks_of, made_of, fresh_states, Subject, IsSound, IsRight, Nearer}
+use Rattle.gql_engine.specs.Record.{waiting_from}
+use Rattle.gql_engine.specs.Arena.{marks_of, made_of, fresh_states, Subject, IsSound, Nearer}
 use Rattle.gql_engine.specs.Plan.{IsContextOf}
-use Rattle.gql_engine.specs.Progress.{Agrees, story_of, Progress, Ended, stage_of}
-use Rattle.gql_engine.specs.Turn.{IsOpen, StartsWaiting, KeepsWaiting, begins_now, BeginsAtMost}
+use Rattle.gql_engine.specs.Progress.{Agrees, Progress, Ended, stage_of}
+use Rattle.gql_engine.specs.Turn.{StartsWaiting, KeepsWaiting, begins_now, BeginsAtMost}
 use Rattle.gql_engine.proofs.Lists.{set_set}
 use Rattle.gql_engine.proofs.NearerLemmas.{nearer_settled}
 use Rattle.gql_engine.proofs.PickLemmas.{Pick, picked, open_undone}

@@ -1,7 +1,7 @@
 -- From the first turn to the last: fresh tasks, and what stands when none waits.
-use Rattle.std.proofs.Common.{ℕ, zero, suc, ◌≡◌, ◌+◌, ◌<◌, ◌≤◌, Bool, true, false, List, [], ◌∷◌, ◌++◌, length, map, refl, sym, ap, subst, ◌∙◌, arith}
+use Rattle.std.proofs.Common.{ℕ, zero, suc, ◌≡◌, Bool, true, false, List, [], ◌∷◌, ◌++◌, length, refl, sym, ap, subst, ◌∙◌, arith}
 use Rattle.std.proofs.lemmas.List.{append-nil, length-map}
-use Rattle.std.specs.Prelude.{Option, Some, None, ◌&&◌, slice_get, slice_set}
+use Rattle.std.specs.Prelude.{Option, Some, None, ◌&&◌, slice_get}
 use Rattle.gql_resolve.specs.Call.{Call, is_mutation}
 use Rattle.gql_resolve.specs.Record.{with_more}
 use Rattle.gql_resolve.specs.declared.answer.Answer.{Answer}
@@ -13,7 +13,7 @@ use Rattle.gql_engine.specs.declared.scene.Scene.{Scene}
 use Rattle.gql_engine.specs.Apart.{Asked, asked_in, subject_in, placed, place_of, respond, root_of, unite_all, join}
 use Rattle.gql_engine.specs.ApartPlan.{seen, all_seen, Keeps, place_here, places_here}
 use Rattle.gql_engine.specs.Arena.{mark_of, marks_of, made_of, fresh_states, Subject, IsSound, IsRight}
-use Rattle.gql_engine.specs.Progress.{Stage, stage_of, Agrees, story_of, Progress, Ended, RunsWhole, RunStopped}
+use Rattle.gql_engine.specs.Progress.{stage_of, Agrees, story_of, Progress, Ended, RunsWhole, RunStopped}
 use Rattle.gql_engine.specs.Record.{Mark, untold, begun, ready, Story, Made, Ran, Stopped, waiting_from, waiting, untold_marks, fresh, after_mark, after_entry, made_at, begun_at}
 use Rattle.gql_engine.proofs.Lists.{get_map, get_at, get_within}
 use Rattle.gql_engine.proofs.RecordLemmas.{with_more_none}

@@ -7,6 +7,8 @@ mod arena;
 mod assembling;
 mod completion;
 mod gathering;
+#[cfg(test)]
+mod meeting;
 mod occurrence;
 mod place;
 mod placing;
@@ -16,6 +18,8 @@ mod scene;
 mod scheduler;
 mod settling;
 mod shape;
+#[cfg(test)]
+mod tests;
 mod turning;
 
 pub use apart::run_apart;

@@ -1,6 +1,8 @@
 //! Each public call with ample memory. What a test looks at is made by small functions beside it, since a test is proved too.
-use crate::{Data, DataKey, HeaderOp, Hooks, IntrospectionMode, QueryPathNode};
-use gql_base::{Copied, Made, Number, PathSegment, Text, Value};
+ghost use Rattle.std.specs.Prelude.{◌≡◌, [], ◌∷◌, IfOk};
+
+use crate::{Data, DataKey, HeaderOp, Hooks, IntrospectionMode, NoData, Parents, QueryPathNode};
+use gql_base::{Copied, Items, Made, Number, PathSegment, Text, Value};
 use http_header::{HeaderName, HeaderValue};
 use std::alloc::Global;
 use std::test::Fail;
@@ -41,26 +43,76 @@ fn path(alloc: Global) -> Made<[PathSegment; 4]> {
     ])
 }
 
+/// Whether a place has this text.
+fn has_text(alloc: Global, node: QueryPathNode<'_>, text: &str) -> Made<bool> {
+    Ok(node.text(alloc)?.as_str() == text)
+}
+
+/// Whether the segments of a place have four texts, the third of them `1`.
+fn has_four_texts(alloc: Global, node: QueryPathNode<'_>) -> Made<bool> {
+    let texts = node.to_string_vec(alloc)?;
+    match texts.get(2) {
+        Some(text) => Ok(texts.len() == 4 && text.as_str() == "1"),
+        None => Ok(false),
+    }
+}
+
+/// Whether the next parent has this text, and is the current place then.
+fn next_has_text(alloc: Global, parents: &mut Parents<'_>, text: &str) -> Made<bool> {
+    match parents.next() {
+        Some(parent) => {
+            Ok(has_text(alloc, parent, text)? && has_text(alloc, parents.current(), text)?)
+        }
+        None => Ok(false),
+    }
+}
+
 #[test]
 fn paths_and_their_parents(rt: HostRuntime) -> Result<(), Fail> {
-    let alloc = rt.alloc();
-    let segments = path(alloc)?;
+    let segments = path(rt.alloc())?;
     let node = QueryPathNode {
         segments: &segments,
     };
-    assert_eq!(rt; node.field_name(), "name");
-    assert_eq!(rt; node.text(alloc)?.as_str(), "hero.friends.1.name");
-    let texts = node.to_string_vec(alloc)?;
-    assert_eq!(rt; texts.len(), 4);
-    assert_eq!(rt; texts.get(2).map(|text| text.as_str() == "1"), Some(true));
+    assert!(rt; has_text(rt.alloc(), node, "hero.friends.1.name")?);
+    assert!(rt; has_four_texts(rt.alloc(), node)?);
     let mut parents = node.parents();
     for text in ["hero.friends.1", "hero.friends", "hero"] {
-        let parent = parents.next().ok_or("too few parents")?;
-        assert_eq!(rt; parent.text(alloc)?.as_str(), text);
-        assert_eq!(rt; parents.current().text(alloc)?.as_str(), text);
+        assert!(rt; next_has_text(rt.alloc(), &mut parents, text)?);
     }
     assert!(rt; parents.next().is_none());
     Ok(())
+}
+
+/// The path of one key.
+fn one_key(alloc: Global, key: &str) -> Made<Items<PathSegment>>
+    ensures { IfOk result (λ segments. segments ≡ PathSegment.Field key.now ∷ []) }
+{
+    let mut segments = Items::new(alloc);
+    segments.push(PathSegment::Field(Text::new(alloc, key)?))?;
+    Ok(segments)
+}
+
+#[test]
+fn the_innermost_key(rt: HostRuntime) -> Result<(), Fail> {
+    let segments = one_key(rt.alloc(), "name")?;
+    let node = QueryPathNode {
+        segments: segments.as_slice(),
+    };
+    assert_eq!(rt; node.field_name(), "name");
+    Ok(())
+}
+
+/// Whether an operation adds the value 1 to the header x-a.
+fn is_expected(op: &HeaderOp) -> bool {
+    match op {
+        HeaderOp::Append(name, value) => name.as_str() == "x-a" && value.len() == 1,
+        HeaderOp::Insert(_, _) => false,
+    }
+}
+
+fn copied(alloc: Global, op: &HeaderOp) -> Made<bool> {
+    let copy = op.try_clone(alloc)?;
+    Ok(is_expected(&copy))
 }
 
 #[test]
@@ -70,14 +122,21 @@ fn header_operations_and_hooks(rt: HostRuntime) -> Result<(), Fail> {
         HeaderName::from_static("x-a"),
         HeaderValue::from_static("1"),
     );
-    let is_same = match op.try_clone(alloc)? {
-        HeaderOp::Append(name, value) => {
-            name == HeaderName::from_static("x-a") && value == HeaderValue::from_static("1")
-        }
-        HeaderOp::Insert(_, _) => false,
-    };
-    assert!(rt; is_same);
+    assert!(rt; copied(alloc, &op)?);
     let _hooks = Hooks::none(alloc);
     assert!(rt; IntrospectionMode::default() == IntrospectionMode::Enabled);
     Ok(())
+}
+
+fn is_send_sync<T: Send + Sync>() {}
+
+#[test]
+fn types_can_be_shared() {
+    is_send_sync::<Data>();
+    is_send_sync::<DataKey>();
+    is_send_sync::<HeaderOp>();
+    is_send_sync::<IntrospectionMode>();
+    is_send_sync::<NoData>();
+    is_send_sync::<Parents<'static>>();
+    is_send_sync::<QueryPathNode<'static>>();
 }

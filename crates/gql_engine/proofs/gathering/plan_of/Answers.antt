@@ -1,4 +1,3 @@
-use Rattle.std.proofs.Common.{rules, ◌≡◌, ◌<◌, length, arith}
 use Rattle.gql_engine.specs.ApartPlan.{all_seen}
 use Rattle.gql_engine.specs.Apart.{asked_in}
 use Rattle.gql_engine.proofs.ApartLemmas.{gathered}

@@ -1,15 +1,13 @@
-use Rattle.std.proofs.Common.{rules, ℕ, ◌≡◌, ◌<◌, [], length, ◌+◌, ◌≤◌, Bool, true, false, List, ◌∷◌, ◌++◌, slice_set, Some, slice_get, arith, sym, ap, subst, ◌∙◌, refl, inl, inr}
+use Rattle.std.proofs.Common.{arith, sym, subst, ◌∙◌}
 use Rattle.std.proofs.lemmas.Option.{slice_get_read}
-use Rattle.gql_engine.specs.declared.arena.State.TheVariants as state
 use Rattle.gql_resolve.specs.Call.{Call, call_of}
-use Rattle.gql_engine.specs.Arena.{IsSound, Nearer, subject_of, marks_of, fresh_states}
+use Rattle.gql_engine.specs.Arena.{subject_of}
 use Rattle.gql_engine.specs.Turn.{IsOpen}
-use Rattle.gql_engine.proofs.PickLemmas.{Pick, picked, picked_within, open_undone}
+use Rattle.gql_engine.proofs.PickLemmas.{picked, picked_within, open_undone}
 use Rattle.gql_engine.proofs.ArenaLemmas.{still_waits}
 use Rattle.gql_engine.proofs.Lists.{length_set}
 use Rattle.gql_engine.proofs.NearerLemmas.{nearer_begun, nearer_pending}
 use Rattle.gql_engine.proofs.AdvanceLemmas.{on_err, taken, sound_begun, sound_pending, sound_answered, progress_begun, progress_pending, progress_answered, nearer_answered, ended_before, ended_after}
-use Rattle.gql_engine.specs.Progress.{stage_of}
 use Rattle.gql_engine.proofs.scheduler.advance.Goals as goal
 
 pub context-context-requires : goal.context-context-requires

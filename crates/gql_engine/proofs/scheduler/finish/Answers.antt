@@ -1,6 +1,4 @@
-use Rattle.std.proofs.Common.{rules, ◌≡◌, ◌<◌, ap, ◌∙◌, sym, subst, length, arith}
-use Rattle.std.specs.Prelude.{Ok, false}
-use Rattle.gql_engine.specs.Arena.{Nearer, subject_of}
+use Rattle.gql_engine.specs.Arena.{subject_of}
 use Rattle.gql_engine.specs.Progress.{stage_of}
 use Rattle.gql_engine.proofs.AdvanceLemmas.{on_err}
 use Rattle.gql_engine.proofs.ProgressLemmas.{kept_none, kept_trans, due_kept, progress_none, progress_trans, ended_trans}

@@ -1,5 +1,4 @@
-use Rattle.std.proofs.Common.{◌≡◌, ◌<◌, length}
-use Rattle.gql_engine.specs.Arena.{IsSound, subject_of, events_left, polls_left}
+use Rattle.gql_engine.specs.Arena.{IsSound, subject_of, events_left}
 use Rattle.gql_engine.specs.Progress.{Kept, Progress, stage_of}
 use Rattle.gql_engine.proofs.scheduler.finish.Given as goal
 

@@ -1,4 +1,4 @@
-use Rattle.std.proofs.Common.{rules, refl, ℕ, List, ◌≡◌, ◌<◌, ap, ◌∙◌, sym, subst, length, arith}
+use Rattle.std.proofs.Common.{refl, ℕ, List, ◌≡◌, ◌<◌, ap, ◌∙◌, sym, subst, length}
 use Rattle.std.specs.Prelude.{Ok, false}
 use Rattle.gql_engine.specs.Arena.{Nearer, subject_of}
 use Rattle.gql_engine.specs.Progress.{stage_of}
