@@ -1,7 +1,7 @@
 //! Whole runs, over memory and over a pipe.
 use crate::{
-    Command, MemorySink, MemorySource, StdSink, StdSource, SureSink, SureSource, TableMaker, bench_of, run,
-    run_alone,
+    Command, MemorySink, MemorySource, StdSink, StdSource, SureSink, SureSource, TableMaker,
+    bench_of, run, run_alone,
 };
 use gql_base::{Items, Made, Number, Value};
 use serde_json::Value as Json;
@@ -26,7 +26,14 @@ fn blanks(alloc: Global, count: usize) -> Made<Items<u8>> {
 fn no_words_give_the_usage_line(rt: HostRuntime) -> Result<(), Fail> {
     let mut source = SureSource::new(Items::new(rt.alloc()), 1);
     let mut sink = SureSink::new(rt.alloc(), 1);
-    let status = run(&rt, rt.alloc(), &[], &mut source, &mut sink, &mut TableMaker::new());
+    let status = run(
+        &rt,
+        rt.alloc(),
+        &[],
+        &mut source,
+        &mut sink,
+        &mut TableMaker::new(),
+    );
     assert_eq!(rt; status, 2);
     let usage = "usage: gqlrun execute | record | batch | threads | stream | ws | load N\n";
     assert_eq!(rt; sink.held(), usage.as_bytes());
@@ -43,7 +50,13 @@ fn a_byte_past_the_limit_is_too_long(rt: HostRuntime) -> Result<(), Fail> {
         let mut source = SureSource::new(blanks(alloc, count)?, 100_000);
         let mut sink = SureSink::new(alloc, 100);
         let words = execute(alloc)?;
-        let answered = run_alone(alloc, words.as_slice(), &mut source, &mut sink, &mut TableMaker::new());
+        let answered = run_alone(
+            alloc,
+            words.as_slice(),
+            &mut source,
+            &mut sink,
+            &mut TableMaker::new(),
+        );
         assert_eq!(rt; answered, status, "at {count}");
         assert_eq!(rt; sink.held(), line.as_bytes(), "at {count}");
     }
@@ -65,7 +78,13 @@ fn faults_in_mid_stream(rt: HostRuntime) -> Result<(), Fail> {
         let mut source = MemorySource::new(bytes, 5, reads);
         let mut sink = MemorySink::new(alloc, 3, writes);
         let words = execute(alloc)?;
-        let answered = run_alone(alloc, words.as_slice(), &mut source, &mut sink, &mut TableMaker::new());
+        let answered = run_alone(
+            alloc,
+            words.as_slice(),
+            &mut source,
+            &mut sink,
+            &mut TableMaker::new(),
+        );
         assert_eq!(rt; answered, status, "at {failing_read} and {failing_write}");
         assert_eq!(rt;
             sink.held(),
@@ -85,7 +104,14 @@ fn through_pipes(rt: HostRuntime) -> Result<(), Fail> {
     let words = execute(rt.alloc())?;
     let mut source = StdSource::new(input);
     let mut sink = StdSink::new(output);
-    let status = run(&rt, rt.alloc(), words.as_slice(), &mut source, &mut sink, &mut TableMaker::new());
+    let status = run(
+        &rt,
+        rt.alloc(),
+        words.as_slice(),
+        &mut source,
+        &mut sink,
+        &mut TableMaker::new(),
+    );
     drop(sink);
     let mut text = Vec::new(rt.alloc());
     written.read_to_end(&mut text)?;
@@ -132,7 +158,13 @@ fn first_benches(rt: HostRuntime) -> Result<(), Fail> {
         let mut source = SureSource::new(Items::from_slice(alloc, input.as_bytes())?, 100);
         let mut sink = SureSink::new(alloc, 7);
         let words = execute(alloc)?;
-        let answered = run_alone(alloc, words.as_slice(), &mut source, &mut sink, &mut TableMaker::new());
+        let answered = run_alone(
+            alloc,
+            words.as_slice(),
+            &mut source,
+            &mut sink,
+            &mut TableMaker::new(),
+        );
         assert_eq!(rt; answered, status, "at {query}");
         assert_eq!(rt; sink.held(), line.as_bytes(), "at {query}");
     }
@@ -170,7 +202,13 @@ fn delays_and_turns(rt: HostRuntime) -> Result<(), Fail> {
         let mut source = SureSource::new(Items::from_slice(alloc, input.as_bytes())?, 100);
         let mut sink = SureSink::new(alloc, 100);
         let words = execute(alloc)?;
-        let answered = run_alone(alloc, words.as_slice(), &mut source, &mut sink, &mut TableMaker::new());
+        let answered = run_alone(
+            alloc,
+            words.as_slice(),
+            &mut source,
+            &mut sink,
+            &mut TableMaker::new(),
+        );
         assert_eq!(rt; answered, status, "at {answer}{more}");
     }
     Ok(())
@@ -207,7 +245,13 @@ fn queries_that_are_no_documents(rt: HostRuntime) -> Result<(), Fail> {
         let mut source = SureSource::new(Items::from_slice(alloc, input.as_bytes())?, 100);
         let mut sink = SureSink::new(alloc, 7);
         let words = execute(alloc)?;
-        let answered = run_alone(alloc, words.as_slice(), &mut source, &mut sink, &mut TableMaker::new());
+        let answered = run_alone(
+            alloc,
+            words.as_slice(),
+            &mut source,
+            &mut sink,
+            &mut TableMaker::new(),
+        );
         let line = format!(in alloc;
             "{{\"data\":null,\"errors\":[{{\"message\":\"Syntax error: {what}\",\"locations\":[{{\"line\":1,\"column\":{column}}}]}}]}}\n"
         )?;
@@ -224,7 +268,13 @@ fn an_empty_source(rt: HostRuntime) -> Result<(), Fail> {
     let mut sink = SureSink::new(alloc, 100);
     let words = execute(alloc)?;
     assert_eq!(rt;
-        run_alone(alloc, words.as_slice(), &mut source, &mut sink, &mut TableMaker::new()),
+        run_alone(
+            alloc,
+            words.as_slice(),
+            &mut source,
+            &mut sink,
+            &mut TableMaker::new()
+        ),
         3
     );
     assert_eq!(rt; sink.held(), b"bench: not JSON\n".as_slice());
