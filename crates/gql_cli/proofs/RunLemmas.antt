@@ -44,10 +44,3 @@ complete left given faults old new words TooLong status WriteFailed Holds due wh
     too-long status (HasRisen (faults old) (faults new)) WriteFailed Holds (left old) due.1.told
 complete left given faults old new words (Bench written) status WriteFailed Holds (known, (bytes, input, gives)) whole cause listed =
     given-text status (HasRisen (faults old) (faults new)) WriteFailed Holds (left old) bytes written (left new ≡ Some []) input.told gives whole cause
-
--- what was delivered is what was due
-pub written : (status : ℕ) (Due : Outcome → Type 0) (Holds : List ℕ → Type 0) (due : Outcome) → Due due
-    → IsCutOff status ⊎ ((status ≡ due_status due) × Holds (due_text due))
-    → IsCutOff status ⊎ ((told : Outcome) × Due told × (status ≡ due_status told) × Holds (due_text told))
-written status Due Holds due is (inl cut) = inl cut
-written status Due Holds due is (inr (same, holds)) = inr (due, is, same, holds)

@@ -2,7 +2,7 @@
 use Rattle.std.specs.Prelude.{◌≡◌, ◌⊎◌, ℕ, List, [], ◌∷◌, ◌++◌, Option, codes}
 use Rattle.gql_cli.specs.Bench.{Gives}
 use Rattle.gql_cli.specs.Reading.{IsInput, IsTooLong, HasFailed}
-use Rattle.gql_cli.specs.declared.bench.Written.TheVariants.{Answered, Refused, NotJson, NotBuilt}
+use Rattle.gql_cli.specs.declared.bench.Written.TheVariants.{Answered, NotJson, NotBuilt}
 use Rattle.gql_cli.specs.declared.outcome.Outcome.{Outcome}
 use Rattle.gql_cli.specs.declared.outcome.Outcome.TheVariants.{Usage, ReadFault, TooLong, Bench}
 
@@ -19,7 +19,6 @@ due_status Usage = 2
 due_status ReadFault = 4
 due_status TooLong = 7
 due_status (Bench (Answered text)) = 0
-due_status (Bench (Refused text)) = 1
 due_status (Bench NotJson) = 3
 due_status (Bench NotBuilt) = 3
 
@@ -28,7 +27,6 @@ due_text Usage = line (codes "usage: gqlrun execute | record | batch | threads |
 due_text ReadFault = line (codes "input: read fault")
 due_text TooLong = line (codes "input: too long")
 due_text (Bench (Answered text)) = text
-due_text (Bench (Refused text)) = text
 due_text (Bench NotJson) = line (codes "bench: not JSON")
 due_text (Bench NotBuilt) = line (codes "bench: not built yet")
 

@@ -1,16 +1,14 @@
 //! From the bytes of a bench to the text that is written.
 ghost use Rattle.std.specs.Prelude.{◌≡◌, IfOk, IfErr, MatchOption, codes, option_map};
 ghost use Rattle.serde_json.specs.View.{view};
-ghost use Rattle.gql_cli.specs.Bench.{json_of, JsonGives, Gives};
-ghost use Rattle.gql_cli.specs.BenchAnswers.{bench_answers, IsBenchOf, IsSuited, QueryGives};
-ghost use Rattle.gql_cli.specs.FirstBench.{IsNoFirstBench};
+ghost use Rattle.gql_cli.specs.Bench.{json_of, HasNoAnswer, JsonGives, Gives};
+ghost use Rattle.gql_cli.specs.BenchAnswers.{IsBenchOf};
 
-use crate::answer::{refusal_of, response_of};
+use crate::answer::response_of;
 use crate::first_bench::read_first_bench;
-use crate::table_maker::Tables;
+use crate::query::selected_names;
 use crate::tables::{Bench, bench_of_first};
 use gql_base::{Made, Text};
-use gql_doc::parse_query;
 use serde_json::Value;
 use std::alloc::{AllocError, Global};
 
@@ -19,8 +17,6 @@ use std::alloc::{AllocError, Global};
 pub enum Written {
     /// The text of the answer.
     Answered(Text),
-    /// The text that tells the fault of a query that is no document.
-    Refused(Text),
     /// The bytes are no JSON.
     NotJson,
     /// The JSON is no bench of the forms that are built.
@@ -35,12 +31,12 @@ pub enum Command {
 }
 
 /// What the bytes of a bench give.
-pub(crate) fn text_of<M: Tables>(alloc: Global, bytes: &[u8], tables: &mut M) -> Made<Written>
+pub(crate) fn text_of(alloc: Global, bytes: &[u8]) -> Made<Written>
     ensures { IfOk result (Gives bytes.now) }
 {
     match json_value(alloc, bytes)? {
         None => Ok(Written::NotJson),
-        Some(json) => bench_text(alloc, &json, tables),
+        Some(json) => bench_text(alloc, &json),
     }
 }
 
@@ -56,33 +52,22 @@ fn json_value(alloc: Global, bytes: &[u8]) -> Made<Option<Value>>
 }
 
 /// What a JSON value gives as a bench.
-fn bench_text<M: Tables>(alloc: Global, json: &Value, tables: &mut M) -> Made<Written>
+fn bench_text(alloc: Global, json: &Value) -> Made<Written>
     ensures { IfOk result (JsonGives (view json.now)) }
 {
     match bench_of(alloc, Command::Execute, json)? {
-        Ok(bench) => query_text(alloc, &bench, tables),
-        Err(_) => Ok(Written::NotBuilt),
-    }
-}
-
-/// What a bench's request gives.
-fn query_text<M: Tables>(alloc: Global, bench: &Bench, tables: &mut M) -> Made<Written>
-    requires { IsSuited bench.now }
-    ensures { IfOk result (QueryGives (bench_answers bench.now) bench.now.request) }
-{
-    match parse_query(alloc, bench.request.as_str())? {
-        Ok(document) => match response_of(alloc, bench, document, tables)? {
+        Ok(bench) => match response_of(alloc, &bench, bench.request.as_slice())? {
             Some(text) => Ok(Written::Answered(text)),
             None => Ok(Written::NotBuilt),
         },
-        Err(fault) => Ok(Written::Refused(refusal_of(alloc, fault)?)),
+        Err(_) => Ok(Written::NotBuilt),
     }
 }
 
 /// The bench of a JSON value for a command, or `not built yet` where it is none of the forms that are built.
 pub fn bench_of(alloc: Global, command: Command, json: &Value) -> Made<Result<Bench, Text>>
     ensures built { IfOk result (λ made. IfOk made (IsBenchOf (view json.now))) }
-    ensures refused { IfOk result (λ made. IfErr made (λ text. (text ≡ codes "not built yet") × IsNoFirstBench (view json.now))) }
+    ensures refused { IfOk result (λ made. IfErr made (λ text. (text ≡ codes "not built yet") × HasNoAnswer (view json.now))) }
 {
     let Command::Execute = command;
     match first_bench_of(alloc, json)? {
@@ -93,10 +78,20 @@ pub fn bench_of(alloc: Global, command: Command, json: &Value) -> Made<Result<Be
 
 /// The bench of a first bench.
 fn first_bench_of(alloc: Global, json: &Value) -> Made<Option<Bench>>
-    ensures { IfOk result (λ made. MatchOption made (IsNoFirstBench (view json.now)) (IsBenchOf (view json.now))) }
+    ensures { IfOk result (λ made. MatchOption made (HasNoAnswer (view json.now)) (IsBenchOf (view json.now))) }
 {
     let Some(first) = read_first_bench(alloc, json)? else {
         return Ok(None);
     };
-    bench_of_first(alloc, first)
+    let Some(names) = selected_names(alloc, first.query.as_str())? else {
+        return Ok(None);
+    };
+    let Some(bench) = bench_of_first(alloc, first, names)? else {
+        return Ok(None);
+    };
+    if bench.has_fields() {
+        Ok(Some(bench))
+    } else {
+        Ok(None)
+    }
 }

@@ -3,12 +3,8 @@
 
 mod answer;
 mod bench;
-#[cfg(test)]
-mod copy_tests;
-mod execution;
 mod first_bench;
 mod json_shape;
-mod list_turns;
 mod memory;
 mod outcome;
 mod program;
@@ -21,28 +17,20 @@ mod source;
 mod status;
 mod streams;
 mod sure;
-mod table;
-mod table_maker;
-#[cfg(test)]
-mod table_tests;
 mod tables;
 #[cfg(test)]
 mod tests;
 mod writing;
 
 pub use bench::{Command, Written, bench_of};
-pub use first_bench::LONGEST_DELAY;
-pub use list_turns::ListTurns;
 pub use memory::{MemorySink, MemorySource};
 pub use outcome::Outcome;
 pub use program::{run, run_alone};
 pub use reading::INPUT_LIMIT;
-pub use rule::{Rule, RuleKind};
+pub use rule::Rule;
 pub use sink::{Sink, SinkFault};
 pub use source::{Failed, Source};
 pub use status::Status;
 pub use streams::{StdSink, StdSource};
 pub use sure::{SureSink, SureSource};
-pub use table::{Table, TableFuture};
-pub use table_maker::{TableMaker, Tables};
 pub use tables::Bench;

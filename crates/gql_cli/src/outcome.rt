@@ -6,7 +6,6 @@ use crate::bench::{Written, text_of};
 use crate::reading::{Reading, read_whole};
 use crate::source::Source;
 use crate::status::Status;
-use crate::table_maker::Tables;
 use gql_base::Made;
 use std::alloc::Global;
 
@@ -37,7 +36,6 @@ impl Outcome {
             Outcome::ReadFault => Status::ReadFault,
             Outcome::TooLong => Status::TooLong,
             Outcome::Bench(Written::Answered(_)) => Status::Done,
-            Outcome::Bench(Written::Refused(_)) => Status::HasErrors,
             Outcome::Bench(Written::NotJson | Written::NotBuilt) => Status::Refused,
         }
     }
@@ -52,7 +50,7 @@ impl Outcome {
             }
             Outcome::ReadFault => "input: read fault\n",
             Outcome::TooLong => "input: too long\n",
-            Outcome::Bench(Written::Answered(text) | Written::Refused(text)) => text.as_str(),
+            Outcome::Bench(Written::Answered(text)) => text.as_str(),
             Outcome::Bench(Written::NotJson) => "bench: not JSON\n",
             Outcome::Bench(Written::NotBuilt) => "bench: not built yet\n",
         }
@@ -60,12 +58,7 @@ impl Outcome {
 }
 
 /// Finds what is due: the words are looked at first, and where they are listed the source is read whole.
-pub(crate) fn decide<I: Source, M: Tables>(
-    alloc: Global,
-    words: &[String],
-    source: &mut I,
-    tables: &mut M,
-) -> Made<Outcome>
+pub(crate) fn decide<I: Source>(alloc: Global, words: &[String], source: &mut I) -> Made<Outcome>
     ensures due { IfOk result (IsDue I.left I.given I.faults source.old source.new (map string_bytes words.now)) }
     ensures unread { ¬ IsListed (map string_bytes words.now) → source.new ≡ source.old }
 {
@@ -73,7 +66,7 @@ pub(crate) fn decide<I: Source, M: Tables>(
         return Ok(Outcome::Usage);
     }
     match read_whole(alloc, source)? {
-        Reading::Whole(bytes) => Ok(Outcome::Bench(text_of(alloc, bytes.as_slice(), tables)?)),
+        Reading::Whole(bytes) => Ok(Outcome::Bench(text_of(alloc, bytes.as_slice())?)),
         Reading::TooLong => Ok(Outcome::TooLong),
         Reading::Failed => Ok(Outcome::ReadFault),
     }

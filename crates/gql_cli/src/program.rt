@@ -14,19 +14,17 @@ use crate::reading::INPUT_LIMIT;
 use crate::sink::{Sink, SinkFault};
 use crate::source::Source;
 use crate::status::Status;
-use crate::table_maker::Tables;
 use crate::writing::write_whole;
 use std::alloc::Global;
 
 /// Runs the program on the words after its name. It reads its source whole, writes to its sink the text that is due or
 /// the line of a fault, and answers the status.
-pub fn run<R, I: Source, O: Sink, M: Tables>(
+pub fn run<R, I: Source, O: Sink>(
     _rt: &R,
     alloc: Global,
     words: &[String],
     source: &mut I,
     sink: &mut O,
-    tables: &mut M,
 ) -> u8
     // 2 comes exactly where the words are no listed form, and then nothing is read.
     ensures usage { result ≡ 2 → ¬ IsListed (map string_bytes words.now) }
@@ -44,8 +42,8 @@ pub fn run<R, I: Source, O: Sink, M: Tables>(
         → IfSome (I.left source.old) (λ input. INPUT_LIMIT < length input
         → (result ≡ 7) ⊎ (result ≡ 4) ⊎ IsCutOff result) }
 
-    // 0, 1 and 3 come after the whole input was read, by what it gives as a bench.
-    ensures bench { (result ≡ 0) ⊎ (result ≡ 1) ⊎ (result ≡ 3)
+    // 0 and 3 come after the whole input was read, by what it gives as a bench.
+    ensures bench { (result ≡ 0) ⊎ (result ≡ 3)
         → (input : List ℕ) × IsInput I.left I.given source.old source.new input
         × ((written : Written) × Gives input written × (result ≡ due_status (Outcome.Bench written))) }
 
@@ -72,16 +70,15 @@ pub fn run<R, I: Source, O: Sink, M: Tables>(
         → (result ≡ 6) ⊎ ((written : Written) × Gives input written × (result ≡ due_status (Outcome.Bench written))
         × Appends (O.held sink.old) (O.held sink.new) (due_text (Outcome.Bench written)))) }
 {
-    run_alone(alloc, words, source, sink, tables)
+    run_alone(alloc, words, source, sink)
 }
 
 /// Runs the program as `run` does, without a runtime.
-pub fn run_alone<I: Source, O: Sink, M: Tables>(
+pub fn run_alone<I: Source, O: Sink>(
     alloc: Global,
     words: &[String],
     source: &mut I,
     sink: &mut O,
-    tables: &mut M,
 ) -> u8
     // 2 comes exactly where the words are no listed form, and then nothing is read.
     ensures usage { result ≡ 2 → ¬ IsListed (map string_bytes words.now) }
@@ -99,8 +96,8 @@ pub fn run_alone<I: Source, O: Sink, M: Tables>(
         → IfSome (I.left source.old) (λ input. INPUT_LIMIT < length input
         → (result ≡ 7) ⊎ (result ≡ 4) ⊎ IsCutOff result) }
 
-    // 0, 1 and 3 come after the whole input was read, by what it gives as a bench.
-    ensures bench { (result ≡ 0) ⊎ (result ≡ 1) ⊎ (result ≡ 3)
+    // 0 and 3 come after the whole input was read, by what it gives as a bench.
+    ensures bench { (result ≡ 0) ⊎ (result ≡ 3)
         → (input : List ℕ) × IsInput I.left I.given source.old source.new input
         × ((written : Written) × Gives input written × (result ≡ due_status (Outcome.Bench written))) }
 
@@ -127,7 +124,7 @@ pub fn run_alone<I: Source, O: Sink, M: Tables>(
         → (result ≡ 6) ⊎ ((written : Written) × Gives input written × (result ≡ due_status (Outcome.Bench written))
         × Appends (O.held sink.old) (O.held sink.new) (due_text (Outcome.Bench written)))) }
 {
-    match decide(alloc, words, source, tables) {
+    match decide(alloc, words, source) {
         Ok(due) => deliver(&due, sink).code(),
         Err(_) => Status::NoMemory.code(),
     }

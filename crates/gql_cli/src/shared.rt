@@ -1,16 +1,14 @@
 //! The public types can be moved to threads and shared between them, where what they are made of can.
 use crate::{
-    Bench, Failed, ListTurns, MemorySink, MemorySource, Outcome, SinkFault, Status, StdSink,
-    StdSource, SureSink, SureSource, Table, TableFuture, TableMaker, Written,
+    Failed, MemorySink, MemorySource, Outcome, SinkFault, Status, StdSink, StdSource, SureSink,
+    SureSource, Written,
 };
 use std::io::{Read, Write};
 
 fn shared<T: Send + Sync>() {}
 
 fn public_types<I: Read + Send + Sync, O: Write + Send + Sync>() {
-    shared::<Bench>();
     shared::<Failed>();
-    shared::<ListTurns>();
     shared::<MemorySink>();
     shared::<MemorySource>();
     shared::<Outcome>();
@@ -20,8 +18,5 @@ fn public_types<I: Read + Send + Sync, O: Write + Send + Sync>() {
     shared::<StdSource<I>>();
     shared::<SureSink>();
     shared::<SureSource>();
-    shared::<Table>();
-    shared::<TableFuture>();
-    shared::<TableMaker>();
     shared::<Written>();
 }

@@ -1,14 +1,7 @@
 use Rattle.std.specs.Io.KnownBytes.{Appends}
 use Rattle.gql_cli.specs.Counts.{HasRisen}
-use Rattle.gql_cli.specs.Run.{IsDue}
-use Rattle.gql_cli.proofs.RunLemmas.{complete, written}
+use Rattle.gql_cli.proofs.RunLemmas.{complete}
 use Rattle.gql_cli.proofs.program.run_alone.Goals as goal
-
-pub returns-in-Ok-clause-written : goal.returns-in-Ok-clause-written
-returns-in-Ok-clause-written g c =
-    rw c.code.ensures
-    (written _ (IsDue g.I.Source.left g.I.Source.given g.I.Source.faults c.args.source.now c.decide.new.source _)
-    (Appends (g.O.Sink.held c.args.sink.now) (g.O.Sink.held c.deliver.new.sink)) c.in-Ok.due c.in-Ok.ensures.due c.deliver.ensures.whole)
 
 pub returns-in-Ok-clause-complete : goal.returns-in-Ok-clause-complete
 returns-in-Ok-clause-complete g c =
