@@ -8,6 +8,7 @@ use Rattle.gql_engine.proofs.PickLemmas.{Pick, picked, picked_within, open_undon
 use Rattle.gql_engine.proofs.ArenaLemmas.{still_waits}
 use Rattle.gql_engine.proofs.Lists.{length_set}
 use Rattle.gql_engine.proofs.NearerLemmas.{nearer_begun, nearer_pending}
+use Rattle.gql_engine.proofs.PaceLemmas.{pacing_waiting, pacing_answered}
 use Rattle.gql_engine.proofs.AdvanceLemmas.{on_err, taken, sound_begun, sound_pending, sound_answered, progress_begun, progress_pending, progress_answered, nearer_answered, ended_before, ended_after}
 use Rattle.gql_engine.specs.Progress.{stage_of}
 use Rattle.gql_engine.proofs.scheduler.advance.Goals as goal
@@ -228,3 +229,51 @@ returns-in_ok-settle-in-Answered-clause-progress g c =
     c.in_ok-settle-in-Answered.ensures.states
     (λ law calm. rw c.in-Answered.is at (c.in_ok-turn.ensures.answer law calm))
     (λ calm. rw c.in-Answered.is at (c.in_ok-turn.ensures.told calm)) (λ calm. c.in_ok-turn.ensures.begun calm)
+
+pub returns-in-Begun-clause-paced : goal.returns-in-Begun-clause-paced
+returns-in-Begun-clause-paced g c =
+    let stands = slice_get_read c.args.arena.now.waiting.items c.args.arena.now.waiting.len c.pick-place.result c.index-number.result.now c.args.arena.now.waiting.ok.0 (omega arith) c.index-number.ensures in
+    let waiting_ok = c.args.arena.now.waiting.ok.0 in
+    let t = taken g.row.R-Own.Denot g.L.Plan.Task g.row.R-Future.Denot g.P.Turns.State g.P.Turns.choice g.P.Turns.after g.R.ResolverSet.is_for g.R.ResolverSet.number (subject_of g.L.Plan.call g.L.Plan.path g.L.Plan.beneath)
+    (g.L.Plan.holds c.args.plan.now) (g.L.Plan.tasks c.args.plan.now) c.args.arena.now.states.items c.args.arena.now.waiting.items (g.P.Turns.state c.args.turns.now) (g.P.Turns.state c.pick-place.new.self)
+    c.len.result c.pick-place.result c.index-number.result.now c.index_mut.result.now c.context-context.result
+    c.requires.sound stands c.index_mut.ensures.value c.context-context.ensures (c.len.ensures ∙ waiting_ok) c.pick-place.ensures.choice c.pick-place.ensures.after in
+    pacing_waiting g.row.R-Own.Denot g.L.Plan.Task g.row.R-Future.Denot g.P.Turns.State g.P.Turns.choice g.P.Turns.after g.R.ResolverSet.is_for g.R.ResolverSet.number (subject_of g.L.Plan.call g.L.Plan.path g.L.Plan.beneath)
+    (g.L.Plan.holds c.args.plan.now) (g.L.Plan.tasks c.args.plan.now) c.args.arena.now.states.items c.args.arena.now.waiting.items (g.P.Turns.state c.args.turns.now) (g.P.Turns.state c.pick-place.new.self)
+    c.index-number.result.now c.index_mut.result.now c.context-context.result t
+    (g.H.Rounds.are_quiet c.args.hooks.now) (g.R.ResolverSet.is_paced c.args.resolvers.now) (g.R.ResolverSet.is_paced c.take_turn.new.resolvers) (g.R.ResolverSet.delay (g.R.ResolverSet.rules c.args.resolvers.now)) (g.R.ResolverSet.told c.args.resolvers.now) (g.R.ResolverSet.told c.take_turn.new.resolvers)
+    c.in_ok-turn.ensures.pace
+    c.take_turn.new.state (λ calm pace. rw c.in-Begun.is at (c.in_ok-turn.ensures.paced calm pace)) (λ calm. rw c.in-Begun.is at (c.in_ok-turn.ensures.told calm))
+
+pub returns-in-Pending-clause-paced : goal.returns-in-Pending-clause-paced
+returns-in-Pending-clause-paced g c =
+    let stands = slice_get_read c.args.arena.now.waiting.items c.args.arena.now.waiting.len c.pick-place.result c.index-number.result.now c.args.arena.now.waiting.ok.0 (omega arith) c.index-number.ensures in
+    let waiting_ok = c.args.arena.now.waiting.ok.0 in
+    let t = taken g.row.R-Own.Denot g.L.Plan.Task g.row.R-Future.Denot g.P.Turns.State g.P.Turns.choice g.P.Turns.after g.R.ResolverSet.is_for g.R.ResolverSet.number (subject_of g.L.Plan.call g.L.Plan.path g.L.Plan.beneath)
+    (g.L.Plan.holds c.args.plan.now) (g.L.Plan.tasks c.args.plan.now) c.args.arena.now.states.items c.args.arena.now.waiting.items (g.P.Turns.state c.args.turns.now) (g.P.Turns.state c.pick-place.new.self)
+    c.len.result c.pick-place.result c.index-number.result.now c.index_mut.result.now c.context-context.result
+    c.requires.sound stands c.index_mut.ensures.value c.context-context.ensures (c.len.ensures ∙ waiting_ok) c.pick-place.ensures.choice c.pick-place.ensures.after in
+    pacing_waiting g.row.R-Own.Denot g.L.Plan.Task g.row.R-Future.Denot g.P.Turns.State g.P.Turns.choice g.P.Turns.after g.R.ResolverSet.is_for g.R.ResolverSet.number (subject_of g.L.Plan.call g.L.Plan.path g.L.Plan.beneath)
+    (g.L.Plan.holds c.args.plan.now) (g.L.Plan.tasks c.args.plan.now) c.args.arena.now.states.items c.args.arena.now.waiting.items (g.P.Turns.state c.args.turns.now) (g.P.Turns.state c.pick-place.new.self)
+    c.index-number.result.now c.index_mut.result.now c.context-context.result t
+    (g.H.Rounds.are_quiet c.args.hooks.now) (g.R.ResolverSet.is_paced c.args.resolvers.now) (g.R.ResolverSet.is_paced c.take_turn.new.resolvers) (g.R.ResolverSet.delay (g.R.ResolverSet.rules c.args.resolvers.now)) (g.R.ResolverSet.told c.args.resolvers.now) (g.R.ResolverSet.told c.take_turn.new.resolvers)
+    c.in_ok-turn.ensures.pace
+    c.take_turn.new.state (λ calm pace. rw c.in-Pending.is at (c.in_ok-turn.ensures.paced calm pace)) (λ calm. rw c.in-Pending.is at (c.in_ok-turn.ensures.told calm))
+
+pub returns-in_ok-settle-in-Answered-clause-paced :
+    goal.returns-in_ok-settle-in-Answered-clause-paced
+returns-in_ok-settle-in-Answered-clause-paced g c =
+    let stands = slice_get_read c.args.arena.now.waiting.items c.args.arena.now.waiting.len c.pick-place.result c.index-number.result.now c.args.arena.now.waiting.ok.0 (omega arith) c.index-number.ensures in
+    let waiting_ok = c.args.arena.now.waiting.ok.0 in
+    let t = taken g.row.R-Own.Denot g.L.Plan.Task g.row.R-Future.Denot g.P.Turns.State g.P.Turns.choice g.P.Turns.after g.R.ResolverSet.is_for g.R.ResolverSet.number (subject_of g.L.Plan.call g.L.Plan.path g.L.Plan.beneath)
+    (g.L.Plan.holds c.args.plan.now) (g.L.Plan.tasks c.args.plan.now) c.args.arena.now.states.items c.args.arena.now.waiting.items (g.P.Turns.state c.args.turns.now) (g.P.Turns.state c.pick-place.new.self)
+    c.len.result c.pick-place.result c.index-number.result.now c.index_mut.result.now c.context-context.result
+    c.requires.sound stands c.index_mut.ensures.value c.context-context.ensures (c.len.ensures ∙ waiting_ok) c.pick-place.ensures.choice c.pick-place.ensures.after in
+    pacing_answered g.row.R-Own.Denot g.L.Plan.Task g.row.R-Future.Denot g.P.Turns.State g.P.Turns.choice g.P.Turns.after g.R.ResolverSet.is_for g.R.ResolverSet.number (subject_of g.L.Plan.call g.L.Plan.path g.L.Plan.beneath)
+    (g.L.Plan.holds c.args.plan.now) (g.L.Plan.tasks c.args.plan.now) c.args.arena.now.states.items c.args.arena.now.waiting.items (g.P.Turns.state c.args.turns.now) (g.P.Turns.state c.pick-place.new.self)
+    c.index-number.result.now c.index_mut.result.now c.context-context.result t
+    (g.H.Rounds.are_quiet c.args.hooks.now) (g.R.ResolverSet.is_paced c.args.resolvers.now) (g.R.ResolverSet.is_paced c.take_turn.new.resolvers) (g.R.ResolverSet.delay (g.R.ResolverSet.rules c.args.resolvers.now)) (g.R.ResolverSet.told c.args.resolvers.now) (g.R.ResolverSet.told c.take_turn.new.resolvers)
+    c.in_ok-turn.ensures.pace
+    (g.L.Plan.tasks c.complete.new.self) c.settle.new.arena.states.items c.take_turn.new.state c.in-Answered.answer c.in_ok-count-in-Answered.count
+    c.in_ok-count-in-Answered.ensures.made c.in_ok-settle-in-Answered.ensures.states
+    (λ calm pace. rw c.in-Answered.is at (c.in_ok-turn.ensures.paced calm pace)) (λ calm. rw c.in-Answered.is at (c.in_ok-turn.ensures.told calm))
