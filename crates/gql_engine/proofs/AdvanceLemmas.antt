@@ -36,14 +36,14 @@ module _ (V Task F T : Type 0) (choice : T → ℕ → ℕ) (after : T → ℕ �
     pub turns_is : turns' ≡ option_map (λ s. after s (length (waiting_from 0 (marks_of states)))) turns
 
   pub taken : (holds : ℕ → Answer V → Type 0) (tasks : List Task) (states : List (State F)) (waiting : List ℕ) (turns turns' : Option T)
-      (n place number : ℕ) (old : State F) (context : ResolverContext V)
+      (place number : ℕ) (old : State F) (context : ResolverContext V)
       → IsSound is_for subject holds tasks states waiting → slice_get waiting place ≡ Some number → old ≡ get_or states number old
       → ((task : Task) → slice_get tasks number ≡ Some task → IsContextOf number (subject.call task) (subject.path task) context)
-      → n ≡ length waiting → ForSome turns (λ s. place ≡ choice s n) → turns' ≡ option_map (λ s. after s n) turns
+      → ForSome turns (λ s. place ≡ choice s (length waiting)) → turns' ≡ option_map (λ s. after s (length waiting)) turns
       → Taken holds tasks states waiting turns turns' number old context
-  taken holds tasks states waiting turns turns' n place number old context sound stands read contexts n_is choices turns_is =
+  taken holds tasks states waiting turns turns' place number old context sound stands read contexts choices turns_is =
       let pick = picked place number old sound stands read in
-      let count : n ≡ length (waiting_from 0 (marks_of states)) = n_is ∙ ap length sound.waits in
+      let count : length waiting ≡ length (waiting_from 0 (marks_of states)) = ap length sound.waits in
       record {
         sound = sound;
         pick = pick;

@@ -4,6 +4,7 @@ ghost use Rattle.gql_engine.specs.Pace.{Pacing};
 ghost use Rattle.gql_engine.specs.Progress.{Kept, Progress, Ended, stage_of};
 
 use crate::arena::{Arena, Turn};
+use crate::picking::pick_task;
 use crate::plan::Plan;
 use crate::rounds::Rounds;
 use crate::settling::settle;
@@ -36,18 +37,23 @@ fn advance<R: ResolverSet, L: Plan<R::Own>, H: Rounds<R::Own>, P: Turns>(
         (stage_of (L.tasks plan.old) arena.old.states.items (R.told resolvers.old) (R.begun resolvers.old) (P.state turns.old)) (R.told resolvers.new) (R.begun resolvers.new)) }
     ensures still { result ≡ Ok false → arena.new.waiting.items ≡ arena.old.waiting.items }
 {
-    let place = turns.pick(arena.waiting.len());
-    let number = arena.waiting[place];
+    let picked = pick_task(arena, turns);
     let turn = {
-        let context = plan.context(number);
-        take_turn(alloc, resolvers, hooks, &mut arena.states[number], &context)?
+        let context = plan.context(picked.number);
+        take_turn(
+            alloc,
+            resolvers,
+            hooks,
+            &mut arena.states[picked.number],
+            &context,
+        )?
     };
     match turn {
         Turn::Begun => Ok(true),
         Turn::Pending => Ok(false),
         Turn::Answered(answer) => {
-            let count = plan.complete(alloc, number, answer)?;
-            settle(arena, place, number, count)?;
+            let count = plan.complete(alloc, picked.number, answer)?;
+            settle(arena, picked.place, picked.number, count)?;
             Ok(true)
         }
     }
