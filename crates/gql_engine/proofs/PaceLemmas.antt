@@ -1,6 +1,6 @@
--- Turns pay what the tasks owe.
-use Rattle.std.proofs.Common.{ℕ, zero, suc, ◌≡◌, ◌+◌, ◌==◌, Bool, true, false, if◌then◌else◌, List, [], ◌∷◌, ◌++◌, length, refl, sym, ap, subst, ◌∙◌, arith, inl, inr}
-use Rattle.std.proofs.lemmas.List.{append_cancel_left}
+-- Each turn takes the first of the entries that are to come of its task.
+use Rattle.std.proofs.Common.{ℕ, zero, suc, ◌≡◌, ◌==◌, Bool, true, false, if◌then◌else◌, List, [], ◌∷◌, ◌++◌, length, refl, sym, ap, subst, ◌∙◌, inl, inr, append_assoc}
+use Rattle.std.proofs.lemmas.List.{append-nil, append_cancel_left}
 use Rattle.std.proofs.lemmas.Bool.{cases_eq, eq-eqb, ne_eqb}
 use Rattle.std.specs.Prelude.{Option, Some, None, slice_get, slice_set}
 use Rattle.gql_resolve.specs.Call.{Call}
@@ -11,38 +11,36 @@ use Rattle.gql_resolve.specs.declared.resolver_context.ResolverContext.{Resolver
 use Rattle.gql_engine.specs.declared.arena.State.{State}
 use Rattle.gql_engine.specs.declared.arena.State.TheVariants as state
 use Rattle.gql_engine.specs.Arena.{fresh_states, Subject}
-use Rattle.gql_engine.specs.Pace.{owed, owed_at, counted, pending_of, Paces, Pacing, EachPaced}
+use Rattle.gql_engine.specs.Pace.{pending_then_ready, to_come, to_come_at, told_of, Paces, Pacing, EachPaced}
 use Rattle.gql_engine.proofs.AdvanceLemmas.{Taken}
 use Rattle.gql_engine.proofs.Lists.{get_set_same, get_set_other, get_append_left, get_within, set_set}
 use Rattle.gql_engine.proofs.RecordLemmas.{with_more_none, with_more_append}
 
-pending_append : (k : ℕ) (one other : List RecordEntry) → pending_of k (one ++ other) ≡ pending_of k one + pending_of k other
-pending_append k [] other = omega arith
-pending_append k (e ∷ one) other = let h = pending_append k one other in omega arith
+told_append : (k : ℕ) (one other : List RecordEntry) → told_of k (one ++ other) ≡ told_of k one ++ told_of k other
+told_append k [] other = refl
+told_append k (e ∷ one) other =
+    ap (λ fs. (if e.task == k then e.ready ∷ [] else []) ++ fs) (told_append k one other)
+    ∙ sym (append_assoc (if e.task == k then e.ready ∷ [] else []) (told_of k one) (told_of k other))
 
-pending_here : (k : ℕ) (e : RecordEntry) → e.task ≡ k → pending_of k (e ∷ []) ≡ counted e.ready
-pending_here k e is =
-    let f : (if e.task == k then counted e.ready else 0) ≡ counted e.ready = ap (λ b. if b then counted e.ready else 0) (eq-eqb e.task k is) in
-    omega arith
+told_here : (k : ℕ) (e : RecordEntry) → e.task ≡ k → told_of k (e ∷ []) ≡ e.ready ∷ []
+told_here k e is = ap (λ b. (if b then e.ready ∷ [] else []) ++ []) (eq-eqb e.task k is)
 
-pending_elsewhere : (k : ℕ) (e : RecordEntry) → (e.task ≡ k → ⊥) → pending_of k (e ∷ []) ≡ 0
-pending_elsewhere k e differs =
-    let f : (if e.task == k then counted e.ready else 0) ≡ 0 = ap (λ b. if b then counted e.ready else 0) (ne_eqb e.task k differs) in
-    omega arith
+told_elsewhere : (k : ℕ) (e : RecordEntry) → (e.task ≡ k → ⊥) → told_of k (e ∷ []) ≡ []
+told_elsewhere k e differs = ap (λ b. (if b then e.ready ∷ [] else []) ++ []) (ne_eqb e.task k differs)
 
--- fresh tasks owe what those owe that aren't made yet
+-- of fresh tasks as much is to come as of those that aren't made yet
 module _ {F : Type 0} (number_of : F → ℕ) where
-  owed_fresh : (n k due : ℕ) → owed_at number_of due (slice_get (fresh_states n) k) ≡ due
-  owed_fresh zero zero due = refl
-  owed_fresh zero (suc k) due = refl
-  owed_fresh (suc n) zero due = refl
-  owed_fresh (suc n) (suc k) due = owed_fresh n k due
+  come_fresh : (n k due : ℕ) → to_come_at number_of due (slice_get (fresh_states n) k) ≡ pending_then_ready due
+  come_fresh zero zero due = refl
+  come_fresh zero (suc k) due = refl
+  come_fresh (suc n) zero due = refl
+  come_fresh (suc n) (suc k) due = come_fresh n k due
 
-  owed_more : (states : List (State F)) (n k due : ℕ) → owed_at number_of due (slice_get states k) ≡ owed_at number_of due (slice_get (states ++ fresh_states n) k)
-  owed_more [] n zero due = sym (owed_fresh n zero due)
-  owed_more [] n (suc k) due = sym (owed_fresh n (suc k) due)
-  owed_more (s ∷ states) n zero due = refl
-  owed_more (s ∷ states) n (suc k) due = owed_more states n k due
+  come_more : (states : List (State F)) (n k due : ℕ) → to_come_at number_of due (slice_get states k) ≡ to_come_at number_of due (slice_get (states ++ fresh_states n) k)
+  come_more [] n zero due = sym (come_fresh n zero due)
+  come_more [] n (suc k) due = sym (come_fresh n (suc k) due)
+  come_more (s ∷ states) n zero due = refl
+  come_more (s ∷ states) n (suc k) due = come_more states n k due
 
 module _ {Task F : Type 0} (number_of : F → ℕ) where
   pub pacing_none : (quiet paced : Type 0) (delay : Task → ℕ) (told : Option (List RecordEntry)) (tasks : List Task) (states : List (State F))
@@ -53,7 +51,7 @@ module _ {Task F : Type 0} (number_of : F → ℕ) where
       entries = [];
       told_is = sym (with_more_none told);
       stays = λ k task is. is;
-      counts = λ k due is. omega arith;
+      splits = λ k due is. refl;
     };
   }
 
@@ -73,11 +71,11 @@ module _ {Task F : Type 0} (number_of : F → ℕ) where
         entries = one.entries ++ other.entries;
         told_is = other.told_is ∙ ap (λ t. with_more t other.entries) one.told_is ∙ with_more_append told one.entries other.entries;
         stays = λ k task is. other.stays k task (one.stays k task is);
-        counts = λ k due is.
-            let a = one.counts k due (λ task at. is task (other.stays k task at)) in
-            let b = other.counts k due (λ task at. is task at ∙ sym (same task)) in
-            let c = pending_append k one.entries other.entries in
-            omega arith;
+        splits = λ k due is.
+            one.splits k due (λ task at. is task (other.stays k task at))
+            ∙ ap (λ fs. told_of k one.entries ++ fs) (other.splits k due (λ task at. is task at ∙ sym (same task)))
+            ∙ sym (append_assoc (told_of k one.entries) (told_of k other.entries) (to_come_at number_of due (slice_get states'' k)))
+            ∙ ap (λ fs. fs ++ to_come_at number_of due (slice_get states'' k)) (sym (told_append k one.entries other.entries));
       }
 
   -- one entry, of the task that is taken up
@@ -85,36 +83,34 @@ module _ {Task F : Type 0} (number_of : F → ℕ) where
       (number : ℕ) (task : Task) (old new : State F) (context : ResolverContext V) (is_ready : Bool)
       → slice_get tasks number ≡ Some task → slice_get states number ≡ Some old → context.task ≡ number
       → told' ≡ with_more told (entry_of context is_ready ∷ [])
-      → owed number_of (delay task) old ≡ counted is_ready + owed number_of (delay task) new
+      → to_come number_of (delay task) old ≡ is_ready ∷ to_come number_of (delay task) new
       → ((k : ℕ) (t : Task) → slice_get tasks k ≡ Some t → slice_get tasks' k ≡ Some t)
       → slice_get states' number ≡ Some new
-      → ((k due : ℕ) → (k ≡ number → ⊥) → owed_at number_of due (slice_get states k) ≡ owed_at number_of due (slice_get states' k))
+      → ((k due : ℕ) → (k ≡ number → ⊥) → to_come_at number_of due (slice_get states k) ≡ to_come_at number_of due (slice_get states' k))
       → Paces number_of delay told told' tasks tasks' states states'
   one_pays delay told told' tasks tasks' states states' number task old new context is_ready task_is old_is number_is told_is paid stays new_is others = record {
     entries = entry_of context is_ready ∷ [];
     told_is = told_is;
     stays = stays;
-    counts = λ k due is. elim (cases_eq k number) [
+    splits = λ k due is. elim (cases_eq k number) [
       | inl same ↦ here k due is same
-      | inr differs ↦
-          let p = pending_elsewhere k (entry_of context is_ready) (λ f. differs (sym f ∙ number_is)) in
-          let h = others k due differs in
-          omega arith
+      | inr differs ↦ others k due differs
+          ∙ ap (λ fs. fs ++ to_come_at number_of due (slice_get states' k)) (sym (told_elsewhere k (entry_of context is_ready) (λ f. differs (sym f ∙ number_is))))
     ];
   }
     where
       here : (k due : ℕ) → ((t : Task) → slice_get tasks' k ≡ Some t → due ≡ delay t) → k ≡ number
-          → owed_at number_of due (slice_get states k) ≡ pending_of k (entry_of context is_ready ∷ []) + owed_at number_of due (slice_get states' k)
+          → to_come_at number_of due (slice_get states k) ≡ told_of k (entry_of context is_ready ∷ []) ++ to_come_at number_of due (slice_get states' k)
       here k due is same =
           let d : due ≡ delay task = is task (subst (λ j. slice_get tasks' j ≡ Some task) (sym same) (stays number task task_is)) in
-          let a : owed_at number_of due (slice_get states k) ≡ owed number_of (delay task) old =
-          ap (λ j. owed_at number_of due (slice_get states j)) same ∙ ap (owed_at number_of due) old_is ∙ ap (λ u. owed number_of u old) d in
-          let b : owed_at number_of due (slice_get states' k) ≡ owed number_of (delay task) new =
-          ap (λ j. owed_at number_of due (slice_get states' j)) same ∙ ap (owed_at number_of due) new_is ∙ ap (λ u. owed number_of u new) d in
-          let p = pending_here k (entry_of context is_ready) (number_is ∙ sym same) in
-          omega arith
+          let a : to_come_at number_of due (slice_get states k) ≡ to_come number_of (delay task) old =
+          ap (λ j. to_come_at number_of due (slice_get states j)) same ∙ ap (to_come_at number_of due) old_is ∙ ap (λ u. to_come number_of u old) d in
+          let b : to_come_at number_of due (slice_get states' k) ≡ to_come number_of (delay task) new =
+          ap (λ j. to_come_at number_of due (slice_get states' j)) same ∙ ap (to_come_at number_of due) new_is ∙ ap (λ u. to_come number_of u new) d in
+          a ∙ paid ∙ ap (λ fs. is_ready ∷ fs) (sym b)
+          ∙ ap (λ fs. fs ++ to_come_at number_of due (slice_get states' k)) (sym (told_here k (entry_of context is_ready) (number_is ∙ sym same)))
 
-  -- in the end each task has paid its delay
+  -- in the end nothing is to come of any task
   pub each_paced : (delay : Task → ℕ) (told told' : Option (List RecordEntry)) (before entries : List RecordEntry) (tasks tasks' : List Task) (n : ℕ) (states states' : List (State F))
       → Paces number_of delay told told' tasks tasks' states states' → told ≡ Some before → told' ≡ with_more told entries
       → states ≡ fresh_states n → ((k : ℕ) (task : Task) → slice_get tasks' k ≡ Some task → slice_get states' k ≡ Some state.Done)
@@ -122,11 +118,11 @@ module _ {Task F : Type 0} (number_of : F → ℕ) where
   each_paced delay told told' before entries tasks tasks' n states states' paces told_some told_is states_is done = record {
     paced = λ k task is.
         let same : entries ≡ paces.entries = append_cancel_left before entries paces.entries (some_is (sym (subst (λ t. told' ≡ with_more t entries) told_some told_is) ∙ subst (λ t. told' ≡ with_more t paces.entries) told_some paces.told_is)) in
-        let paid = paces.counts k (delay task) (λ t at. ap delay (some_is (sym is ∙ at))) in
-        let first : owed_at number_of (delay task) (slice_get states k) ≡ delay task = ap (λ ss. owed_at number_of (delay task) (slice_get ss k)) states_is ∙ owed_fresh number_of n k (delay task) in
-        let last : owed_at number_of (delay task) (slice_get states' k) ≡ 0 = ap (owed_at number_of (delay task)) (done k task is) in
-        let pays : pending_of k paces.entries ≡ delay task = omega arith in
-        ap (pending_of k) same ∙ pays;
+        let paid = paces.splits k (delay task) (λ t at. ap delay (some_is (sym is ∙ at))) in
+        let first : to_come_at number_of (delay task) (slice_get states k) ≡ pending_then_ready (delay task) = ap (λ ss. to_come_at number_of (delay task) (slice_get ss k)) states_is ∙ come_fresh number_of n k (delay task) in
+        let last : to_come_at number_of (delay task) (slice_get states' k) ≡ [] = ap (to_come_at number_of (delay task)) (done k task is) in
+        ap (told_of k) same
+        ∙ sym (append-nil (told_of k paces.entries)) ∙ ap (λ fs. told_of k paces.entries ++ fs) (sym last) ∙ sym paid ∙ first;
   }
     where
       some_is : {X : Type 0} {x y : X} → Some x ≡ Some y → x ≡ y
@@ -140,22 +136,22 @@ module _ (V Task F T : Type 0) (choice : T → ℕ → ℕ) (after : T → ℕ �
   resolver_is = ap (λ c. c.resolver) t.context_is.call_is
 
   pub pacing_waiting : (new : State F)
-      → (quiet → paced → owed number_of (delay context.resolver) old ≡ suc (owed number_of (delay context.resolver) new))
+      → (quiet → paced → to_come number_of (delay context.resolver) old ≡ false ∷ to_come number_of (delay context.resolver) new)
       → (quiet → told' ≡ with_more told (entry_of context false ∷ []))
       → Pacing quiet paced paced' number_of (λ task. delay (subject.call task).resolver) told told' tasks tasks states (slice_set states number new)
   pacing_waiting new paid told_is = record {
     still = still;
     paces = λ calm pace. one_pays number_of (λ task. delay (subject.call task).resolver) told told' tasks tasks states (slice_set states number new) number t.pick.task old new context false
         t.pick.task_is t.pick.old_is t.context_is.task_is (told_is calm)
-        (let p = subst (λ r. owed number_of (delay r) old ≡ suc (owed number_of (delay r) new)) resolver_is (paid calm pace) in omega arith)
+        (subst (λ r. to_come number_of (delay r) old ≡ false ∷ to_come number_of (delay r) new) resolver_is (paid calm pace))
         (λ k task is. is) (get_set_same states number new t.pick.within)
-        (λ k due differs. ap (owed_at number_of due) (sym (get_set_other states number k new differs)));
+        (λ k due differs. ap (to_come_at number_of due) (sym (get_set_other states number k new differs)));
   }
 
   pub pacing_answered : (tasks' : List Task) (states' : List (State F)) (new : State F) (answer : Answer V) (count : ℕ)
       → ((task : Task) → slice_get tasks number ≡ Some task → (tasks' ≡ tasks ++ subject.beneath task answer) × (count ≡ length (subject.beneath task answer)))
       → states' ≡ slice_set (slice_set states number new) number state.Done ++ fresh_states count
-      → (quiet → paced → owed number_of (delay context.resolver) old ≡ 0)
+      → (quiet → paced → to_come number_of (delay context.resolver) old ≡ true ∷ [])
       → (quiet → told' ≡ with_more told (entry_of context true ∷ []))
       → Pacing quiet paced paced' number_of (λ task. delay (subject.call task).resolver) told told' tasks tasks' states states'
   pacing_answered tasks' states' new answer count made states_is paid told_is =
@@ -166,8 +162,8 @@ module _ (V Task F T : Type 0) (choice : T → ℕ → ℕ) (after : T → ℕ �
         still = still;
         paces = λ calm pace. one_pays number_of (λ task. delay (subject.call task).resolver) told told' tasks tasks' states (slice_set states number state.Done ++ fresh_states count) number t.pick.task old state.Done context true
             t.pick.task_is t.pick.old_is t.context_is.task_is (told_is calm)
-            (let p = subst (λ r. owed number_of (delay r) old ≡ 0) resolver_is (paid calm pace) in omega arith)
+            (subst (λ r. to_come number_of (delay r) old ≡ true ∷ []) resolver_is (paid calm pace))
             (λ k task is. subst (λ ts. slice_get ts k ≡ Some task) (sym m.0) (get_append_left tasks (subject.beneath t.pick.task answer) k task is))
             (get_append_left (slice_set states number state.Done) (fresh_states count) number state.Done (get_set_same states number state.Done t.pick.within))
-            (λ k due differs. ap (owed_at number_of due) (sym (get_set_other states number k state.Done differs)) ∙ owed_more number_of (slice_set states number state.Done) count k due);
+            (λ k due differs. ap (to_come_at number_of due) (sym (get_set_other states number k state.Done differs)) ∙ come_more number_of (slice_set states number state.Done) count k due);
       })

@@ -52,7 +52,7 @@ pub record Ended {V Task F T : Type 0} (lawful quiet : Type 0) (subject : Subjec
       → Stopped choice after (story_of subject answers) old.told told old.starts starts old.turns (made_of old.tasks old.states)
 
 -- a whole execution of tasks that are fresh: a turned record that leaves none waiting. Where the set is paced and tells its
--- record, each task has as many pending entries as the delay of its resolver
+-- record, the entries of each task are as many pending ones as the delay of its resolver, and then its ready one
 pub record RunsWhole {V Task T : Type 0} (choice : T → ℕ → ℕ) (after : T → ℕ → T) (subject : Subject V Task) (due : Call V → Answer V) (paced : Type 0) (delay : ℕ → ℕ) (tasks : List Task)
     (told told' : Option (List RecordEntry)) (starts starts' : Option (List ℕ)) (turns turns' : Option T) : Type 0 where
   pub made : Made Task
