@@ -3,8 +3,6 @@
 
 mod answer;
 mod bench;
-#[cfg(test)]
-mod copy_tests;
 mod execution;
 mod first_bench;
 mod json_shape;

@@ -1,8 +1,10 @@
 //! Copies of what resolvers give, and data that is there. What a test looks at is made by small functions beside it, since a
 //! test is proved too.
-use gql_base::{Copied, Items, Made, Text, Value};
-use gql_request::{Data, DataContext, DataKey};
-use gql_resolve::{Answer, FieldValue, Layers, Polled, RecordEntry};
+use crate::tests::{context, environment, field};
+use crate::{Answer, FieldValue, Layers, Polled, RecordEntry};
+use gql_base::{Copied, Items, Made, Pairs, PathSegment, Text, Value};
+use gql_doc::{Field, OperationType};
+use gql_request::{Data, DataContext, DataKey, QueryEnv};
 use std::alloc::Global;
 use std::test::Fail;
 
@@ -70,9 +72,24 @@ fn one(alloc: Global) -> Made<Data> {
     Ok(data)
 }
 
-/// Whether a key of layers has the truth value true.
-fn is_true(layers: &Layers<'_>, key: DataKey) -> bool {
-    layers.data_opt(key).is_some() && layers.data_unchecked(key) == &Value::Boolean(true)
+/// Whether a key has the truth value true.
+fn is_true<'a, C: DataContext<'a>>(context: &C, key: DataKey) -> bool {
+    context.data_opt(key).is_some() && context.data_unchecked(key) == &Value::Boolean(true)
+}
+
+/// Whether a resolver's context has the truth value true under the key 1, and nothing under 2.
+fn context_reads(alloc: Global, data: &Data) -> Made<bool> {
+    let item = field(alloc, "hero")?;
+    let env = environment(alloc, OperationType::Query);
+    Ok(context_of_reads(alloc, data, &item, &env))
+}
+
+fn context_of_reads(alloc: Global, data: &Data, item: &Field, env: &QueryEnv) -> bool {
+    let segments = [PathSegment::Index(2)];
+    let arguments = Pairs::new(alloc);
+    let root = FieldValue::<i64>::NULL;
+    let call = context(&segments, &arguments, &root, item, env, data);
+    is_true(&call, DataKey(1)) && call.data(DataKey(2)).is_err()
 }
 
 #[test]
@@ -86,5 +103,6 @@ fn data_that_is_there(rt: HostRuntime) -> Result<(), Fail> {
     };
     assert!(rt; is_true(&layers, DataKey(1)));
     assert!(rt; !is_true(&layers, DataKey(2)));
+    assert!(rt; context_reads(rt.alloc(), &data)?);
     Ok(())
 }
