@@ -168,21 +168,22 @@ fn punctuator_at(text: &[char]) -> Reading
     requires string { begins (λ c. c == quote) text.now ≡ false }
     ensures { StandsAt result.lexeme result.length text.now }
 {
-    if text.starts_with(&['.', '.', '.']) {
+    if let Some(punctuator) = punctuator_of(text[0]) {
         return Reading {
-            lexeme: Lexeme::Punctuator(Punctuator::Spread),
-            length: 3,
-        };
-    }
-    match punctuator_of(text[0]) {
-        Some(punctuator) => Reading {
             lexeme: Lexeme::Punctuator(punctuator),
             length: 1,
-        },
-        None => Reading {
+        };
+    }
+    if text.starts_with(&['.', '.', '.']) {
+        Reading {
+            lexeme: Lexeme::Punctuator(Punctuator::Spread),
+            length: 3,
+        }
+    } else {
+        Reading {
             lexeme: Lexeme::Unexpected,
             length: 0,
-        },
+        }
     }
 }
 
