@@ -1,21 +1,24 @@
--- A JSON value is that of one first bench, and what a bench's query gives, the JSON gives.
+-- A JSON value is that of one first bench, and what a bench's request gives, the JSON gives.
 use Rattle.std.proofs.Common.{◌≡◌, ℕ, List, [], ◌∷◌, Option, Some, None, Result, Ok, Err, IfOk, MatchOption, refl, ap, sym, ◌∙◌, subst, codes}
 use Rattle.std.specs.List.{AllZip}
 use Rattle.serde_json.specs.Data.{Data}
 use Rattle.gql_base.specs.Pairs.{HasDistinctNames}
 use Rattle.gql_base.specs.ReadJson.{value_of}
 use Rattle.gql_base.specs.declared.value.Value.{Value}
-use Rattle.gql_cli.specs.Answer.{Chooses, IsResponse, IsAnswerOf, IsRefusalOf, answers_of}
-use Rattle.gql_cli.specs.Bench.{JsonGives}
-use Rattle.gql_cli.specs.BenchAnswers.{bench_answers, IsBenchOf, IsSuited, QueryGives}
+use Rattle.gql_resolve.specs.declared.record_entry.RecordEntry.{RecordEntry}
+use Rattle.gql_cli.specs.Answer.{IsAnswerOf, IsRefusalOf, answers_of}
+use Rattle.gql_cli.specs.Bench.{json_of, bench_request, first_request, Gives, JsonGives, QueryGives, WithRecord}
+use Rattle.gql_cli.specs.BenchAnswers.{IsBenchOf, IsSuited}
 use Rattle.gql_cli.specs.FirstBench.{AreTaken, IsField, IsConstantAnswer, IsTurns, IsShaped, IsFirstBench, IsNoFirstBench, constants}
 use Rattle.gql_cli.specs.Tables.{IsTableOf}
+use Rattle.gql_cli.specs.declared.bench.Command.{Command}
 use Rattle.gql_cli.specs.declared.bench.Written.{Written}
 use Rattle.gql_cli.specs.declared.bench.Written.TheVariants.{Answered, Refused, NotJson, NotBuilt}
 use Rattle.gql_cli.specs.declared.first_bench.FirstBench.{FirstBench}
 use Rattle.gql_cli.specs.declared.first_bench.FirstField.{FirstField}
 use Rattle.gql_cli.specs.declared.tables.Bench.{Bench}
 use Rattle.gql_cli.proofs.FirstBenchLemmas.{parts-same, text-same, root-same, schema-same, turns-same, answer-same}
+use Rattle.gql_cli.proofs.RecordLemmas.{first-task}
 use Rattle.gql_cli.proofs.TablesLemmas.{table-answers}
 
 some-same : {A : Type 0} {x y : A} → Some x ≡ Some y → x ≡ y
@@ -49,64 +52,60 @@ shaped-same json a b (ds, t, shape, fits, turned, named) (es, u, other, fits', t
     let turns : a.turns ≡ b.turns = turns-same t a.turns b.turns turned (subst (λ json. IsTurns json b.turns) (sym parts.2) turned') in
     λ i. record { root = roots i; fields = fields i; query = queries i; turns = turns i }
 
--- what is chosen by one function is chosen by an equal one
-pub chooses-same : (f g : List ℕ → Option Value) (names : List (List ℕ)) (chosen : List (List ℕ × Value)) → ((name : List ℕ) → f name ≡ g name)
-    → Chooses f names chosen → Chooses g names chosen
-chooses-same f g [] [] same h = tt
-chooses-same f g [] (p ∷ ps) same h = h
-chooses-same f g (n ∷ ns) [] same h = h
-chooses-same f g (n ∷ ns) (p ∷ ps) same ((named, found), h) = ((named, sym (same n) ∙ found), chooses-same f g ns ps same h)
+-- a bench with the tables and the query of a first bench has its request
+request-same : (first : FirstBench) (bench : Bench) → IsTableOf first bench → bench.request ≡ first.query
+    → bench_request bench ≡ first_request first
+request-same first bench made query =
+    λ i. record {
+      answers = λ name. table-answers first bench made name i;
+      task_of = λ name. first-task first bench made name i;
+      turns = made.turns i;
+      query = query i;
+    }
 
-answer-through : (f g : List ℕ → Option Value) (query text : List ℕ) → ((name : List ℕ) → f name ≡ g name)
-    → IsAnswerOf f query text → IsAnswerOf g query text
-answer-through f g query text same (document, spells, response) = (
-  document,
-  spells,
-  record {
-    names = response.names;
-    selects = response.selects;
-    chosen = response.chosen;
-    chooses = chooses-same f g response.names response.chosen same response.chooses;
-    is = response.is;
-  },
+-- what a first bench's request gives, its JSON gives
+json-gives : (command : Command) (json : Data) (first : FirstBench) → IsFirstBench json first → (written : Written) (entries : List RecordEntry)
+    → QueryGives command (first_request first) written entries → JsonGives command json written entries
+json-gives command json first shaped (Answered text) entries gives = (first, shaped, gives)
+json-gives command json first shaped (Refused text) entries (refusal, none) = ((first, shaped, refusal), none)
+json-gives command json first shaped NotBuilt entries (unanswered, unrefused) = (
+  λ text (other, fits, answer).
+      unanswered text (subst (λ (f : FirstBench). IsAnswerOf (answers_of f) f.query text) (shaped-same json other first fits.0 shaped.0) answer),
+  λ text (other, fits, refusal).
+      unrefused text (subst (λ (f : FirstBench). IsRefusalOf f.query text) (shaped-same json other first fits.0 shaped.0) refusal),
 )
+json-gives command json first shaped NotJson entries gives = gives
 
--- an answer of a JSON value is one of its bench's query
-bench-answer : (json : Data) (bench : Bench) (made : IsBenchOf json bench) (first : FirstBench) → IsFirstBench json first → (text : List ℕ)
-    → IsAnswerOf (answers_of first) first.query text → IsAnswerOf (bench_answers bench) bench.request text
-bench-answer json bench made first shaped text answer =
-    let same = shaped-same json first made.first shaped.0 made.shaped.0 in
-    answer-through (answers_of made.first) (bench_answers bench) bench.request text (λ name. sym (table-answers made.first bench made.tabled name))
-    (subst (λ query. IsAnswerOf (answers_of made.first) query text) (sym made.request)
-    (subst (λ (f : FirstBench). IsAnswerOf (answers_of f) f.query text) same answer))
+-- what a bench's request gives, the JSON of the bench gives
+pub made-gives : {E : Type 0} (Told : List RecordEntry → Type 0) (command : Command) (json : Data) (bench : Bench) → IsBenchOf json bench
+    → (written : Result Written E) → IfOk written (WithRecord (QueryGives command (bench_request bench)) Told)
+    → IfOk written (WithRecord (JsonGives command json) Told)
+made-gives Told command json bench made (Ok written) (entries, gives, told) =
+    let same = request-same made.first bench made.tabled made.request in (
+      entries,
+      json-gives command json made.first made.shaped written entries (subst (λ request. QueryGives command request written entries) same gives),
+      told,
+    )
+made-gives Told command json bench made (Err want) gives = gives
 
-bench-refusal : (json : Data) (bench : Bench) (made : IsBenchOf json bench) (first : FirstBench) → IsFirstBench json first → (text : List ℕ)
-    → IsRefusalOf first.query text → IsRefusalOf bench.request text
-bench-refusal json bench made first shaped text refusal =
-    let same = shaped-same json first made.first shaped.0 made.shaped.0 in
-    subst (λ query. IsRefusalOf query text) (sym made.request) (subst (λ (f : FirstBench). IsRefusalOf f.query text) same refusal)
+-- a JSON value that is no bench has no answer
+pub no-bench : (command : Command) (json : Data) → IsNoFirstBench json → (entries : List RecordEntry) × JsonGives command json NotBuilt entries × Unit {0}
+no-bench command json none =
+    ([], (λ text (first, shaped, answer). none first shaped, λ text (first, shaped, refusal). none first shaped), tt)
 
--- what a bench's query gives, the JSON of the bench gives
-pub json-gives : (json : Data) (bench : Bench) (written : Written) → IsBenchOf json bench → QueryGives (bench_answers bench) bench.request written
-    → JsonGives json written
-json-gives json bench (Answered text) made answer = (
-  made.first,
-  made.shaped,
-  answer-through (bench_answers bench) (answers_of made.first) made.first.query text (table-answers made.first bench made.tabled)
-      (subst (λ query. IsAnswerOf (bench_answers bench) query text) made.request answer),
-)
-json-gives json bench (Refused text) made refusal =
-    (made.first, made.shaped, subst (λ query. IsRefusalOf query text) made.request refusal)
-json-gives json bench NotBuilt made (unanswered, unrefused) = (
-  λ text (first, shaped, answer). unanswered text (bench-answer json bench made first shaped text answer),
-  λ text (first, shaped, refusal). unrefused text (bench-refusal json bench made first shaped text refusal),
-)
-json-gives json bench NotJson made gives = gives
+-- what a JSON value gives, the bytes with that value give
+bytes-give : (command : Command) (bytes : List ℕ) (json : Data) → json_of bytes ≡ Some json → (written : Written) (entries : List RecordEntry)
+    → JsonGives command json written entries → Gives command bytes written entries
+bytes-give command bytes json is (Answered text) entries gives = (json, is, gives)
+bytes-give command bytes json is (Refused text) entries gives = (json, is, gives)
+bytes-give command bytes json is NotBuilt entries gives = (json, is, gives)
+bytes-give command bytes json is NotJson entries gives = absurd gives
 
-pub made-gives : {E : Type 0} (json : Data) (bench : Bench) → IsBenchOf json bench → (written : Result Written E)
-    → IfOk written (QueryGives (bench_answers bench) bench.request) → IfOk written (JsonGives json)
-made-gives json bench made (Ok written) gives = json-gives json bench written made gives
-made-gives json bench made (Err want) gives = gives
+pub read-gives : {E : Type 0} (Told : List RecordEntry → Type 0) (command : Command) (bytes : List ℕ) (json : Data) → json_of bytes ≡ Some json
+    → (written : Result Written E) → IfOk written (WithRecord (JsonGives command json) Told) → IfOk written (WithRecord (Gives command bytes) Told)
+read-gives Told command bytes json is (Ok written) (entries, gives, told) =
+    (entries, bytes-give command bytes json is written entries gives, told)
+read-gives Told command bytes json is (Err want) gives = gives
 
 -- what is made of a first bench whose fields have names that differ
 abbrev pub IsMadeOf : FirstBench → Bench → Type 0

@@ -1,18 +1,16 @@
 -- What a bench's tables answer, and which JSON they are made of.
-use Rattle.std.specs.Prelude.{◌≡◌, ℕ, ℤ, List, Option, option_map, slice_get}
+use Rattle.std.specs.Prelude.{◌≡◌, ℕ, ℤ, List, [], Option, Some, option_map, slice_get}
 use Rattle.serde_json.specs.Data.{Data}
 use Rattle.gql_base.specs.Pairs.{under}
 use Rattle.gql_base.specs.declared.value.Value.{Value}
 use Rattle.gql_resolve.specs.Call.{Call}
 use Rattle.gql_resolve.specs.declared.answer.Answer.{Answer}
+use Rattle.gql_resolve.specs.declared.record_entry.RecordEntry.{RecordEntry}
 use Rattle.gql_schema.specs.Table.{types_of}
 use Rattle.gql_schema.specs.declared.object.Object.{Object}
-use Rattle.gql_cli.specs.Answer.{IsAnswerOf, IsRefusalOf}
 use Rattle.gql_cli.specs.FirstBench.{IsFirstBench, AreTaken}
-use Rattle.gql_cli.specs.Table.{rule_answer}
+use Rattle.gql_cli.specs.Table.{rule_answer, table_delay}
 use Rattle.gql_cli.specs.Tables.{root_constant, object_in, IsTableOf}
-use Rattle.gql_cli.specs.declared.bench.Written.{Written}
-use Rattle.gql_cli.specs.declared.bench.Written.TheVariants.{Answered, Refused, NotJson, NotBuilt}
 use Rattle.gql_cli.specs.declared.first_bench.FirstBench.{FirstBench}
 use Rattle.gql_cli.specs.declared.rule.Rule.{Rule}
 use Rattle.gql_cli.specs.declared.tables.Bench.{Bench}
@@ -29,13 +27,6 @@ pub record IsBenchOf (json : Data) (bench : Bench) : Type 0 where
   pub request : bench.request ≡ first.query
   pub tabled : IsTableOf first bench
 
--- what a query gives over what is answered under names
-abbrev pub QueryGives : (List ℕ → Option Value) → List ℕ → Written → Type 0
-QueryGives answers query (Answered text) = IsAnswerOf answers query text
-QueryGives answers query (Refused text) = IsRefusalOf query text
-QueryGives answers query NotBuilt = ((text : List ℕ) → IsAnswerOf answers query text → ⊥) × ((text : List ℕ) → IsRefusalOf query text → ⊥)
-QueryGives answers query NotJson = ⊥
-
 -- the query root
 abbrev pub bench_object : Bench → Option Object
 bench_object bench = option_map object_in (under bench.query (types_of bench.types))
@@ -49,3 +40,11 @@ pub record IsSuited (bench : Bench) : Type 0 where
 -- the answers are those of the rules
 pub record AnswersBy (rules : List Rule) (answer : Call ℤ → Answer ℤ) : Type 0 where
   pub ruled : (call : Call ℤ) → answer call ≡ rule_answer (slice_get rules call.resolver)
+
+-- A set as tables make it for a bench: it is lawful and paced by the bench's rules, and was told nothing yet.
+pub record IsSetOf (bench : Bench) (Lawful Paced : Type 0) (answer : Call ℤ → Answer ℤ) (delay : ℕ → ℕ) (told : Option (List RecordEntry)) : Type 0 where
+  pub lawful : Lawful
+  pub paced : Paced
+  pub answers : AnswersBy bench.rules answer
+  pub delays : (resolver : ℕ) → delay resolver ≡ table_delay bench.rules resolver
+  pub untold : told ≡ Some []

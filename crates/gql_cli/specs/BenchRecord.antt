@@ -2,7 +2,10 @@
 use Rattle.std.specs.Prelude.{◌≡◌, ℕ, suc, Bool, true, false, List, [], ◌∷◌, ◌++◌, Option, Some, None, option_map, option_and_then, codes}
 use Rattle.std.specs.Fmt.{decimal}
 use Rattle.std.specs.List.{AllZip, flat_map}
+use Rattle.std.specs.Str.{chars}
 use Rattle.gql_base.specs.Pairs.{under}
+use Rattle.gql_doc.specs.Spelled.{SpellsDocument}
+use Rattle.gql_doc.specs.declared.document.ExecutableDocument.{ExecutableDocument}
 use Rattle.gql_engine.specs.Pace.{EachPaced}
 use Rattle.gql_engine.specs.Record.{Story, Turned, fresh, made_at, waiting}
 use Rattle.gql_resolve.specs.declared.record_entry.RecordEntry.{RecordEntry}
@@ -11,6 +14,7 @@ use Rattle.gql_schema.specs.Object.{fields_of}
 use Rattle.gql_schema.specs.declared.field.Field.{Field}
 use Rattle.gql_cli.specs.BenchAnswers.{bench_object}
 use Rattle.gql_cli.specs.ListTurns.{list_choice, list_after}
+use Rattle.gql_cli.specs.Query.{Selects}
 use Rattle.gql_cli.specs.Table.{table_delay}
 use Rattle.gql_cli.specs.declared.first_bench.FirstBench.{FirstBench}
 use Rattle.gql_cli.specs.declared.first_bench.FirstField.{FirstField}
@@ -59,6 +63,23 @@ bench_task bench name =
 -- the set told such a record, and nothing else
 abbrev pub HasTold : Option (List RecordEntry) → List ℕ → List BenchTask → Type 0
 HasTold told turns tasks = (entries : List RecordEntry) × (told ≡ Some entries) × IsRecord turns tasks entries
+
+-- the document asks for some names, and these are the polls of their tasks
+pub record IsDocumentRecord (task_of : List ℕ → Option BenchTask) (turns : List ℕ) (document : ExecutableDocument) (entries : List RecordEntry) : Type 0 where
+  pub names : List (List ℕ)
+  pub selects : Selects document names
+  pub tasks : List BenchTask
+  pub asked : AreAsked task_of names tasks
+  pub is : IsRecord turns tasks entries
+
+-- such a record was told, and nothing else
+abbrev pub HasToldFor : (List ℕ → Option BenchTask) → List ℕ → ExecutableDocument → Option (List RecordEntry) → Type 0
+HasToldFor task_of turns document told = (entries : List RecordEntry) × (told ≡ Some entries) × IsDocumentRecord task_of turns document entries
+
+-- the record of a query over the tasks of names
+abbrev pub IsQueryRecord : (List ℕ → Option BenchTask) → List ℕ → List ℕ → List RecordEntry → Type 0
+IsQueryRecord task_of turns query entries =
+    (document : ExecutableDocument) × SpellsDocument (chars query) document × IsDocumentRecord task_of turns document entries
 
 abbrev pub poll_word : Bool → List ℕ
 poll_word true = codes "ready"

@@ -1,33 +1,38 @@
 //! The answer of a first bench.
-ghost use Rattle.std.specs.Prelude.{◌≡◌, ◌++◌, ℕ, List, [], ◌∷◌, map, codes, IfOk, OnOk, MatchOption, string_bytes};
+ghost use Rattle.std.specs.Prelude.{◌≡◌, ◌++◌, ℕ, List, [], ◌∷◌, map, codes, IfOk, OnOk, IfSome, MatchOption, string_bytes};
 ghost use Rattle.gql_base.specs.Json.{json};
 ghost use Rattle.gql_base.specs.Separated.{separated};
 ghost use Rattle.gql_engine.specs.declared.place.Tree.{out-Tree};
 ghost use Rattle.gql_cli.specs.Answer.{IsResponse, error_of, refusal_line, response_line, shown};
-ghost use Rattle.gql_cli.specs.BenchAnswers.{bench_answers, IsSuited};
+ghost use Rattle.gql_cli.specs.BenchAnswers.{bench_answers, IsSuited, IsSetOf};
+ghost use Rattle.gql_cli.specs.BenchRecord.{HasToldFor, bench_task};
 ghost use Rattle.gql_cli.specs.Shown.{data_of, members_here, shown_value, value_here};
 
 use crate::execution::run_query;
 use crate::query::selected_names;
-use crate::table_maker::Tables;
 use crate::tables::Bench;
 use gql_base::{Made, Pairs, ServerError, Text, push_comma, push_errors, push_json, push_name};
 use gql_doc::{ExecutableDocument, ParseFault};
 use gql_engine::{Place, Tree};
+use gql_resolve::ResolverSet;
 use std::alloc::Global;
 
 /// The line of the response to a document that asks for some fields by their names alone, where each is a field. It is
-/// run over a set that `tables` makes, and that is given back to them.
-pub(crate) fn response_of<M: Tables>(
+/// run over a set of the bench.
+pub(crate) fn response_of<S: ResolverSet<Own = i64>>(
     alloc: Global,
     bench: &Bench,
     document: ExecutableDocument,
-    tables: &mut M,
+    set: &mut S,
 ) -> Made<Option<Text>>
-    requires { IsSuited bench.now }
-    ensures { IfOk result (λ found. MatchOption found
+    requires suited { IsSuited bench.now }
+    requires set { IsSetOf bench.now (S.is_lawful set.old) (S.is_paced set.old)
+        (λ call. S.answer (S.rules set.old) call (S.world set.old)) (S.delay (S.rules set.old)) (S.told set.old) }
+    ensures response { IfOk result (λ found. MatchOption found
         ((text : List ℕ) → IsResponse (bench_answers bench.now) document text → ⊥)
         (IsResponse (bench_answers bench.now) document)) }
+    ensures record { IfOk result (λ found. IfSome found (λ text.
+        HasToldFor (bench_task bench.now) bench.now.turns document (S.told set.new))) }
 {
     let Some(names) = selected_names(alloc, &document)? else {
         return Ok(None);
@@ -35,7 +40,7 @@ pub(crate) fn response_of<M: Tables>(
     if !bench.has_fields(names.as_slice()) {
         return Ok(None);
     }
-    let place = run_query(alloc, bench, document, tables)?;
+    let place = run_query(alloc, bench, document, set)?;
     Ok(Some(place_line(alloc, &place)?))
 }
 

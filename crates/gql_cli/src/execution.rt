@@ -4,14 +4,13 @@ ghost use Rattle.gql_base.specs.declared.value.Value.{Value as OneValue};
 ghost use Rattle.gql_doc.specs.declared.document.DocumentOperations.TheVariants as operations;
 ghost use Rattle.gql_resolve.specs.Call.{is_mutation};
 ghost use Rattle.gql_cli.specs.Answer.{Chooses};
-ghost use Rattle.gql_cli.specs.BenchAnswers.{bench_answers, bench_object, IsSuited, AnswersBy};
+ghost use Rattle.gql_cli.specs.BenchAnswers.{bench_answers, bench_object, IsSuited, IsSetOf, AnswersBy};
 ghost use Rattle.gql_cli.specs.BenchRecord.{BenchTask, AreAsked, HasTold, bench_task};
 ghost use Rattle.gql_cli.specs.Query.{AreDistinct, Asks, IsBareQuery, IsNamesQuery};
 ghost use Rattle.gql_cli.specs.Shown.{data_of};
 ghost use Rattle.gql_cli.specs.Table.{table_delay};
 
 use crate::list_turns::ListTurns;
-use crate::table_maker::Tables;
 use crate::tables::Bench;
 use gql_base::{Copied, Made, Value, Variables};
 use gql_doc::{DocumentOperations, ExecutableDocument};
@@ -20,24 +19,24 @@ use gql_request::{Data, Hooks, IntrospectionMode, QueryEnv};
 use gql_resolve::{FieldValue, Layers, ResolverSet};
 use std::alloc::{AllocError, Global};
 
-/// Runs a query for some fields by their names over a set that `tables` makes, and gives the set back to them. The answer
-/// is the place of the response.
-pub(crate) fn run_query<M: Tables>(
+/// Runs a query for some fields by their names over a set of the bench. The answer is the place of the response.
+pub(crate) fn run_query<S: ResolverSet<Own = i64>>(
     alloc: Global,
     bench: &Bench,
     document: ExecutableDocument,
-    tables: &mut M,
+    set: &mut S,
 ) -> Made<Place>
     requires suited { IsSuited bench.now }
     requires query { IsNamesQuery document }
+    requires set { IsSetOf bench.now (S.is_lawful set.old) (S.is_paced set.old)
+        (λ call. S.answer (S.rules set.old) call (S.world set.old)) (S.delay (S.rules set.old)) (S.told set.old) }
     ensures data { (names : List (List ℕ)) → Asks document names → AreDistinct names → (chosen : List (List ℕ × OneValue))
         → Chooses (bench_answers bench.now) names chosen → IfOk result (λ place. data_of place ≡ chosen) }
+    ensures record { (names : List (List ℕ)) → Asks document names → (tasks : List BenchTask)
+        → AreAsked (bench_task bench.now) names tasks → OnOk result (HasTold (S.told set.new) bench.now.turns tasks) }
 {
     let env = env_of(alloc, document);
-    let mut set = tables.make(alloc, bench)?;
-    let place = run_env(alloc, bench, &env, &mut set);
-    tables.take_back(set);
-    place
+    run_env(alloc, bench, &env, set)
 }
 
 /// What the execution of a document with one operation without a name knows of its request.

@@ -14,6 +14,9 @@ mod outcome;
 mod program;
 mod query;
 mod reading;
+#[cfg(test)]
+mod record_tests;
+mod record_text;
 mod rule;
 mod shared;
 mod sink;

@@ -1,13 +1,15 @@
 //! The program's top call.
 ghost use Rattle.std.specs.Prelude.{◌≡◌, ◌⊎◌, ◌+◌, ◌<◌, ◌≤◌, List, ℕ, length, map, string_bytes, IfSome};
 ghost use Rattle.std.specs.Io.KnownBytes.{Keeps, Appends};
-ghost use Rattle.gql_cli.specs.Bench.{Gives};
+ghost use Rattle.gql_cli.specs.Bench.{Gives, HoldsTold};
 ghost use Rattle.gql_cli.specs.Counts.{IsFull, HasRisen};
 ghost use Rattle.gql_cli.specs.Reading.{IsInput, IsTooLong};
-ghost use Rattle.gql_cli.specs.Run.{IsListed, IsCutOff, IsDue, due_status, due_text};
+ghost use Rattle.gql_cli.specs.Run.{IsListed, IsCutOff, IsDue, due_status, due_text, words_for};
 ghost use Rattle.gql_cli.specs.Status.{code_of};
 ghost use Rattle.gql_cli.specs.Writing.{AppendsStart};
+ghost use Rattle.gql_cli.specs.declared.bench.Command.{Command};
 ghost use Rattle.gql_cli.specs.declared.bench.Written.{Written};
+ghost use Rattle.gql_resolve.specs.declared.record_entry.RecordEntry.{RecordEntry as OneEntry};
 
 use crate::outcome::{Outcome, decide};
 use crate::reading::INPUT_LIMIT;
@@ -46,8 +48,20 @@ pub fn run<R, I: Source, O: Sink, M: Tables>(
 
     // 0, 1 and 3 come after the whole input was read, by what it gives as a bench.
     ensures bench { (result ≡ 0) ⊎ (result ≡ 1) ⊎ (result ≡ 3)
-        → (input : List ℕ) × IsInput I.left I.given source.old source.new input
-        × ((written : Written) × Gives input written × (result ≡ due_status (Outcome.Bench written))) }
+        → (command : Command) × (map string_bytes words.now ≡ words_for command)
+        × ((input : List ℕ) × IsInput I.left I.given source.old source.new input
+        × ((written : Written) × (entries : List OneEntry) × Gives command input written entries
+        × (result ≡ due_status (Outcome.Bench written)))) }
+
+    // Where there is a response, its text was written, and `tables` hold the set that answered. That set told the record of
+    // the bench, which is the one that the text tells of, and nothing else.
+    ensures told { (result ≡ 0) ⊎ (result ≡ 1)
+        → (command : Command) × (map string_bytes words.now ≡ words_for command)
+        × ((input : List ℕ) × IsInput I.left I.given source.old source.new input
+        × ((written : Written) × (entries : List OneEntry) × Gives command input written entries
+        × (result ≡ due_status (Outcome.Bench written))
+        × Appends (O.held sink.old) (O.held sink.new) (due_text (Outcome.Bench written))
+        × HoldsTold (M.held tables.new) M.Set.told entries)) }
 
     // 5 comes only where a write failed.
     ensures write_fault { result ≡ 5 → HasRisen (O.faults sink.old) (O.faults sink.new) }
@@ -55,21 +69,25 @@ pub fn run<R, I: Source, O: Sink, M: Tables>(
     // Every other status but 6, of wanting memory, comes once the whole text is written that is due with it. At 5 and 6
     // the front of the text that is due was written, and where memory was wanting before, nothing.
     ensures written { IsCutOff result ⊎ ((due : Outcome)
-        × IsDue I.left I.given I.faults source.old source.new (map string_bytes words.now) due
+        × IsDue I.left I.given I.faults source.old source.new (HoldsTold (M.held tables.new) M.Set.told)
+        (map string_bytes words.now) due
         × (result ≡ due_status due) × Appends (O.held sink.old) (O.held sink.new) (due_text due)) }
     ensures cut_off { result ≡ 5 → (due : Outcome)
-        × IsDue I.left I.given I.faults source.old source.new (map string_bytes words.now) due
+        × IsDue I.left I.given I.faults source.old source.new (HoldsTold (M.held tables.new) M.Set.told)
+        (map string_bytes words.now) due
         × AppendsStart (O.held sink.old) (O.held sink.new) (due_text due) }
     ensures no_memory { result ≡ 6 → Keeps (O.held sink.old) (O.held sink.new) ⊎ ((due : Outcome)
-        × IsDue I.left I.given I.faults source.old source.new (map string_bytes words.now) due
+        × IsDue I.left I.given I.faults source.old source.new (HoldsTold (M.held tables.new) M.Set.told)
+        (map string_bytes words.now) due
         × AppendsStart (O.held sink.old) (O.held sink.new) (due_text due)) }
 
     // An input that is told and within the limit gives its text, unless a read or a write fails or memory is wanting.
-    ensures complete { IsListed (map string_bytes words.now)
+    ensures complete { (command : Command) → map string_bytes words.now ≡ words_for command
         → IfSome (I.left source.old) (λ input. length input ≤ INPUT_LIMIT
         → ¬ HasRisen (I.faults source.old) (I.faults source.new)
         → ¬ HasRisen (O.faults sink.old) (O.faults sink.new)
-        → (result ≡ 6) ⊎ ((written : Written) × Gives input written × (result ≡ due_status (Outcome.Bench written))
+        → (result ≡ 6) ⊎ ((written : Written) × (entries : List OneEntry) × Gives command input written entries
+        × (result ≡ due_status (Outcome.Bench written))
         × Appends (O.held sink.old) (O.held sink.new) (due_text (Outcome.Bench written)))) }
 {
     run_alone(alloc, words, source, sink, tables)
@@ -101,8 +119,20 @@ pub fn run_alone<I: Source, O: Sink, M: Tables>(
 
     // 0, 1 and 3 come after the whole input was read, by what it gives as a bench.
     ensures bench { (result ≡ 0) ⊎ (result ≡ 1) ⊎ (result ≡ 3)
-        → (input : List ℕ) × IsInput I.left I.given source.old source.new input
-        × ((written : Written) × Gives input written × (result ≡ due_status (Outcome.Bench written))) }
+        → (command : Command) × (map string_bytes words.now ≡ words_for command)
+        × ((input : List ℕ) × IsInput I.left I.given source.old source.new input
+        × ((written : Written) × (entries : List OneEntry) × Gives command input written entries
+        × (result ≡ due_status (Outcome.Bench written)))) }
+
+    // Where there is a response, its text was written, and `tables` hold the set that answered. That set told the record of
+    // the bench, which is the one that the text tells of, and nothing else.
+    ensures told { (result ≡ 0) ⊎ (result ≡ 1)
+        → (command : Command) × (map string_bytes words.now ≡ words_for command)
+        × ((input : List ℕ) × IsInput I.left I.given source.old source.new input
+        × ((written : Written) × (entries : List OneEntry) × Gives command input written entries
+        × (result ≡ due_status (Outcome.Bench written))
+        × Appends (O.held sink.old) (O.held sink.new) (due_text (Outcome.Bench written))
+        × HoldsTold (M.held tables.new) M.Set.told entries)) }
 
     // 5 comes only where a write failed.
     ensures write_fault { result ≡ 5 → HasRisen (O.faults sink.old) (O.faults sink.new) }
@@ -110,21 +140,25 @@ pub fn run_alone<I: Source, O: Sink, M: Tables>(
     // Every other status but 6, of wanting memory, comes once the whole text is written that is due with it. At 5 and 6
     // the front of the text that is due was written, and where memory was wanting before, nothing.
     ensures written { IsCutOff result ⊎ ((due : Outcome)
-        × IsDue I.left I.given I.faults source.old source.new (map string_bytes words.now) due
+        × IsDue I.left I.given I.faults source.old source.new (HoldsTold (M.held tables.new) M.Set.told)
+        (map string_bytes words.now) due
         × (result ≡ due_status due) × Appends (O.held sink.old) (O.held sink.new) (due_text due)) }
     ensures cut_off { result ≡ 5 → (due : Outcome)
-        × IsDue I.left I.given I.faults source.old source.new (map string_bytes words.now) due
+        × IsDue I.left I.given I.faults source.old source.new (HoldsTold (M.held tables.new) M.Set.told)
+        (map string_bytes words.now) due
         × AppendsStart (O.held sink.old) (O.held sink.new) (due_text due) }
     ensures no_memory { result ≡ 6 → Keeps (O.held sink.old) (O.held sink.new) ⊎ ((due : Outcome)
-        × IsDue I.left I.given I.faults source.old source.new (map string_bytes words.now) due
+        × IsDue I.left I.given I.faults source.old source.new (HoldsTold (M.held tables.new) M.Set.told)
+        (map string_bytes words.now) due
         × AppendsStart (O.held sink.old) (O.held sink.new) (due_text due)) }
 
     // An input that is told and within the limit gives its text, unless a read or a write fails or memory is wanting.
-    ensures complete { IsListed (map string_bytes words.now)
+    ensures complete { (command : Command) → map string_bytes words.now ≡ words_for command
         → IfSome (I.left source.old) (λ input. length input ≤ INPUT_LIMIT
         → ¬ HasRisen (I.faults source.old) (I.faults source.new)
         → ¬ HasRisen (O.faults sink.old) (O.faults sink.new)
-        → (result ≡ 6) ⊎ ((written : Written) × Gives input written × (result ≡ due_status (Outcome.Bench written))
+        → (result ≡ 6) ⊎ ((written : Written) × (entries : List OneEntry) × Gives command input written entries
+        × (result ≡ due_status (Outcome.Bench written))
         × Appends (O.held sink.old) (O.held sink.new) (due_text (Outcome.Bench written)))) }
 {
     match decide(alloc, words, source, tables) {

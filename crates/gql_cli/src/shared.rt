@@ -1,7 +1,7 @@
 //! The public types can be moved to threads and shared between them, where what they are made of can.
 use crate::{
-    Bench, Failed, ListTurns, MemorySink, MemorySource, Outcome, SinkFault, Status, StdSink,
-    StdSource, SureSink, SureSource, Table, TableFuture, TableMaker, Written,
+    Bench, Command, Failed, ListTurns, MemorySink, MemorySource, Outcome, SinkFault, Status,
+    StdSink, StdSource, SureSink, SureSource, Table, TableFuture, TableMaker, Written,
 };
 use std::io::{Read, Write};
 
@@ -9,6 +9,7 @@ fn shared<T: Send + Sync>() {}
 
 fn public_types<I: Read + Send + Sync, O: Write + Send + Sync>() {
     shared::<Bench>();
+    shared::<Command>();
     shared::<Failed>();
     shared::<ListTurns>();
     shared::<MemorySink>();

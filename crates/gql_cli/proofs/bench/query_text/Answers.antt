@@ -1,24 +1,17 @@
-use Rattle.std.proofs.Common.{◌≡◌, sym, ◌∙◌, subst}
-use Rattle.std.specs.Str.{chars}
-use Rattle.gql_cli.specs.Answer.{IsResponse}
-use Rattle.gql_cli.specs.BenchAnswers.{bench_answers}
-use Rattle.gql_doc.specs.Spelled.{SpellsDocument, IsDocumentFault}
+use Rattle.gql_cli.specs.Bench.{bench_request}
+use Rattle.gql_cli.proofs.RecordTextLemmas.{made-behind}
 use Rattle.gql_cli.proofs.bench.query_text.Goals as goal
 
-pub returns-in-Some : goal.returns-in-Some
-returns-in-Some g c =
-    let spelled = rw c.in-Ok.is at c.in_ok-document.ensures.given in
-    let response = rw c.in-Some.is at c.in_ok-text-in-Ok.ensures in
-    (c.in-Ok.document, subst (λ query. SpellsDocument (chars query) c.in-Ok.document) c.as_str.ensures spelled, response)
+pub returns : goal.returns
+returns g c =
+    made-behind _ _ _ c.take_back.ensures c.told.result.now c.args.command (bench_request c.args.bench.now) _ c.told.ensures c.in_ok-answer.ensures
+    c.with_lines.result c.with_lines.ensures
 
-pub returns-in-None : goal.returns-in-None
-returns-in-None g c =
-    let never = rw c.in-None.is at c.in_ok-text-in-Ok.ensures in (
-      λ text (document, spells, response).
-          let read = sym c.in-Ok.is ∙ c.in_ok-document.ensures.spelled document (subst (λ query. SpellsDocument (chars query) document) (sym c.as_str.ensures) spells) in
-          let same : document ≡ c.in-Ok.document = cc in
-          never text (subst (λ read. IsResponse (bench_answers c.args.bench.now) read text) same response),
-      λ text (fault, is, line).
-          let read = sym c.in-Ok.is ∙ c.in_ok-document.ensures.faulty fault (subst (λ query. IsDocumentFault (chars query) fault) (sym c.as_str.ensures) is) in
-          cc,
-    )
+pub query_answer-answer-requires-clause-set : goal.query_answer-answer-requires-clause-set
+query_answer-answer-requires-clause-set g c = record {
+  lawful = c.in_ok-set.ensures.lawful;
+  paced = c.in_ok-set.ensures.paced;
+  answers = record { ruled = λ call. c.in_ok-set.ensures.answer call _ };
+  delays = c.in_ok-set.ensures.delay;
+  untold = c.in_ok-set.ensures.told;
+}
