@@ -4,7 +4,6 @@ use Rattle.std.specs.List.{AllZip}
 use Rattle.serde_json.specs.Data.{Data}
 use Rattle.gql_base.specs.Pairs.{HasDistinctNames}
 use Rattle.gql_base.specs.ReadJson.{value_of}
-use Rattle.gql_base.specs.declared.value.Value.{Value}
 use Rattle.gql_resolve.specs.declared.record_entry.RecordEntry.{RecordEntry}
 use Rattle.gql_cli.specs.Answer.{IsAnswerOf, IsRefusalOf, answers_of}
 use Rattle.gql_cli.specs.Bench.{json_of, bench_request, first_request, Gives, JsonGives, QueryGives, WithRecord}

@@ -5,7 +5,7 @@ use Rattle.gql_resolve.specs.declared.record_entry.RecordEntry.{RecordEntry}
 use Rattle.gql_cli.specs.Bench.{Request, behind, lines_for, HoldsTold, QueryGives, WithRecord}
 use Rattle.gql_cli.specs.BenchRecord.{entry_line, record_lines}
 use Rattle.gql_cli.specs.declared.bench.Command.{Command}
-use Rattle.gql_cli.specs.declared.bench.Command.TheVariants.{Execute, Record}
+use Rattle.gql_cli.specs.declared.bench.Command.TheVariants.{Execute}
 use Rattle.gql_cli.specs.declared.bench.Written.{Written}
 use Rattle.gql_cli.specs.declared.bench.Written.TheVariants.{Answered, Refused, NotJson, NotBuilt}
 
