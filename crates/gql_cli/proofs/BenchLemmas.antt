@@ -4,7 +4,6 @@ use Rattle.std.specs.List.{AllZip}
 use Rattle.serde_json.specs.Data.{Data}
 use Rattle.gql_base.specs.Pairs.{HasDistinctNames}
 use Rattle.gql_base.specs.ReadJson.{value_of}
-use Rattle.gql_base.specs.declared.value.Value.{Value}
 use Rattle.gql_resolve.specs.declared.record_entry.RecordEntry.{RecordEntry}
 use Rattle.gql_cli.specs.Answer.{IsAnswerOf, IsRefusalOf, answers_of}
 use Rattle.gql_cli.specs.Bench.{json_of, bench_request, first_request, Gives, JsonGives, QueryGives, WithRecord}
@@ -89,9 +88,8 @@ made-gives Told command json bench made (Ok written) (entries, gives, told) =
 made-gives Told command json bench made (Err want) gives = gives
 
 -- a JSON value that is no bench has no answer
-pub no-bench : (Told : List RecordEntry → Type 0) (command : Command) (json : Data) → IsNoFirstBench json
-    → WithRecord (JsonGives command json) Told NotBuilt
-no-bench Told command json none =
+pub no-bench : (command : Command) (json : Data) → IsNoFirstBench json → (entries : List RecordEntry) × JsonGives command json NotBuilt entries × Unit {0}
+no-bench command json none =
     ([], (λ text (first, shaped, answer). none first shaped, λ text (first, shaped, refusal). none first shaped), tt)
 
 -- what a JSON value gives, the bytes with that value give

@@ -4,14 +4,12 @@ use Rattle.std.proofs.lemmas.List.{take_more, map-append}
 use Rattle.std.specs.List.{AllZip}
 use Rattle.gql_base.specs.Pairs.{under, put, HasDistinctNames}
 use Rattle.gql_base.proofs.PairLemmas.{put-fresh}
-use Rattle.gql_doc.specs.declared.document.DocumentOperations.TheVariants as operations
 use Rattle.gql_doc.specs.declared.document.ExecutableDocument.{ExecutableDocument}
 use Rattle.gql_doc.specs.declared.document.Field.{Field, out-Field}
 use Rattle.gql_doc.specs.declared.document.OperationDefinition.{OperationDefinition}
 use Rattle.gql_doc.specs.declared.document.Positioned.{Positioned}
 use Rattle.gql_doc.specs.declared.document.Selection.{Selection}
-use Rattle.gql_doc.specs.declared.document.Selection.TheOpen.{Selection-F}
-use Rattle.gql_cli.specs.Query.{IsBare, IsBareQuery, Asks, selections_of, bare}
+use Rattle.gql_cli.specs.Query.{IsBare, Asks, selections_of, bare}
 use Rattle.gql_cli.proofs.TablesLemmas.{distinct-more, distinct-never}
 
 bare-same : (selection : Positioned Selection) (m n : List ℕ) → IsBare selection m → IsBare selection n → m ≡ n

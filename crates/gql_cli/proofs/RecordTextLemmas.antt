@@ -5,7 +5,7 @@ use Rattle.gql_resolve.specs.declared.record_entry.RecordEntry.{RecordEntry}
 use Rattle.gql_cli.specs.Bench.{Request, behind, lines_for, HoldsTold, QueryGives, WithRecord}
 use Rattle.gql_cli.specs.BenchRecord.{entry_line, record_lines}
 use Rattle.gql_cli.specs.declared.bench.Command.{Command}
-use Rattle.gql_cli.specs.declared.bench.Command.TheVariants.{Execute, Record}
+use Rattle.gql_cli.specs.declared.bench.Command.TheVariants.{Execute}
 use Rattle.gql_cli.specs.declared.bench.Written.{Written}
 use Rattle.gql_cli.specs.declared.bench.Written.TheVariants.{Answered, Refused, NotJson, NotBuilt}
 
@@ -30,13 +30,13 @@ answer-behind told set shown command request NotBuilt shows (entries, gives, tel
 answer-behind told set shown command request NotJson shows (entries, gives, tells) = absurd gives
 
 -- the same of what was made of it, where the set that is held is known by an equation
-pub made-behind : {S E : Type 0} (told : S → Option (List RecordEntry)) (held : Option S) (set : S) → held ≡ Some set → (shown : List RecordEntry)
+pub made_behind : {S E : Type 0} (told : S → Option (List RecordEntry)) (held : Option S) (set : S) → held ≡ Some set → (shown : List RecordEntry)
     (command : Command) (request : Request) (answer : Written) → MatchOption held (shown ≡ []) (λ s. IfSome (told s) (λ entries. shown ≡ entries))
     → WithRecord (QueryGives Execute request) (λ entries. told set ≡ Some entries) answer
     → (made : Result Written E) → IfOk made (λ written. written ≡ behind (lines_for command shown) answer)
     → IfOk made (WithRecord (QueryGives command request) (HoldsTold held told))
-made-behind {S} told held set is shown command request answer shows gives (Err want) same = same
-made-behind {S} told held set is shown command request answer shows gives (Ok written) same =
+made_behind {S} told held set is shown command request answer shows gives (Err want) same = same
+made_behind {S} told held set is shown command request answer shows gives (Ok written) same =
     let shown_by : IfSome (told set) (λ entries. shown ≡ entries)
     = subst (λ (h : Option S). MatchOption h (shown ≡ []) (λ s. IfSome (told s) (λ entries. shown ≡ entries))) is shows in
     subst (λ (h : Option S). WithRecord (QueryGives command request) (HoldsTold h told) written) (sym is)

@@ -1,16 +1,15 @@
 -- What the engine makes of a constant that its field's type takes.
-use Rattle.std.proofs.Common.{rules, ◌≡◌, ◌⊎◌, inl, inr, ℕ, ℤ, pos, negsuc, ◌≤ℤ◌, ◌&&◌, Bool, true, false, cond, List, Option, Some, None, refl, ap, sym, ◌∙◌, subst, codes, int_le}
+use Rattle.std.proofs.Common.{rules, ◌≡◌, inl, inr, ℕ, ℤ, pos, negsuc, ◌≤ℤ◌, ◌&&◌, true, false, cond, List, Some, refl, ap, sym, ◌∙◌, subst, codes, int_le}
 use Rattle.std.specs.Str.{bytes_eq}
 use Rattle.gql_base.specs.declared.value.Value.{Value, the_lemmas, out-Value, roll-Value, roll-out-Value}
 use Rattle.gql_base.specs.declared.value.Value.TheOpen.{Value-F}
 use Rattle.gql_base.specs.declared.value.Value.TheVariants as value
-use Rattle.gql_base.specs.declared.type_ref.TypeRef.{TypeRef, the_lemmas as type_lemmas}
+use Rattle.gql_base.specs.declared.type_ref.TypeRef.{the_lemmas as type_lemmas}
 use Rattle.gql_base.specs.declared.type_ref.TypeRef.TheVariants.{Named}
-use Rattle.gql_resolve.specs.declared.field_value.FieldValue.{FieldValue, the_lemmas as given_lemmas}
+use Rattle.gql_resolve.specs.declared.field_value.FieldValue.{the_lemmas as given_lemmas}
 use Rattle.gql_resolve.specs.declared.field_value.FieldValue.TheVariants as given
 use Rattle.gql_engine.specs.Apart.{fill}
 use Rattle.gql_engine.specs.Completion.{completed, leaf_at, is_int32, is_null, null_here, takes, takes_here, fault, no_scalar}
-use Rattle.gql_engine.specs.declared.place.Place.{Place}
 use Rattle.gql_engine.specs.declared.place.Tree.{Tree, the_lemmas as tree_lemmas, out-Tree}
 use Rattle.gql_engine.specs.declared.place.Tree.TheVariants as tree
 use Rattle.gql_engine.specs.declared.shape.Shape.TheVariants as shape

@@ -1,11 +1,11 @@
 -- What a run has delivered, by what was due: the text that its input gives, unless a read or a write failed or memory was
 -- wanting.
-use Rattle.std.proofs.Common.{◌≡◌, ◌⊎◌, ℕ, ◌≤◌, ◌<◌, List, [], length, Option, Some, None, inl, inr, refl, sym, ◌∙◌, subst, arith}
+use Rattle.std.proofs.Common.{◌≡◌, ◌⊎◌, ℕ, ◌≤◌, ◌<◌, List, [], length, Option, Some, None, inl, inr, refl, ap, sym, ◌∙◌, subst, arith}
 use Rattle.std.specs.Prelude.{IfSome}
 use Rattle.gql_resolve.specs.declared.record_entry.RecordEntry.{RecordEntry}
 use Rattle.gql_cli.specs.Bench.{Gives, IfResponse}
 use Rattle.gql_cli.specs.Counts.{HasRisen}
-use Rattle.gql_cli.specs.Run.{HasRun, IsDue, IsCutOff, due_status, due_text, words_for}
+use Rattle.gql_cli.specs.Run.{HasRun, IsDue, IsListed, IsCutOff, due_status, due_text, words_for}
 use Rattle.gql_cli.specs.declared.bench.Command.{Command}
 use Rattle.gql_cli.specs.declared.bench.Command.TheVariants.{Execute, Record}
 use Rattle.gql_cli.specs.declared.bench.Written.{Written}
@@ -69,6 +69,14 @@ pub written : (status : ℕ) (Due : Outcome → Type 0) (Holds : List ℕ → Ty
 written status Due Holds due is (inl cut) = inl cut
 written status Due Holds due is (inr (same, holds)) = inr (due, is, same, holds)
 
+some-each : {A : Type 0} (o : Option A) (P : A → Type 0) → ((x : A) → P x) → IfSome o P
+some-each None P each = tt
+some-each (Some x) P each = each x
+
+some-through : {A : Type 0} (o : Option A) (P Q : A → Type 0) → IfSome o P → ((x : A) → P x → Q x) → IfSome o Q
+some-through None P Q some through = tt
+some-through (Some x) P Q some through = through x some
+
 module _ {I : Type 0} (left : I → Option (List ℕ)) (given faults : I → ℕ) (old new : I) (Told : List RecordEntry → Type 0) (words : List (List ℕ))
     (status : ℕ) (Holds : List ℕ → Type 0) where
   -- the input gives something to a command, whose status this is, and it was written
@@ -95,6 +103,20 @@ module _ {I : Type 0} (left : I → Option (List ℕ)) (given faults : I → ℕ
   uncut (inr six) (inl none) = omega arith
   uncut (inr six) (inr (inl one)) = omega arith
   uncut (inr six) (inr (inr three)) = omega arith
+
+  -- an input past its limit has the status of that, unless the run ended before
+  long-due : (due : Outcome) → IsDue left given faults old new Told words due → (status ≡ due_status due) × Holds (due_text due) → IsListed words
+      → IfSome (left old) (λ input. INPUT_LIMIT < length input → (status ≡ 7) ⊎ (status ≡ 4) ⊎ IsCutOff status)
+  long-due Usage due (same, holds) listed = absurd (due listed)
+  long-due ReadFault due (same, holds) listed = some-each (left old) _ (λ input long. inr (inl same))
+  long-due TooLong due (same, holds) listed = some-each (left old) _ (λ input long. inl same)
+  long-due (Bench written) due (same, holds) listed =
+      some-through (left old) _ _ due.input.told (λ input (is, rest) long. let sizes = ap length is in let within = due.input.within in absurd (omega arith))
+
+  pub too-many : (due : Outcome) → IsDue left given faults old new Told words due → IsCutOff status ⊎ ((status ≡ due_status due) × Holds (due_text due))
+      → IsListed words → IfSome (left old) (λ input. INPUT_LIMIT < length input → (status ≡ 7) ⊎ (status ≡ 4) ⊎ IsCutOff status)
+  too-many due is (inl cut) listed = some-each (left old) _ (λ input long. inr (inr cut))
+  too-many due is (inr delivered) listed = long-due due is delivered listed
 
   -- the statuses 0, 1 and 3 come of what the input gives
   pub gave : (due : Outcome) → IsDue left given faults old new Told words due → IsCutOff status ⊎ ((status ≡ due_status due) × Holds (due_text due))

@@ -1,5 +1,5 @@
 -- One more field in a bench's tables, and what the tables answer.
-use Rattle.std.proofs.Common.{◌≡◌, ℕ, zero, suc, ◌+◌, Bool, true, false, cond, List, [], ◌∷◌, ◌++◌, map, length, Option, Some, None, IsSome, is_some, option_map, option_and_then, slice_get, refl, ap, sym, ◌∙◌, subst, arith, add-zero, zero-add, append_assoc, length-append}
+use Rattle.std.proofs.Common.{◌≡◌, ℕ, suc, ◌+◌, Bool, true, false, cond, List, [], ◌∷◌, ◌++◌, map, length, Option, Some, None, IsSome, is_some, option_map, option_and_then, slice_get, refl, ap, sym, ◌∙◌, subst, arith, add-zero, zero-add, append_assoc, length-append}
 use Rattle.std.proofs.lemmas.List.{map-append, length-map}
 use Rattle.std.specs.Str.{bytes_eq}
 use Rattle.std.specs.Cmp.Lexicographic.{nat_list_eq_equiv, bytes_decides}

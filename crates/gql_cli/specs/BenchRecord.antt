@@ -1,5 +1,5 @@
 -- The record of a bench's query: the polls of its resolvers, in the order that the bench's turns fix, and the lines that tell it.
-use Rattle.std.specs.Prelude.{◌≡◌, ℕ, suc, Bool, true, false, List, [], ◌∷◌, ◌++◌, Option, Some, None, option_map, option_and_then, codes}
+use Rattle.std.specs.Prelude.{◌≡◌, ℕ, suc, Bool, true, false, List, [], ◌∷◌, ◌++◌, Option, Some, option_map, option_and_then, codes}
 use Rattle.std.specs.Fmt.{decimal}
 use Rattle.std.specs.List.{AllZip, flat_map}
 use Rattle.std.specs.Str.{chars}

@@ -1,5 +1,5 @@
 -- What a document asks for, where it is a query for some fields by their names alone (GraphQL, October 2021, section 2).
-use Rattle.std.specs.Prelude.{◌≡◌, ◌≢◌, ℕ, List, [], ◌∷◌, All, None, map, codes}
+use Rattle.std.specs.Prelude.{◌≡◌, ◌≢◌, ℕ, List, [], All, None, map, codes}
 use Rattle.std.specs.List.{AllZip}
 use Rattle.gql_base.specs.Pairs.{HasDistinctNames}
 use Rattle.gql_doc.specs.declared.document.DocumentOperations.TheVariants as operations

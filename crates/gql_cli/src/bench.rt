@@ -81,6 +81,7 @@ fn bench_text<M: Tables>(
 
 /// What a bench's request gives to a command. It is run over a set that `tables` makes, and that is given back to them
 /// before the command writes of its record.
+#[tactic(auto, using(crate::proofs::RecordTextLemmas::made_behind))]
 fn query_text<M: Tables>(
     alloc: Global,
     command: Command,

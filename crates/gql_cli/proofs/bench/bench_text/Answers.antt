@@ -10,4 +10,4 @@ pub query_text-requires : goal.query_text-requires
 query_text-requires g c = suited (view c.args.json.now) c.in-Ok.bench (rw c.in-Ok.is at c.in_ok-bench.ensures.built)
 
 pub returns : goal.returns
-returns g c = no-bench _ c.args.command (view c.args.json.now) (rw c.in-Err.is at c.in_ok-bench.ensures.refused).1
+returns g c = no-bench c.args.command (view c.args.json.now) (rw c.in-Err.is at c.in_ok-bench.ensures.refused).1

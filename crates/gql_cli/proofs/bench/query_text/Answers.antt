@@ -1,11 +1,4 @@
-use Rattle.gql_cli.specs.Bench.{bench_request}
-use Rattle.gql_cli.proofs.RecordTextLemmas.{made-behind}
 use Rattle.gql_cli.proofs.bench.query_text.Goals as goal
-
-pub returns : goal.returns
-returns g c =
-    made-behind _ _ _ c.take_back.ensures c.told.result.now c.args.command (bench_request c.args.bench.now) _ c.told.ensures c.in_ok-answer.ensures
-    c.with_lines.result c.with_lines.ensures
 
 pub query_answer-answer-requires-clause-set : goal.query_answer-answer-requires-clause-set
 query_answer-answer-requires-clause-set g c = record {

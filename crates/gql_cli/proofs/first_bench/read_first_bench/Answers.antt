@@ -1,6 +1,6 @@
 use Rattle.std.proofs.Common.{sym, ◌∙◌, subst, codes}
 use Rattle.std.specs.List.{AllZip}
-use Rattle.gql_cli.specs.FirstBench.{IsField, IsTurns}
+use Rattle.gql_cli.specs.FirstBench.{IsField}
 use Rattle.gql_cli.proofs.FirstBenchLemmas.{parts-same, schema-same}
 use Rattle.gql_cli.proofs.first_bench.read_first_bench.Goals as goal
 

@@ -1,5 +1,5 @@
 use Rattle.std.proofs.Common.{rules, ◌≡◌, ap, sym, ◌∙◌}
-use Rattle.gql_doc.specs.declared.document.Selection.{Selection, the_lemmas, out-Selection, roll-Selection, roll-out-Selection}
+use Rattle.gql_doc.specs.declared.document.Selection.{the_lemmas, out-Selection, roll-Selection, roll-out-Selection}
 use Rattle.gql_doc.specs.declared.document.Selection.TheOpen.{Selection-F}
 use Rattle.gql_doc.specs.declared.document.Selection.TheViews.{rolls-Field}
 use Rattle.gql_cli.proofs.query.bare_name.Goals as goal
