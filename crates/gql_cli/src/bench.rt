@@ -49,7 +49,7 @@ pub(crate) fn text_of<M: Tables>(
 {
     match json_value(alloc, bytes)? {
         None => Ok(Written::NotJson),
-        Some(json) => bench_text(alloc, command, &json, tables),
+        Some(json) => bench_text(alloc, command, json, tables),
     }
 }
 
@@ -64,16 +64,19 @@ fn json_value(alloc: Global, bytes: &[u8]) -> Made<Option<Value>>
     }
 }
 
-/// What a JSON value gives to a command as a bench.
+/// What a JSON value gives to a command as a bench. The value is let go of once the bench is made of it, so that its room
+/// serves the run.
 fn bench_text<M: Tables>(
     alloc: Global,
     command: Command,
-    json: &Value,
+    json: Value,
     tables: &mut M,
 ) -> Made<Written>
-    ensures { IfOk result (WithRecord (JsonGives command (view json.now)) (HoldsTold (M.held tables.new) M.Set.told)) }
+    ensures { IfOk result (WithRecord (JsonGives command (view json)) (HoldsTold (M.held tables.new) M.Set.told)) }
 {
-    match bench_of(alloc, command, json)? {
+    let made = bench_of(alloc, command, &json)?;
+    drop(json);
+    match made {
         Ok(bench) => query_text(alloc, command, &bench, tables),
         Err(_) => Ok(Written::NotBuilt),
     }

@@ -4,10 +4,10 @@ use Rattle.gql_cli.proofs.bench.bench_text.Goals as goal
 
 pub returns-in-Ok : goal.returns-in-Ok
 returns-in-Ok g c =
-    made-gives _ c.args.command (view c.args.json.now) c.in-Ok.bench (rw c.in-Ok.is at c.in_ok-bench.ensures.built) c.query_text.result c.query_text.ensures
+    made-gives _ c.args.command (view c.args.json) c.in-Ok.bench (rw c.in-Ok.is at c.in_ok-made.ensures.built) c.query_text.result c.query_text.ensures
 
 pub query_text-requires : goal.query_text-requires
-query_text-requires g c = suited (view c.args.json.now) c.in-Ok.bench (rw c.in-Ok.is at c.in_ok-bench.ensures.built)
+query_text-requires g c = suited (view c.args.json) c.in-Ok.bench (rw c.in-Ok.is at c.in_ok-made.ensures.built)
 
 pub returns : goal.returns
-returns g c = no-bench c.args.command (view c.args.json.now) (rw c.in-Err.is at c.in_ok-bench.ensures.refused).1
+returns g c = no-bench c.args.command (view c.args.json) (rw c.in-Err.is at c.in_ok-made.ensures.refused).1
