@@ -1,62 +1,38 @@
--- Lists of lexemes by their ends, and what no query of names is.
-use Rattle.std.proofs.Common.{◌≡◌, ℕ, zero, suc, ◌<◌, List, [], ◌∷◌, ◌++◌, map, length, get_or, refl, ap, sym, ◌∙◌, subst, arith, append_assoc, take, drop, Option, None, Some, is_some, false, IsSome, ◌+◌}
+-- Names that are seen one by one, and that a document asks for some names at most.
+use Rattle.std.proofs.Common.{◌≡◌, ℕ, zero, suc, ◌<◌, List, [], ◌∷◌, ◌++◌, map, length, get_or, refl, ap, sym, ◌∙◌, subst, arith, take, drop, Option, None, Some, is_some, false, IsSome, ◌+◌}
 use Rattle.std.proofs.lemmas.List.{take_more, map-append}
-use Rattle.gql_tokens.specs.declared.token.Lexeme.{Lexeme}
-use Rattle.gql_tokens.specs.declared.token.Lexeme.TheVariants as lexemes
-use Rattle.gql_tokens.specs.declared.token.Punctuator.TheVariants as punctuators
-use Rattle.gql_tokens.specs.declared.token.Token.{Token}
+use Rattle.std.specs.List.{AllZip}
 use Rattle.gql_base.specs.Pairs.{under, put, HasDistinctNames}
 use Rattle.gql_base.proofs.PairLemmas.{put-fresh}
-use Rattle.gql_cli.specs.Query.{lexemes_of, selected, bare}
+use Rattle.gql_doc.specs.declared.document.ExecutableDocument.{ExecutableDocument}
+use Rattle.gql_doc.specs.declared.document.Field.{Field, out-Field}
+use Rattle.gql_doc.specs.declared.document.OperationDefinition.{OperationDefinition}
+use Rattle.gql_doc.specs.declared.document.Positioned.{Positioned}
+use Rattle.gql_doc.specs.declared.document.Selection.{Selection}
+use Rattle.gql_cli.specs.Query.{IsBare, Asks, selections_of, bare}
 use Rattle.gql_cli.proofs.TablesLemmas.{distinct-more, distinct-never}
 
-pub last-same : {A : Type 0} (xs ys : List A) (x y : A) → xs ++ x ∷ [] ≡ ys ++ y ∷ [] → (xs ≡ ys) × (x ≡ y)
-last-same [] [] x y same = (refl, cc)
-last-same [] (b ∷ []) x y same = cc
-last-same [] (b ∷ c ∷ ys) x y same = cc
-last-same (a ∷ []) [] x y same = cc
-last-same (a ∷ c ∷ xs) [] x y same = cc
-last-same (a ∷ xs) (b ∷ ys) x y same =
-    let tails : xs ++ x ∷ [] ≡ ys ++ y ∷ [] = cc in
-    let heads : a ≡ b = cc in
-    let inner = last-same xs ys x y tails in
-    ((λ i. heads i ∷ inner.0 i), inner.1)
+bare-same : (selection : Positioned Selection) (m n : List ℕ) → IsBare selection m → IsBare selection n → m ≡ n
+bare-same selection m n first second =
+    let both = sym first.is ∙ second.is in
+    let fields : first.field ≡ second.field = cc in
+    sym first.only.named ∙ ap (λ (f : Positioned Field). (out-Field f.node).name.node) fields ∙ second.only.named
 
--- what stands before the end is names within braces
-pub before-end : (ls : List Lexeme) (names : List (List ℕ)) → ls ++ lexemes.End ∷ [] ≡ selected names
-    → ls ≡ (lexemes.Punctuator punctuators.OpenBrace ∷ map lexemes.Name names) ++ lexemes.Punctuator punctuators.CloseBrace ∷ []
-before-end ls names same =
-    (last-same ls ((lexemes.Punctuator punctuators.OpenBrace ∷ map lexemes.Name names) ++ lexemes.Punctuator punctuators.CloseBrace ∷ [])
-    lexemes.End lexemes.End same).0
+all-same : (selections : List (Positioned Selection)) (ms ns : List (List ℕ)) → AllZip IsBare selections ms → AllZip IsBare selections ns → ms ≡ ns
+all-same [] [] [] h k = refl
+all-same [] [] (n ∷ ns) h k = absurd k
+all-same [] (m ∷ ms) ns h k = absurd h
+all-same (s ∷ ss) [] ns h k = absurd h
+all-same (s ∷ ss) (m ∷ ms) [] h k = absurd k
+all-same (s ∷ ss) (m ∷ ms) (n ∷ ns) (here, h) (there, k) = λ i. bare-same s m n here there i ∷ all-same ss ms ns h k i
 
-pub not-a-name : (tokens : List Token) (i : ℕ) (token : Token) → i < length tokens → token ≡ get_or tokens i token
-    → ((name : List ℕ) → token.lexeme ≡ lexemes.Name name → ⊥) → (names : List (List ℕ)) → lexemes_of tokens ≡ map lexemes.Name names → ⊥
-not-a-name [] i token within at other names same = absurd (omega arith)
-not-a-name (t ∷ tokens) i token within at other [] same = cc
-not-a-name (t ∷ tokens) zero token within at other (n ∷ names) same =
-    let here : t.lexeme ≡ lexemes.Name n = cc in
-    other n (ap (λ (u : Token). u.lexeme) at ∙ here)
-not-a-name (t ∷ tokens) (suc i) token within at other (n ∷ names) same =
-    not-a-name tokens i token (omega arith) at other names cc
-
-names-same : (ms ns : List (List ℕ)) (rest more : List Lexeme)
-    → map lexemes.Name ms ++ (lexemes.Punctuator punctuators.CloseBrace ∷ rest) ≡ map lexemes.Name ns ++ (lexemes.Punctuator punctuators.CloseBrace ∷ more)
-    → ms ≡ ns
-names-same [] [] rest more same = refl
-names-same [] (n ∷ ns) rest more same = cc
-names-same (m ∷ ms) [] rest more same = cc
-names-same (m ∷ ms) (n ∷ ns) rest more same =
-    let heads : m ≡ n = cc in
-    let tails = names-same ms ns rest more cc in
-    λ i. heads i ∷ tails i
-
-pub selected-same : (ms ns : List (List ℕ)) → selected ms ≡ selected ns → ms ≡ ns
-selected-same ms ns same =
-    let inner : ((map lexemes.Name ms ++ lexemes.Punctuator punctuators.CloseBrace ∷ []) ++ lexemes.End ∷ [])
-    ≡ ((map lexemes.Name ns ++ lexemes.Punctuator punctuators.CloseBrace ∷ []) ++ lexemes.End ∷ []) = cc in
-    names-same ms ns (lexemes.End ∷ []) (lexemes.End ∷ [])
-    (sym (append_assoc (map lexemes.Name ms) (lexemes.Punctuator punctuators.CloseBrace ∷ []) (lexemes.End ∷ []))
-    ∙ inner ∙ append_assoc (map lexemes.Name ns) (lexemes.Punctuator punctuators.CloseBrace ∷ []) (lexemes.End ∷ []))
+-- a document asks for one list of names at most
+pub asks-same : (document : ExecutableDocument) (ms ns : List (List ℕ)) → Asks document ms → Asks document ns → ms ≡ ns
+asks-same document ms ns first second =
+    let both = sym first.single ∙ second.single in
+    let operation : first.operation ≡ second.operation = cc in
+    all-same (selections_of second.operation.node.selection_set) ms ns
+    (subst (λ (o : Positioned OperationDefinition). AllZip IsBare (selections_of o.node.selection_set) ms) operation first.bare.fields) second.bare.fields
 
 -- the names that were seen
 abbrev pub Seen : Type 0

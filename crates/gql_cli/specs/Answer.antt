@@ -1,11 +1,19 @@
--- What a first bench answers: the constants of the fields that its query names, in the query's order.
-use Rattle.std.specs.Prelude.{◌≡◌, ℕ, List, [], ◌∷◌, ◌++◌, Option, Some, codes}
+-- What a first bench answers: the constants of the fields that its query names, in the query's order; or the fault of a
+-- text that is no document.
+use Rattle.std.specs.Prelude.{◌≡◌, ℕ, List, [], ◌∷◌, ◌++◌, Option, Some, None, codes}
 use Rattle.std.specs.List.{AllZip}
+use Rattle.std.specs.Str.{chars}
 use Rattle.serde_json.specs.Data.{Data}
+use Rattle.gql_base.specs.ErrorJson.{list_json, error_json}
 use Rattle.gql_base.specs.Json.{quoted, json}
 use Rattle.gql_base.specs.Pairs.{under}
+use Rattle.gql_base.specs.declared.server_error.ServerError.{ServerError}
 use Rattle.gql_base.specs.declared.value.Value.{Value}
 use Rattle.gql_base.specs.declared.value.Value.TheVariants as value
+use Rattle.gql_doc.specs.Faults.{message_of}
+use Rattle.gql_doc.specs.Spelled.{SpellsDocument, IsDocumentFault}
+use Rattle.gql_doc.specs.declared.document.ExecutableDocument.{ExecutableDocument}
+use Rattle.gql_doc.specs.declared.fault.ParseFault.{ParseFault}
 use Rattle.gql_cli.specs.FirstBench.{IsFirstBench, constants}
 use Rattle.gql_cli.specs.Query.{Selects}
 use Rattle.gql_cli.specs.declared.first_bench.FirstBench.{FirstBench}
@@ -26,14 +34,41 @@ pub record HasChosen (answers : List ℕ → Option Value) (names : List (List �
 abbrev pub shown : List ℕ × Value → List ℕ
 shown p = quoted p.0 ++ (codes ":" ++ json p.1)
 
--- the JSON of a response with this data, and the end of its line
+-- the JSON of a response with this data, and the end of its line (section 7.1)
 abbrev pub response_line : List (List ℕ × Value) → List ℕ
 response_line chosen = json (value.Object ((codes "data", value.Object chosen) ∷ [])) ++ codes "\n"
 
+-- the JSON of a response without data and with these errors, and the end of its line
+abbrev pub refusal_line : List ServerError → List ℕ
+refusal_line errors = codes "{\"data\":null,\"errors\":" ++ (list_json error_json errors ++ codes "}\n")
+
+-- the error that tells of the fault of a text (section 7.1.2)
+abbrev pub error_of : ParseFault → ServerError
+error_of fault = record { message = message_of fault.kind; locations = fault.pos ∷ []; path = []; extensions = None }
+
+-- the document asks for some names, and this is the response with what is answered under them
+pub record IsResponse (answers : List ℕ → Option Value) (document : ExecutableDocument) (text : List ℕ) : Type 0 where
+  pub names : List (List ℕ)
+  pub selects : Selects document names
+  pub chosen : List (List ℕ × Value)
+  pub chooses : Chooses answers names chosen
+  pub is : text ≡ response_line chosen
+
+-- the text that a query gives over what is answered under names
+abbrev pub IsAnswerOf : (List ℕ → Option Value) → List ℕ → List ℕ → Type 0
+IsAnswerOf answers query text = (document : ExecutableDocument) × SpellsDocument (chars query) document × IsResponse answers document text
+
+-- the text that a query gives which is no document
+abbrev pub IsRefusalOf : List ℕ → List ℕ → Type 0
+IsRefusalOf query text = (fault : ParseFault) × IsDocumentFault (chars query) fault × (text ≡ refusal_line (error_of fault ∷ []))
+
+abbrev pub answers_of : FirstBench → List ℕ → Option Value
+answers_of first name = under name (constants first.fields)
+
 -- the text that a JSON value gives as a bench
 abbrev pub IsAnswer : Data → List ℕ → Type 0
-IsAnswer bench text =
-    (first : FirstBench) × IsFirstBench bench first
-    × ((names : List (List ℕ)) × Selects first.query names
-    × ((chosen : List (List ℕ × Value)) × Chooses (λ name. under name (constants first.fields)) names chosen
-    × (text ≡ response_line chosen)))
+IsAnswer bench text = (first : FirstBench) × IsFirstBench bench first × IsAnswerOf (answers_of first) first.query text
+
+-- the text that it gives where its query is no document
+abbrev pub IsRefusal : Data → List ℕ → Type 0
+IsRefusal bench text = (first : FirstBench) × IsFirstBench bench first × IsRefusalOf first.query text

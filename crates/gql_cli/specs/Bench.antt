@@ -1,27 +1,92 @@
--- What the bytes of a bench give.
-use Rattle.std.specs.Prelude.{◌≡◌, ℕ, List, Option, Some, None, if◌then◌else◌}
+-- What the bytes of a bench give to a command: the text that it writes, and the record of the polls that were made for it.
+use Rattle.std.specs.Prelude.{◌≡◌, ℕ, List, [], ◌++◌, Option, Some, None, if◌then◌else◌, MatchOption}
 use Rattle.std.specs.Str.{is_utf8}
 use Rattle.serde_json.specs.Data.{Data}
 use Rattle.serde_json.specs.Read.{read}
-use Rattle.gql_cli.specs.Answer.{IsAnswer}
+use Rattle.gql_base.specs.declared.value.Value.{Value}
+use Rattle.gql_resolve.specs.declared.record_entry.RecordEntry.{RecordEntry}
+use Rattle.gql_cli.specs.Answer.{IsAnswer, IsAnswerOf, IsRefusal, IsRefusalOf, answers_of}
+use Rattle.gql_cli.specs.BenchAnswers.{bench_answers}
+use Rattle.gql_cli.specs.BenchRecord.{BenchTask, IsQueryRecord, bench_task, first_task, record_lines}
+use Rattle.gql_cli.specs.FirstBench.{IsFirstBench}
+use Rattle.gql_cli.specs.declared.bench.Command.{Command}
+use Rattle.gql_cli.specs.declared.bench.Command.TheVariants.{Execute, Record}
 use Rattle.gql_cli.specs.declared.bench.Written.{Written}
-use Rattle.gql_cli.specs.declared.bench.Written.TheVariants.{Answered, NotJson, NotBuilt}
+use Rattle.gql_cli.specs.declared.bench.Written.TheVariants.{Answered, Refused, NotJson, NotBuilt}
+use Rattle.gql_cli.specs.declared.first_bench.FirstBench.{FirstBench}
+use Rattle.gql_cli.specs.declared.tables.Bench.{Bench}
 
 -- the JSON value of the bytes: where they are UTF-8, what serde_json reads
 unfoldable pub json_of : List ℕ → Option Data
 json_of bytes = if is_utf8 bytes then read bytes else None
 
+-- a request over tables: what is answered under names, their tasks, the turns, and the text of the query
+pub record Request : Type 0 where
+  pub answers : List ℕ → Option Value
+  pub task_of : List ℕ → Option BenchTask
+  pub turns : List ℕ
+  pub query : List ℕ
+
+abbrev pub first_request : FirstBench → Request
+first_request first = record { answers = answers_of first; task_of = first_task first; turns = first.turns; query = first.query }
+
+abbrev pub bench_request : Bench → Request
+bench_request bench = record { answers = bench_answers bench; task_of = bench_task bench; turns = bench.turns; query = bench.request }
+
+-- the lines that a command writes of a record, before the response
+abbrev pub lines_for : Command → List RecordEntry → List ℕ
+lines_for Execute entries = []
+lines_for Record entries = record_lines entries
+
+-- a command's text for a request that is answered, with the record of its polls
+pub record IsAnswered (command : Command) (request : Request) (text : List ℕ) (entries : List RecordEntry) : Type 0 where
+  pub response : List ℕ
+  pub answers : IsAnswerOf request.answers request.query response
+  pub recorded : IsQueryRecord request.task_of request.turns request.query entries
+  pub is : text ≡ lines_for command entries ++ response
+
+-- what a request gives to a command; nothing is polled for a query that is no document
+abbrev pub QueryGives : Command → Request → Written → List RecordEntry → Type 0
+QueryGives command request (Answered text) entries = IsAnswered command request text entries
+QueryGives command request (Refused text) entries = IsRefusalOf request.query text × (entries ≡ [])
+QueryGives command request NotBuilt entries =
+    ((text : List ℕ) → IsAnswerOf request.answers request.query text → ⊥) × ((text : List ℕ) → IsRefusalOf request.query text → ⊥)
+QueryGives command request NotJson entries = ⊥
+
 -- no text is the answer of a JSON value
 abbrev pub HasNoAnswer : Data → Type 0
-HasNoAnswer json = (text : List ℕ) → IsAnswer json text → ⊥
+HasNoAnswer json = ((text : List ℕ) → IsAnswer json text → ⊥) × ((text : List ℕ) → IsRefusal json text → ⊥)
 
--- what a JSON value gives as a bench
-abbrev pub JsonGives : Data → Written → Type 0
-JsonGives json (Answered text) = IsAnswer json text
-JsonGives json NotBuilt = HasNoAnswer json
-JsonGives json NotJson = ⊥
+-- what a JSON value gives to a command as a bench
+abbrev pub JsonGives : Command → Data → Written → List RecordEntry → Type 0
+JsonGives command json (Answered text) entries = (first : FirstBench) × IsFirstBench json first × IsAnswered command (first_request first) text entries
+JsonGives command json (Refused text) entries = IsRefusal json text × (entries ≡ [])
+JsonGives command json NotBuilt entries = HasNoAnswer json
+JsonGives command json NotJson entries = ⊥
 
--- what the bytes of a bench give
-abbrev pub Gives : List ℕ → Written → Type 0
-Gives bytes NotJson = json_of bytes ≡ None
-Gives bytes written = (json : Data) × (json_of bytes ≡ Some json) × JsonGives json written
+-- what the bytes of a bench give to a command
+abbrev pub Gives : Command → List ℕ → Written → List RecordEntry → Type 0
+Gives command bytes NotJson entries = json_of bytes ≡ None
+Gives command bytes written entries = (json : Data) × (json_of bytes ≡ Some json) × JsonGives command json written entries
+
+-- where there is a response
+abbrev pub IfResponse : Written → Type 0 → Type 0
+IfResponse (Answered text) P = P
+IfResponse (Refused text) P = P
+IfResponse NotJson P = Unit {0}
+IfResponse NotBuilt P = Unit {0}
+
+-- this text is given with some record, and where it is a response, that record was told
+abbrev pub WithRecord : (Written → List RecordEntry → Type 0) → (List RecordEntry → Type 0) → Written → Type 0
+WithRecord GivesBoth Told written = (entries : List RecordEntry) × GivesBoth written entries × IfResponse written (Told entries)
+
+-- a set is held, and it told these entries and nothing else
+abbrev pub HoldsTold : {S : Type 0} → Option S → (S → Option (List RecordEntry)) → List RecordEntry → Type 0
+HoldsTold held told entries = MatchOption held ⊥ (λ set. told set ≡ Some entries)
+
+-- lines before an answer
+abbrev pub behind : List ℕ → Written → Written
+behind lines (Answered text) = Answered (lines ++ text)
+behind lines (Refused text) = Refused text
+behind lines NotJson = NotJson
+behind lines NotBuilt = NotBuilt

@@ -1,7 +1,7 @@
 -- JSON values by their shape.
 use Rattle.std.specs.Prelude.{ℕ, List, [], ◌∷◌, Option, Some, None, if◌then◌else◌}
 use Rattle.std.specs.Str.{bytes_eq}
-use Rattle.serde_json.specs.Data.{Data, string, array, object, Items, no_items, item, Members, no_members, member}
+use Rattle.serde_json.specs.Data.{Data, unsigned, number, string, array, object, Items, no_items, item, Members, no_members, member}
 
 abbrev pub members : List (List ℕ × Data) → Members
 members [] = no_members
@@ -17,6 +17,15 @@ object_of ms = object (members ms)
 
 abbrev pub array_of : List Data → Data
 array_of ds = array (items ds)
+
+-- the last member of an object, which may be missing
+abbrev pub optional : List ℕ → Option Data → List (List ℕ × Data)
+optional name None = []
+optional name (Some d) = (name, d) ∷ []
+
+-- a whole number from 0
+abbrev pub count : ℕ → Data
+count n = number (unsigned n)
 
 abbrev pub members_of : Data → Option Members
 members_of (object ms) = Some ms

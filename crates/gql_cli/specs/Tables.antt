@@ -1,20 +1,29 @@
--- What a bench's tables answer under a name of the query root.
-use Rattle.std.specs.Prelude.{◌≡◌, ℕ, List, [], ◌∷◌, ◌++◌, IsSome, Option, Some, None, option_map, option_and_then, slice_get}
+-- A bench's tables: its types, and the rules of its resolvers by their numbers.
+use Rattle.std.specs.Prelude.{◌≡◌, ℕ, suc, List, [], ◌∷◌, ◌++◌, map, IsSome, Option, Some, None, option_map, option_and_then, slice_get}
 use Rattle.gql_base.specs.Pairs.{under}
+use Rattle.gql_base.specs.declared.type_ref.TypeRef.{TypeRef}
+use Rattle.gql_base.specs.declared.type_ref.TypeRef.TheVariants.{Named}
 use Rattle.gql_base.specs.declared.value.Value.{Value}
-use Rattle.gql_schema.specs.Field.{resolver_of}
+use Rattle.gql_schema.specs.Field.{field_type, resolver_of}
 use Rattle.gql_schema.specs.Object.{object_name, fields_of}
 use Rattle.gql_schema.specs.Table.{types_of}
+use Rattle.gql_schema.specs.declared.field.Field.{Field}
 use Rattle.gql_schema.specs.declared.object.Object.{Object}
 use Rattle.gql_schema.specs.declared.schema_type.SchemaType.{SchemaType}
 use Rattle.gql_schema.specs.declared.schema_type.SchemaType.TheVariants as types
 use Rattle.gql_schema.specs.declared.types.Types.{Types}
+use Rattle.gql_cli.specs.declared.first_bench.FirstBench.{FirstBench}
 use Rattle.gql_cli.specs.declared.first_bench.FirstField.{FirstField}
 use Rattle.gql_cli.specs.declared.rule.Rule.{Rule}
-use Rattle.gql_cli.specs.declared.rule.Rule.TheVariants as rules
+use Rattle.gql_cli.specs.declared.rule.RuleKind.{RuleKind}
+use Rattle.gql_cli.specs.declared.rule.RuleKind.TheVariants as kinds
+use Rattle.gql_cli.specs.declared.tables.Bench.{Bench}
+
+abbrev pub kind_constant : RuleKind → Value
+kind_constant (kinds.Const value) = value
 
 abbrev pub constant_of : Rule → Value
-constant_of (rules.Const value) = value
+constant_of rule = kind_constant rule.kind
 
 abbrev pub object_in : SchemaType → Object
 object_in (types.Object object) = object
@@ -29,16 +38,36 @@ abbrev pub root_constant : Types → List ℕ → List Rule → List ℕ → Opt
 root_constant types root rules name =
     option_and_then (λ ty. field_constant (object_in ty) rules name) (under root (types_of types))
 
--- the tables answer just these constants
-pub record IsTabled (object : Object) (rules : List Rule) (constants : List (List ℕ × Value)) : Type 0 where
-  pub answers : (name : List ℕ) → field_constant object rules name ≡ under name constants
-  pub missing : (name : List ℕ) → under name constants ≡ None → under name (fields_of object) ≡ None
+-- the rule of a field's resolver
+abbrev pub rule_of : FirstField → Rule
+rule_of field = record { delay = field.delay; kind = kinds.Const field.constant }
 
--- A field is added to tables, whatever they answer so far: they answer its constant beside the others, unless its name is
--- there.
+-- a field under its name, as its type and the number of its resolver
+abbrev pub entry_of : List ℕ × Field → List ℕ × (TypeRef × ℕ)
+entry_of p = (p.0, (field_type p.1, resolver_of p.1))
+
+-- the same of fields whose resolvers are numbered from here on
+abbrev pub entries : ℕ → List FirstField → List (List ℕ × (TypeRef × ℕ))
+entries number [] = []
+entries number (field ∷ fields) = (field.name, (Named field.type_name, number)) ∷ entries (suc number) fields
+
+-- an object type has just these fields in their order, with resolvers numbered from 0, and the rules are theirs
+pub record IsTabled (object : Object) (rules : List Rule) (fields : List FirstField) : Type 0 where
+  pub shown : map entry_of (fields_of object) ≡ entries 0 fields
+  pub ruled : rules ≡ map rule_of fields
+
+-- A field is added to tables, whatever they have so far: they have it behind the others, unless its name is there.
 abbrev pub AddsField : Object → List Rule → FirstField → Option (Object × List Rule) → Type 0
 AddsField object rules field None = IsSome (under field.name (fields_of object))
 AddsField object rules field (Some t) =
     (under field.name (fields_of object) ≡ None) × (object_name t.0 ≡ object_name object)
-    × ((constants : List (List ℕ × Value)) → IsTabled object rules constants
-    → IsTabled t.0 t.1 (constants ++ (field.name, field.constant) ∷ []))
+    × ((fields : List FirstField) → IsTabled object rules fields → IsTabled t.0 t.1 (fields ++ field ∷ []))
+
+-- a bench has the tables of a first bench, no cells, and the first bench's turns
+pub record IsTableOf (first : FirstBench) (bench : Bench) : Type 0 where
+  pub object : Object
+  pub root : bench.query ≡ first.root
+  pub types : types_of bench.types ≡ (first.root, types.Object object) ∷ []
+  pub tabled : IsTabled object bench.rules first.fields
+  pub cells : bench.cells ≡ []
+  pub turns : bench.turns ≡ first.turns

@@ -1,22 +1,28 @@
 //! From the bytes of a bench to the text that is written.
-ghost use Rattle.std.specs.Prelude.{◌≡◌, IfOk, IfErr, MatchOption, codes, option_map};
+ghost use Rattle.std.specs.Prelude.{◌≡◌, Some, IfOk, IfErr, MatchOption, codes, option_map};
 ghost use Rattle.serde_json.specs.View.{view};
-ghost use Rattle.gql_cli.specs.Bench.{json_of, HasNoAnswer, JsonGives, Gives};
-ghost use Rattle.gql_cli.specs.BenchAnswers.{IsBenchOf};
+ghost use Rattle.gql_cli.specs.Bench.{json_of, bench_request, behind, lines_for, JsonGives, QueryGives, Gives, HoldsTold, WithRecord};
+ghost use Rattle.gql_cli.specs.BenchAnswers.{IsBenchOf, IsSuited, IsSetOf};
+ghost use Rattle.gql_cli.specs.FirstBench.{IsNoFirstBench};
 
-use crate::answer::response_of;
+use crate::answer::{refusal_of, response_of};
 use crate::first_bench::read_first_bench;
-use crate::query::selected_names;
+use crate::record_text::text_behind;
+use crate::table_maker::Tables;
 use crate::tables::{Bench, bench_of_first};
 use gql_base::{Made, Text};
+use gql_doc::parse_query;
+use gql_resolve::{RecordEntry, ResolverSet};
 use serde_json::Value;
 use std::alloc::{AllocError, Global};
 
-/// What the bytes of a bench give.
+/// What the bytes of a bench give to a command.
 #[derive(Debug, Drop)]
 pub enum Written {
     /// The text of the answer.
     Answered(Text),
+    /// The text that tells the fault of a query that is no document.
+    Refused(Text),
     /// The bytes are no JSON.
     NotJson,
     /// The JSON is no bench of the forms that are built.
@@ -28,15 +34,22 @@ pub enum Written {
 pub enum Command {
     /// The response of a bench's request.
     Execute,
+    /// The record of the polls that were made for it, and then the response.
+    Record,
 }
 
-/// What the bytes of a bench give.
-pub(crate) fn text_of(alloc: Global, bytes: &[u8]) -> Made<Written>
-    ensures { IfOk result (Gives bytes.now) }
+/// What the bytes of a bench give to a command.
+pub(crate) fn text_of<M: Tables>(
+    alloc: Global,
+    command: Command,
+    bytes: &[u8],
+    tables: &mut M,
+) -> Made<Written>
+    ensures { IfOk result (WithRecord (Gives command bytes.now) (HoldsTold (M.held tables.new) M.Set.told)) }
 {
     match json_value(alloc, bytes)? {
         None => Ok(Written::NotJson),
-        Some(json) => bench_text(alloc, &json),
+        Some(json) => bench_text(alloc, command, json, tables),
     }
 }
 
@@ -51,25 +64,85 @@ fn json_value(alloc: Global, bytes: &[u8]) -> Made<Option<Value>>
     }
 }
 
-/// What a JSON value gives as a bench.
-fn bench_text(alloc: Global, json: &Value) -> Made<Written>
-    ensures { IfOk result (JsonGives (view json.now)) }
+/// What a JSON value gives to a command as a bench. The value is let go of once the bench is made of it, so that its room
+/// serves the run.
+fn bench_text<M: Tables>(
+    alloc: Global,
+    command: Command,
+    json: Value,
+    tables: &mut M,
+) -> Made<Written>
+    ensures { IfOk result (WithRecord (JsonGives command (view json)) (HoldsTold (M.held tables.new) M.Set.told)) }
 {
-    match bench_of(alloc, Command::Execute, json)? {
-        Ok(bench) => match response_of(alloc, &bench, bench.request.as_slice())? {
-            Some(text) => Ok(Written::Answered(text)),
-            None => Ok(Written::NotBuilt),
-        },
+    let made = bench_of(alloc, command, &json)?;
+    drop(json);
+    match made {
+        Ok(bench) => query_text(alloc, command, &bench, tables),
         Err(_) => Ok(Written::NotBuilt),
     }
 }
 
-/// The bench of a JSON value for a command, or `not built yet` where it is none of the forms that are built.
-pub fn bench_of(alloc: Global, command: Command, json: &Value) -> Made<Result<Bench, Text>>
-    ensures built { IfOk result (λ made. IfOk made (IsBenchOf (view json.now))) }
-    ensures refused { IfOk result (λ made. IfErr made (λ text. (text ≡ codes "not built yet") × HasNoAnswer (view json.now))) }
+/// What a bench's request gives to a command. It is run over a set that `tables` makes, and that is given back to them
+/// before the command writes of its record.
+#[tactic(auto, using(crate::proofs::RecordTextLemmas::made_behind))]
+fn query_text<M: Tables>(
+    alloc: Global,
+    command: Command,
+    bench: &Bench,
+    tables: &mut M,
+) -> Made<Written>
+    requires { IsSuited bench.now }
+    ensures { IfOk result (WithRecord (QueryGives command (bench_request bench.now)) (HoldsTold (M.held tables.new) M.Set.told)) }
 {
-    let Command::Execute = command;
+    let mut set = tables.make(alloc, bench)?;
+    let answer = query_answer(alloc, bench, &mut set);
+    tables.take_back(set);
+    with_lines(alloc, command, answer?, tables.told())
+}
+
+/// What a bench's request gives over a set of the bench, without the lines of a record.
+fn query_answer<S: ResolverSet<Own = i64>>(
+    alloc: Global,
+    bench: &Bench,
+    set: &mut S,
+) -> Made<Written>
+    requires suited { IsSuited bench.now }
+    requires set { IsSetOf bench.now (S.is_lawful set.old) (S.is_paced set.old)
+        (λ call. S.answer (S.rules set.old) call (S.world set.old)) (S.delay (S.rules set.old)) (S.told set.old) }
+    ensures { IfOk result (WithRecord (QueryGives Command.Execute (bench_request bench.now)) (λ entries. S.told set.new ≡ Some entries)) }
+{
+    match parse_query(alloc, bench.request.as_str())? {
+        Ok(document) => match response_of(alloc, bench, document, set)? {
+            Some(text) => Ok(Written::Answered(text)),
+            None => Ok(Written::NotBuilt),
+        },
+        Err(fault) => Ok(Written::Refused(refusal_of(alloc, fault)?)),
+    }
+}
+
+/// What a command writes: the lines of a record stand before an answer.
+fn with_lines(
+    alloc: Global,
+    command: Command,
+    answer: Written,
+    entries: &[RecordEntry],
+) -> Made<Written>
+    ensures { IfOk result (λ written. written ≡ behind (lines_for command entries.now) answer) }
+{
+    match (command, answer) {
+        (Command::Record, Written::Answered(text)) => {
+            Ok(Written::Answered(text_behind(alloc, entries, &text)?))
+        }
+        (_, answer) => Ok(answer),
+    }
+}
+
+/// The bench of a JSON value for a command, or `not built yet` where it is none of the forms that are built. It is the same
+/// for each command so far.
+pub fn bench_of(alloc: Global, _command: Command, json: &Value) -> Made<Result<Bench, Text>>
+    ensures built { IfOk result (λ made. IfOk made (IsBenchOf (view json.now))) }
+    ensures refused { IfOk result (λ made. IfErr made (λ text. (text ≡ codes "not built yet") × IsNoFirstBench (view json.now))) }
+{
     match first_bench_of(alloc, json)? {
         Some(bench) => Ok(Ok(bench)),
         None => Ok(Err(Text::new(alloc, "not built yet")?)),
@@ -78,20 +151,10 @@ pub fn bench_of(alloc: Global, command: Command, json: &Value) -> Made<Result<Be
 
 /// The bench of a first bench.
 fn first_bench_of(alloc: Global, json: &Value) -> Made<Option<Bench>>
-    ensures { IfOk result (λ made. MatchOption made (HasNoAnswer (view json.now)) (IsBenchOf (view json.now))) }
+    ensures { IfOk result (λ made. MatchOption made (IsNoFirstBench (view json.now)) (IsBenchOf (view json.now))) }
 {
     let Some(first) = read_first_bench(alloc, json)? else {
         return Ok(None);
     };
-    let Some(names) = selected_names(alloc, first.query.as_str())? else {
-        return Ok(None);
-    };
-    let Some(bench) = bench_of_first(alloc, first, names)? else {
-        return Ok(None);
-    };
-    if bench.has_fields() {
-        Ok(Some(bench))
-    } else {
-        Ok(None)
-    }
+    bench_of_first(alloc, first)
 }

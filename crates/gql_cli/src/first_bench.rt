@@ -1,5 +1,5 @@
-//! First benches: one object type of constant fields, and a query for some of them.
-ghost use Rattle.std.specs.Prelude.{◌≡◌, ◌↔◌, ℕ, List, [], ◌∷◌, Some, map, IfSome, IfNone, IsTrue, IfOk, MatchOption};
+//! First benches: one object type of constant fields with delays, a query for some of them, and the turns.
+ghost use Rattle.std.specs.Prelude.{◌≡◌, ◌↔◌, ℕ, List, [], ◌∷◌, Some, map, option_map, IfSome, IfNone, IsTrue, IfOk, MatchOption};
 ghost use Rattle.std.specs.List.{AllZip};
 ghost use Rattle.gql_base.specs.ReadJson.{value_of};
 ghost use Rattle.gql_base.specs.declared.value.Value.{Value, out-Value};
@@ -7,35 +7,45 @@ ghost use Rattle.gql_tokens.specs.Name.{IsName};
 ghost use Rattle.gql_tokens.specs.Characters.{is_name_start, is_name_part};
 ghost use Rattle.serde_json.specs.Data.{Data, string};
 ghost use Rattle.serde_json.specs.View.{view};
-ghost use Rattle.gql_cli.specs.FirstBench.{IsShaped, IsField, Takes, IsIntHere, object_json, schema_json};
-ghost use Rattle.gql_cli.specs.JsonShape.{object_of};
+ghost use Rattle.gql_cli.specs.FirstBench.{IsShaped, IsField, IsConstantAnswer, IsDelay, IsTurns, Takes, IsIntHere, field_json, object_json, schema_json};
+ghost use Rattle.gql_cli.specs.JsonShape.{object_of, count};
 
-use crate::json_shape::{items_in, only_item, only_member, three_members, two_members};
+use crate::json_shape::{
+    items_in, one_or_two_members, only_item, only_member, three_members, two_members,
+    two_or_three_members,
+};
 use gql_base::{Items, Made, Name, Text, Value, from_json};
 use serde_json::Value as Json;
 use std::alloc::Global;
 
-/// A field of a first bench: its name, the name of its type, and the constant that it answers.
+/// The most pending polls that a bench may ask for before an answer.
+pub const LONGEST_DELAY: u32 = 1_000_000;
+
+/// A field of a first bench: its name, the name of its type, the constant that it answers, and the number of polls that are
+/// pending before.
 #[derive(Debug, Drop)]
 pub struct FirstField {
     pub name: Name,
     pub type_name: Text,
     pub constant: Value,
+    pub delay: u32,
 }
 
-/// A first bench: the name of its object type, that type's fields, and the text of the query.
+/// A first bench: the name of its object type, that type's fields, the text of the query, and the turns.
 #[derive(Debug, Drop)]
 pub struct FirstBench {
     pub root: Name,
     pub fields: Items<FirstField>,
     pub query: Text,
+    pub turns: Items<u64>,
 }
 
 /// The first bench that a JSON value has the shape of, if any.
 pub(crate) fn read_first_bench(alloc: Global, json: &Json) -> Made<Option<FirstBench>>
     ensures { IfOk result (λ found. MatchOption found ((bench : _) → IsShaped (view json.now) bench → ⊥) (IsShaped (view json.now))) }
 {
-    let Some((request, schema)) = two_members(json, "request", "schema") else {
+    let Some((request, schema, turns)) = two_or_three_members(json, "request", "schema", "turns")
+    else {
         return Ok(None);
     };
     let Some(query) = only_text(request, "query") else {
@@ -44,14 +54,50 @@ pub(crate) fn read_first_bench(alloc: Global, json: &Json) -> Made<Option<FirstB
     let Some((root, items)) = read_schema(schema) else {
         return Ok(None);
     };
+    let Some(turns) = read_turns(alloc, turns)? else {
+        return Ok(None);
+    };
     match read_fields(alloc, items)? {
         None => Ok(None),
         Some(fields) => Ok(Some(FirstBench {
             root: Name::new(alloc, root)?,
             fields,
             query: Text::new(alloc, query)?,
+            turns,
         })),
     }
+}
+
+/// The turns that a JSON value tells, and none where it is missing.
+fn read_turns(alloc: Global, json: Option<&Json>) -> Made<Option<Items<u64>>>
+    ensures { IfOk result (λ found. MatchOption found
+        ((turns : List ℕ) → IsTurns (option_map (λ d. view d.now) json.entry) turns → ⊥) (IsTurns (option_map (λ d. view d.now) json.entry))) }
+{
+    let Some(json) = json else {
+        return Ok(Some(Items::new(alloc)));
+    };
+    let Some(items) = items_in(json) else {
+        return Ok(None);
+    };
+    match read_counts(alloc, items)? {
+        None => Ok(None),
+        Some(turns) => Ok(Some(turns)),
+    }
+}
+
+/// The whole numbers from 0 that JSON values are the JSON of, if all are.
+fn read_counts(alloc: Global, items: &[Json]) -> Made<Option<Items<u64>>>
+    ensures { IfOk result (λ found. MatchOption found
+        ((counts : List ℕ) → map view items.now ≡ map count counts → ⊥) (λ counts. map view items.now ≡ map count counts)) }
+{
+    let mut counts = Items::new(alloc);
+    for json in items {
+        match json.as_u64() {
+            Some(number) => counts.push(number)?,
+            None => return Ok(None),
+        }
+    }
+    Ok(Some(counts))
 }
 
 /// The text of the only member of an object, where it has this name.
@@ -105,25 +151,64 @@ fn read_fields(alloc: Global, items: &[Json]) -> Made<Option<Items<FirstField>>>
 fn read_field(alloc: Global, json: &Json) -> Made<Option<FirstField>>
     ensures { IfOk result (λ found. MatchOption found ((field : _) → IsField (view json.now) field → ⊥) (IsField (view json.now))) }
 {
-    let Some((answer, name, ty)) = three_members(json, "answer", "name", "type") else {
+    let Some((answer, name, ty)) = read_head(json) else {
         return Ok(None);
     };
-    let Some(constant) = only_member(answer, "const") else {
+    let Some((constant, delay)) = read_answer(answer) else {
         return Ok(None);
     };
-    let (Some(name), Some(ty)) = (name.as_str(), ty.as_str()) else {
-        return Ok(None);
-    };
-    if !is_name(name) {
-        return Ok(None);
-    }
     match read_constant(alloc, ty, constant)? {
         None => Ok(None),
         Some(constant) => Ok(Some(FirstField {
             name: Name::new(alloc, name)?,
             type_name: Text::new(alloc, ty)?,
             constant,
+            delay,
         })),
+    }
+}
+
+/// The JSON of a field's answer, the field's name and the name of its type.
+fn read_head(json: &Json) -> Option<(&Json, &str, &str)>
+    ensures found { IfSome result (λ p. (view json.now ≡ field_json (view p.0.now) p.1.now p.2.now) × IsName p.1.now) }
+    ensures other { IfNone result ((answer : Data) (name type_name : List ℕ) → IsName name
+        → view json.now ≡ field_json answer name type_name → ⊥) }
+{
+    let (answer, name, ty) = three_members(json, "answer", "name", "type")?;
+    let name = name.as_str()?;
+    let ty = ty.as_str()?;
+    if is_name(name) {
+        Some((answer, name, ty))
+    } else {
+        None
+    }
+}
+
+/// The JSON of an answer's constant, and the number of polls that are pending before.
+fn read_answer(json: &Json) -> Option<(&Json, u32)>
+    ensures found { IfSome result (λ p. IsConstantAnswer (view json.now) (view p.0.now) p.1) }
+    ensures other { IfNone result ((constant : Data) (delay : ℕ) → IsConstantAnswer (view json.now) constant delay → ⊥) }
+{
+    let (constant, delay) = one_or_two_members(json, "const", "delay")?;
+    let delay = read_delay(delay)?;
+    Some((constant, delay))
+}
+
+/// The delay that a JSON value tells, and 0 where it is missing.
+fn read_delay(json: Option<&Json>) -> Option<u32>
+    ensures found { IfSome result (IsDelay (option_map (λ d. view d.now) json.entry)) }
+    ensures other { IfNone result ((delay : ℕ) → IsDelay (option_map (λ d. view d.now) json.entry) delay → ⊥) }
+{
+    match json {
+        None => Some(0),
+        Some(json) => {
+            let polls = u32::try_from(json.as_u64()?).ok()?;
+            if polls <= LONGEST_DELAY {
+                Some(polls)
+            } else {
+                None
+            }
+        }
     }
 }
 

@@ -1,8 +1,8 @@
 //! JSON values by their shape.
-ghost use Rattle.std.specs.Prelude.{◌≡◌, List, [], ◌∷◌, map, option_map, IfSome, IfNone};
+ghost use Rattle.std.specs.Prelude.{◌≡◌, List, [], ◌∷◌, map, option_map, IfSome, IfNone, Option};
 ghost use Rattle.serde_json.specs.Data.{Data, Members, member};
 ghost use Rattle.serde_json.specs.View.{view, members_view};
-ghost use Rattle.gql_cli.specs.JsonShape.{object_of, array_of, members_of};
+ghost use Rattle.gql_cli.specs.JsonShape.{members, object_of, array_of, members_of, optional};
 
 use serde_json::Value;
 use std::collections::btree_map::Iter;
@@ -59,6 +59,56 @@ pub(crate) fn two_members<'a>(
         None => Some((a, b)),
         Some(_) => None,
     }
+}
+
+/// The last member, where it is left alone and has this name; none where no member is left.
+fn take_last<'a>(mut left: Iter<'a, String, Value>, name: &str) -> Option<Option<&'a Value>>
+    ensures found { IfSome result (λ last. members_view left.entry ≡ members (optional name.now (option_map (λ d. view d.now) last))) }
+    ensures other { IfNone result ((last : Option Data) → members_view left.entry ≡ members (optional name.now last) → ⊥) }
+{
+    let Some((key, value)) = left.next() else {
+        return Some(None);
+    };
+    match left.next() {
+        None if key.as_str() == name => Some(Some(value)),
+        _ => None,
+    }
+}
+
+/// The one member of an object, and perhaps another behind it, where they have these names.
+pub(crate) fn one_or_two_members<'a>(
+    json: &'a Value,
+    first: &str,
+    second: &str,
+) -> Option<(&'a Value, Option<&'a Value>)>
+    ensures found { IfSome result (λ d. view json.now
+        ≡ object_of ((first.now, view d.0.now) ∷ optional second.now (option_map (λ e. view e.now) d.1))) }
+    ensures other { IfNone result ((a : Data) (b : Option Data) → view json.now
+        ≡ object_of ((first.now, a) ∷ optional second.now b) → ⊥) }
+{
+    let mut members = members_in(json)?;
+    let a = take_member(&mut members, first)?;
+    let b = take_last(members, second)?;
+    Some((a, b))
+}
+
+/// The two members of an object, and perhaps a third behind them, where they have these names.
+pub(crate) fn two_or_three_members<'a>(
+    json: &'a Value,
+    first: &str,
+    second: &str,
+    third: &str,
+) -> Option<(&'a Value, &'a Value, Option<&'a Value>)>
+    ensures found { IfSome result (λ d. view json.now ≡ object_of ((first.now, view d.0.now) ∷ (second.now, view d.1.now)
+        ∷ optional third.now (option_map (λ e. view e.now) d.2))) }
+    ensures other { IfNone result ((a b : Data) (c : Option Data) → view json.now
+        ≡ object_of ((first.now, a) ∷ (second.now, b) ∷ optional third.now c) → ⊥) }
+{
+    let mut members = members_in(json)?;
+    let a = take_member(&mut members, first)?;
+    let b = take_member(&mut members, second)?;
+    let c = take_last(members, third)?;
+    Some((a, b, c))
 }
 
 /// The three members of an object, where they have these names.

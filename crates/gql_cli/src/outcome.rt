@@ -1,11 +1,13 @@
 //! What a run has to write, and with which status.
-ghost use Rattle.std.specs.Prelude.{◌≡◌, ◌↔◌, Ok, IsTrue, IfOk, map, string_bytes, codes};
-ghost use Rattle.gql_cli.specs.Run.{IsListed, IsDue};
+ghost use Rattle.std.specs.Prelude.{◌≡◌, [], ◌∷◌, IfOk, MatchOption, map, string_bytes};
+ghost use Rattle.gql_cli.specs.Bench.{HoldsTold};
+ghost use Rattle.gql_cli.specs.Run.{IsListed, IsDue, words_for};
 
-use crate::bench::{Written, text_of};
+use crate::bench::{Command, Written, text_of};
 use crate::reading::{Reading, read_whole};
 use crate::source::Source;
 use crate::status::Status;
+use crate::table_maker::Tables;
 use gql_base::Made;
 use std::alloc::Global;
 
@@ -36,6 +38,7 @@ impl Outcome {
             Outcome::ReadFault => Status::ReadFault,
             Outcome::TooLong => Status::TooLong,
             Outcome::Bench(Written::Answered(_)) => Status::Done,
+            Outcome::Bench(Written::Refused(_)) => Status::HasErrors,
             Outcome::Bench(Written::NotJson | Written::NotBuilt) => Status::Refused,
         }
     }
@@ -50,40 +53,54 @@ impl Outcome {
             }
             Outcome::ReadFault => "input: read fault\n",
             Outcome::TooLong => "input: too long\n",
-            Outcome::Bench(Written::Answered(text)) => text.as_str(),
+            Outcome::Bench(Written::Answered(text) | Written::Refused(text)) => text.as_str(),
             Outcome::Bench(Written::NotJson) => "bench: not JSON\n",
             Outcome::Bench(Written::NotBuilt) => "bench: not built yet\n",
         }
     }
 }
 
-/// Finds what is due: the words are looked at first, and where they are listed the source is read whole.
-pub(crate) fn decide<I: Source>(alloc: Global, words: &[String], source: &mut I) -> Made<Outcome>
-    ensures due { IfOk result (IsDue I.left I.given I.faults source.old source.new (map string_bytes words.now)) }
+/// Finds what is due: the words are looked at first, and where they are listed the source is read whole. A bench's request is
+/// run over a set that `tables` makes and holds.
+pub(crate) fn decide<I: Source, M: Tables>(
+    alloc: Global,
+    words: &[String],
+    source: &mut I,
+    tables: &mut M,
+) -> Made<Outcome>
+    ensures due { IfOk result (IsDue I.left I.given I.faults source.old source.new
+        (HoldsTold (M.held tables.new) M.Set.told) (map string_bytes words.now)) }
     ensures unread { ¬ IsListed (map string_bytes words.now) → source.new ≡ source.old }
 {
-    if !is_listed(words) {
+    let Some(command) = command_of(words) else {
         return Ok(Outcome::Usage);
-    }
+    };
     match read_whole(alloc, source)? {
-        Reading::Whole(bytes) => Ok(Outcome::Bench(text_of(alloc, bytes.as_slice())?)),
+        Reading::Whole(bytes) => {
+            let written = text_of(alloc, command, bytes.as_slice(), tables)?;
+            Ok(Outcome::Bench(written))
+        }
         Reading::TooLong => Ok(Outcome::TooLong),
         Reading::Failed => Ok(Outcome::ReadFault),
     }
 }
 
-/// Whether the words are a form that the program knows.
-fn is_listed(words: &[String]) -> bool
-    ensures { IsTrue result ↔ IsListed (map string_bytes words.now) }
+/// The command of words, where they are a form that the program knows.
+fn command_of(words: &[String]) -> Option<Command>
+    ensures { MatchOption result (¬ IsListed (map string_bytes words.now)) (λ command. map string_bytes words.now ≡ words_for command) }
 {
     match words {
-        [word] => is_execute(word.as_str()),
-        _ => false,
+        [word] => command_named(word.as_str()),
+        _ => None,
     }
 }
 
-fn is_execute(word: &str) -> bool
-    ensures { IsTrue result ↔ (word.now ≡ codes "execute") }
+fn command_named(word: &str) -> Option<Command>
+    ensures { MatchOption result (¬ IsListed (word.now ∷ [])) (λ command. word.now ∷ [] ≡ words_for command) }
 {
-    word == "execute"
+    match word {
+        "execute" => Some(Command::Execute),
+        "record" => Some(Command::Record),
+        _ => None,
+    }
 }

@@ -1,30 +1,34 @@
 //! The program's top call.
 ghost use Rattle.std.specs.Prelude.{◌≡◌, ◌⊎◌, ◌+◌, ◌<◌, ◌≤◌, List, ℕ, length, map, string_bytes, IfSome};
 ghost use Rattle.std.specs.Io.KnownBytes.{Keeps, Appends};
-ghost use Rattle.gql_cli.specs.Bench.{Gives};
+ghost use Rattle.gql_cli.specs.Bench.{Gives, HoldsTold};
 ghost use Rattle.gql_cli.specs.Counts.{IsFull, HasRisen};
 ghost use Rattle.gql_cli.specs.Reading.{IsInput, IsTooLong};
-ghost use Rattle.gql_cli.specs.Run.{IsListed, IsCutOff, IsDue, due_status, due_text};
+ghost use Rattle.gql_cli.specs.Run.{IsListed, IsCutOff, IsDue, due_status, due_text, words_for};
 ghost use Rattle.gql_cli.specs.Status.{code_of};
 ghost use Rattle.gql_cli.specs.Writing.{AppendsStart};
+ghost use Rattle.gql_cli.specs.declared.bench.Command.{Command};
 ghost use Rattle.gql_cli.specs.declared.bench.Written.{Written};
+ghost use Rattle.gql_resolve.specs.declared.record_entry.RecordEntry.{RecordEntry as OneEntry};
 
 use crate::outcome::{Outcome, decide};
 use crate::reading::INPUT_LIMIT;
 use crate::sink::{Sink, SinkFault};
 use crate::source::Source;
 use crate::status::Status;
+use crate::table_maker::Tables;
 use crate::writing::write_whole;
 use std::alloc::Global;
 
 /// Runs the program on the words after its name. It reads its source whole, writes to its sink the text that is due or
 /// the line of a fault, and answers the status.
-pub fn run<R, I: Source, O: Sink>(
+pub fn run<R, I: Source, O: Sink, M: Tables>(
     _rt: &R,
     alloc: Global,
     words: &[String],
     source: &mut I,
     sink: &mut O,
+    tables: &mut M,
 ) -> u8
     // 2 comes exactly where the words are no listed form, and then nothing is read.
     ensures usage { result ≡ 2 → ¬ IsListed (map string_bytes words.now) }
@@ -42,10 +46,22 @@ pub fn run<R, I: Source, O: Sink>(
         → IfSome (I.left source.old) (λ input. INPUT_LIMIT < length input
         → (result ≡ 7) ⊎ (result ≡ 4) ⊎ IsCutOff result) }
 
-    // 0 and 3 come after the whole input was read, by what it gives as a bench.
-    ensures bench { (result ≡ 0) ⊎ (result ≡ 3)
-        → (input : List ℕ) × IsInput I.left I.given source.old source.new input
-        × ((written : Written) × Gives input written × (result ≡ due_status (Outcome.Bench written))) }
+    // 0, 1 and 3 come after the whole input was read, by what it gives as a bench.
+    ensures bench { (result ≡ 0) ⊎ (result ≡ 1) ⊎ (result ≡ 3)
+        → (command : Command) × (map string_bytes words.now ≡ words_for command)
+        × ((input : List ℕ) × IsInput I.left I.given source.old source.new input
+        × ((written : Written) × (entries : List OneEntry) × Gives command input written entries
+        × (result ≡ due_status (Outcome.Bench written)))) }
+
+    // Where there is a response, its text was written, and `tables` hold the set that answered. That set told the record of
+    // the bench, which is the one that the text tells of, and nothing else.
+    ensures told { (result ≡ 0) ⊎ (result ≡ 1)
+        → (command : Command) × (map string_bytes words.now ≡ words_for command)
+        × ((input : List ℕ) × IsInput I.left I.given source.old source.new input
+        × ((written : Written) × (entries : List OneEntry) × Gives command input written entries
+        × (result ≡ due_status (Outcome.Bench written))
+        × Appends (O.held sink.old) (O.held sink.new) (due_text (Outcome.Bench written))
+        × HoldsTold (M.held tables.new) M.Set.told entries)) }
 
     // 5 comes only where a write failed.
     ensures write_fault { result ≡ 5 → HasRisen (O.faults sink.old) (O.faults sink.new) }
@@ -53,32 +69,37 @@ pub fn run<R, I: Source, O: Sink>(
     // Every other status but 6, of wanting memory, comes once the whole text is written that is due with it. At 5 and 6
     // the front of the text that is due was written, and where memory was wanting before, nothing.
     ensures written { IsCutOff result ⊎ ((due : Outcome)
-        × IsDue I.left I.given I.faults source.old source.new (map string_bytes words.now) due
+        × IsDue I.left I.given I.faults source.old source.new (HoldsTold (M.held tables.new) M.Set.told)
+        (map string_bytes words.now) due
         × (result ≡ due_status due) × Appends (O.held sink.old) (O.held sink.new) (due_text due)) }
     ensures cut_off { result ≡ 5 → (due : Outcome)
-        × IsDue I.left I.given I.faults source.old source.new (map string_bytes words.now) due
+        × IsDue I.left I.given I.faults source.old source.new (HoldsTold (M.held tables.new) M.Set.told)
+        (map string_bytes words.now) due
         × AppendsStart (O.held sink.old) (O.held sink.new) (due_text due) }
     ensures no_memory { result ≡ 6 → Keeps (O.held sink.old) (O.held sink.new) ⊎ ((due : Outcome)
-        × IsDue I.left I.given I.faults source.old source.new (map string_bytes words.now) due
+        × IsDue I.left I.given I.faults source.old source.new (HoldsTold (M.held tables.new) M.Set.told)
+        (map string_bytes words.now) due
         × AppendsStart (O.held sink.old) (O.held sink.new) (due_text due)) }
 
     // An input that is told and within the limit gives its text, unless a read or a write fails or memory is wanting.
-    ensures complete { IsListed (map string_bytes words.now)
+    ensures complete { (command : Command) → map string_bytes words.now ≡ words_for command
         → IfSome (I.left source.old) (λ input. length input ≤ INPUT_LIMIT
         → ¬ HasRisen (I.faults source.old) (I.faults source.new)
         → ¬ HasRisen (O.faults sink.old) (O.faults sink.new)
-        → (result ≡ 6) ⊎ ((written : Written) × Gives input written × (result ≡ due_status (Outcome.Bench written))
+        → (result ≡ 6) ⊎ ((written : Written) × (entries : List OneEntry) × Gives command input written entries
+        × (result ≡ due_status (Outcome.Bench written))
         × Appends (O.held sink.old) (O.held sink.new) (due_text (Outcome.Bench written)))) }
 {
-    run_alone(alloc, words, source, sink)
+    run_alone(alloc, words, source, sink, tables)
 }
 
 /// Runs the program as `run` does, without a runtime.
-pub fn run_alone<I: Source, O: Sink>(
+pub fn run_alone<I: Source, O: Sink, M: Tables>(
     alloc: Global,
     words: &[String],
     source: &mut I,
     sink: &mut O,
+    tables: &mut M,
 ) -> u8
     // 2 comes exactly where the words are no listed form, and then nothing is read.
     ensures usage { result ≡ 2 → ¬ IsListed (map string_bytes words.now) }
@@ -96,10 +117,22 @@ pub fn run_alone<I: Source, O: Sink>(
         → IfSome (I.left source.old) (λ input. INPUT_LIMIT < length input
         → (result ≡ 7) ⊎ (result ≡ 4) ⊎ IsCutOff result) }
 
-    // 0 and 3 come after the whole input was read, by what it gives as a bench.
-    ensures bench { (result ≡ 0) ⊎ (result ≡ 3)
-        → (input : List ℕ) × IsInput I.left I.given source.old source.new input
-        × ((written : Written) × Gives input written × (result ≡ due_status (Outcome.Bench written))) }
+    // 0, 1 and 3 come after the whole input was read, by what it gives as a bench.
+    ensures bench { (result ≡ 0) ⊎ (result ≡ 1) ⊎ (result ≡ 3)
+        → (command : Command) × (map string_bytes words.now ≡ words_for command)
+        × ((input : List ℕ) × IsInput I.left I.given source.old source.new input
+        × ((written : Written) × (entries : List OneEntry) × Gives command input written entries
+        × (result ≡ due_status (Outcome.Bench written)))) }
+
+    // Where there is a response, its text was written, and `tables` hold the set that answered. That set told the record of
+    // the bench, which is the one that the text tells of, and nothing else.
+    ensures told { (result ≡ 0) ⊎ (result ≡ 1)
+        → (command : Command) × (map string_bytes words.now ≡ words_for command)
+        × ((input : List ℕ) × IsInput I.left I.given source.old source.new input
+        × ((written : Written) × (entries : List OneEntry) × Gives command input written entries
+        × (result ≡ due_status (Outcome.Bench written))
+        × Appends (O.held sink.old) (O.held sink.new) (due_text (Outcome.Bench written))
+        × HoldsTold (M.held tables.new) M.Set.told entries)) }
 
     // 5 comes only where a write failed.
     ensures write_fault { result ≡ 5 → HasRisen (O.faults sink.old) (O.faults sink.new) }
@@ -107,24 +140,28 @@ pub fn run_alone<I: Source, O: Sink>(
     // Every other status but 6, of wanting memory, comes once the whole text is written that is due with it. At 5 and 6
     // the front of the text that is due was written, and where memory was wanting before, nothing.
     ensures written { IsCutOff result ⊎ ((due : Outcome)
-        × IsDue I.left I.given I.faults source.old source.new (map string_bytes words.now) due
+        × IsDue I.left I.given I.faults source.old source.new (HoldsTold (M.held tables.new) M.Set.told)
+        (map string_bytes words.now) due
         × (result ≡ due_status due) × Appends (O.held sink.old) (O.held sink.new) (due_text due)) }
     ensures cut_off { result ≡ 5 → (due : Outcome)
-        × IsDue I.left I.given I.faults source.old source.new (map string_bytes words.now) due
+        × IsDue I.left I.given I.faults source.old source.new (HoldsTold (M.held tables.new) M.Set.told)
+        (map string_bytes words.now) due
         × AppendsStart (O.held sink.old) (O.held sink.new) (due_text due) }
     ensures no_memory { result ≡ 6 → Keeps (O.held sink.old) (O.held sink.new) ⊎ ((due : Outcome)
-        × IsDue I.left I.given I.faults source.old source.new (map string_bytes words.now) due
+        × IsDue I.left I.given I.faults source.old source.new (HoldsTold (M.held tables.new) M.Set.told)
+        (map string_bytes words.now) due
         × AppendsStart (O.held sink.old) (O.held sink.new) (due_text due)) }
 
     // An input that is told and within the limit gives its text, unless a read or a write fails or memory is wanting.
-    ensures complete { IsListed (map string_bytes words.now)
+    ensures complete { (command : Command) → map string_bytes words.now ≡ words_for command
         → IfSome (I.left source.old) (λ input. length input ≤ INPUT_LIMIT
         → ¬ HasRisen (I.faults source.old) (I.faults source.new)
         → ¬ HasRisen (O.faults sink.old) (O.faults sink.new)
-        → (result ≡ 6) ⊎ ((written : Written) × Gives input written × (result ≡ due_status (Outcome.Bench written))
+        → (result ≡ 6) ⊎ ((written : Written) × (entries : List OneEntry) × Gives command input written entries
+        × (result ≡ due_status (Outcome.Bench written))
         × Appends (O.held sink.old) (O.held sink.new) (due_text (Outcome.Bench written)))) }
 {
-    match decide(alloc, words, source) {
+    match decide(alloc, words, source, tables) {
         Ok(due) => deliver(&due, sink).code(),
         Err(_) => Status::NoMemory.code(),
     }

@@ -1,19 +1,24 @@
-//! The query of a first bench.
-ghost use Rattle.std.specs.Prelude.{◌≡◌, ◌↔◌, ◌≢◌, All, codes, ℕ, List, [], ◌∷◌, ◌++◌, map, IsTrue, IfOk, MatchOption};
-ghost use Rattle.gql_tokens.specs.declared.token.Lexeme.{Lexeme};
-ghost use Rattle.gql_tokens.specs.declared.token.Lexeme.TheVariants as lexemes;
-ghost use Rattle.gql_cli.specs.Query.{lexemes_of, selected, AreDistinct, IsSelectable, Selects};
+//! What a document asks for, where it is a query for some fields by their names alone.
+ghost use Rattle.std.specs.Prelude.{◌≡◌, ◌↔◌, ◌≢◌, All, codes, ℕ, List, [], ◌∷◌, IsTrue, IfOk, MatchOption, MatchBool};
+ghost use Rattle.gql_doc.specs.declared.document.Field.{out-Field};
+ghost use Rattle.std.specs.List.{AllZip};
+ghost use Rattle.gql_cli.specs.Query.{AreDistinct, IsSelectable, IsBare, IsBareQuery, HasOnlyName, Asks, Selects};
 
 use gql_base::{Copied, Items, Made, Name, Pairs};
-use gql_tokens::{Lexeme, Punctuator, Token, tokens_of};
+use gql_doc::{
+    DocumentOperations, ExecutableDocument, Field, OperationDefinition, OperationType, Positioned,
+    Selection,
+};
 use std::alloc::Global;
 
-/// The names within the braces of a text, where it has nothing else, and they are names of fields that differ.
-pub(crate) fn selected_names(alloc: Global, text: &str) -> Made<Option<Items<Name>>>
-    ensures { IfOk result (λ found. MatchOption found ((names : List (List ℕ)) → Selects text.now names → ⊥) (Selects text.now)) }
+/// The names that a document asks for, where it asks for nothing else, and they are names of fields that differ.
+pub(crate) fn selected_names(
+    alloc: Global,
+    document: &ExecutableDocument,
+) -> Made<Option<Items<Name>>>
+    ensures { IfOk result (λ found. MatchOption found ((names : List (List ℕ)) → Selects document.now names → ⊥) (Selects document.now)) }
 {
-    let mut tokens = tokens_of(alloc, text)?;
-    match names_in_braces(alloc, &mut tokens)? {
+    match asked_names(alloc, document)? {
         Some(names) => {
             if are_selectable(alloc, names.as_slice())? {
                 Ok(Some(names))
@@ -62,64 +67,67 @@ fn are_distinct(alloc: Global, names: &[Name]) -> Made<bool>
     Ok(true)
 }
 
-/// The names behind the first token, an opening brace, and before the last two, a closing brace and the end.
-fn names_in_braces(alloc: Global, tokens: &mut Items<Token>) -> Made<Option<Items<Name>>>
-    ensures { IfOk result (λ found. MatchOption found
-        ((names : List (List ℕ)) → lexemes_of tokens.old ≡ selected names → ⊥)
-        (λ names. lexemes_of tokens.old ≡ selected names)) }
+/// The names that a document asks for, where it is a query for names alone.
+fn asked_names(alloc: Global, document: &ExecutableDocument) -> Made<Option<Items<Name>>>
+    ensures { IfOk result (λ found. MatchOption found ((names : List (List ℕ)) → Asks document.now names → ⊥) (Asks document.now)) }
 {
-    if !take_end(tokens) {
-        return Ok(None);
-    }
-    if !take_close(tokens) {
-        return Ok(None);
-    }
-    match tokens.as_slice() {
-        [open, names @ ..] if is_open(open) => names_of(alloc, names),
+    match &document.operations {
+        DocumentOperations::Single(operation) if document.fragments.len() == 0 => {
+            bare_query(alloc, &operation.node)
+        }
         _ => Ok(None),
     }
 }
 
-/// Takes the last token off. True exactly where it was the end.
-fn take_end(tokens: &mut Items<Token>) -> bool
-    ensures end { IsTrue result → lexemes_of tokens.old ≡ lexemes_of tokens.new ++ lexemes.End ∷ [] }
-    ensures other { (ls : List Lexeme) → lexemes_of tokens.old ≡ ls ++ lexemes.End ∷ [] → IsTrue result }
+/// The names that an operation asks for, where it is a query for names alone.
+fn bare_query(alloc: Global, operation: &OperationDefinition) -> Made<Option<Items<Name>>>
+    ensures { IfOk result (λ found. MatchOption found ((names : List (List ℕ)) → IsBareQuery operation.now names → ⊥) (IsBareQuery operation.now)) }
 {
-    match tokens.pop() {
-        Some(token) => matches!(token.lexeme, Lexeme::End),
-        None => false,
+    if operation.ty == OperationType::Query
+        && operation.variable_definitions.is_empty()
+        && operation.directives.is_empty()
+    {
+        bare_names(alloc, operation.selection_set.node.items.as_slice())
+    } else {
+        Ok(None)
     }
 }
 
-/// Takes the last token off. True exactly where it was a closing brace.
-fn take_close(tokens: &mut Items<Token>) -> bool
-    ensures close { IsTrue result → lexemes_of tokens.old ≡ lexemes_of tokens.new ++ lexemes.Punctuator Punctuator.CloseBrace ∷ [] }
-    ensures other { (ls : List Lexeme) → lexemes_of tokens.old ≡ ls ++ lexemes.Punctuator Punctuator.CloseBrace ∷ [] → IsTrue result }
-{
-    match tokens.pop() {
-        Some(token) => matches!(token.lexeme, Lexeme::Punctuator(Punctuator::CloseBrace)),
-        None => false,
-    }
-}
-
-/// The names that tokens are, if all are names.
-fn names_of(alloc: Global, tokens: &[Token]) -> Made<Option<Items<Name>>>
+/// The names of selections, where each is a field with a name and nothing else.
+fn bare_names(alloc: Global, selections: &[Positioned<Selection>]) -> Made<Option<Items<Name>>>
     ensures { IfOk result (λ found. MatchOption found
-        ((names : List (List ℕ)) → lexemes_of tokens.now ≡ map lexemes.Name names → ⊥)
-        (λ names. lexemes_of tokens.now ≡ map lexemes.Name names)) }
+        ((names : List (List ℕ)) → AllZip IsBare selections.now names → ⊥) (AllZip IsBare selections.now)) }
 {
     let mut names = Items::new(alloc);
-    for token in tokens {
-        match &token.lexeme {
-            Lexeme::Name(name) => names.push(Name::new(alloc, name.as_str())?)?,
-            _ => return Ok(None),
+    for selection in selections {
+        match bare_name(selection) {
+            Some(name) => names.push(name.try_clone(alloc)?)?,
+            None => return Ok(None),
         }
     }
     Ok(Some(names))
 }
 
-fn is_open(token: &Token) -> bool
-    ensures { IsTrue result ↔ (token.now.lexeme ≡ lexemes.Punctuator Punctuator.OpenBrace) }
+/// The name of a selection, where it is a field with a name and nothing else.
+fn bare_name(selection: &Positioned<Selection>) -> Option<&Name>
+    ensures { MatchOption result ((name : List ℕ) → IsBare selection.now name → ⊥) (λ name. IsBare selection.now name.now) }
 {
-    matches!(token.lexeme, Lexeme::Punctuator(Punctuator::OpenBrace))
+    let Selection::Field(field) = &selection.node else {
+        return None;
+    };
+    if has_only_name(&field.node) {
+        Some(&field.node.name.node)
+    } else {
+        None
+    }
+}
+
+/// True exactly where a field has nothing but its name.
+fn has_only_name(field: &Field) -> bool
+    ensures { MatchBool result (HasOnlyName field.now (out-Field field.now).name.node) ((name : List ℕ) → HasOnlyName field.now name → ⊥) }
+{
+    field.alias.is_none()
+        && field.arguments.is_empty()
+        && field.directives.is_empty()
+        && field.selection_set.node.items.is_empty()
 }

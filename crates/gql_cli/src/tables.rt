@@ -1,30 +1,33 @@
 //! The tables of a bench: its types, and the rules of its resolvers.
-ghost use Rattle.std.specs.Prelude.{◌≡◌, ℕ, List, IfOk, MatchOption, MatchBool, option_map};
-ghost use Rattle.gql_base.specs.Pairs.{under, HasDistinctNames};
+ghost use Rattle.std.specs.Prelude.{◌≡◌, IfOk, MatchOption, option_map};
+ghost use Rattle.gql_base.specs.Pairs.{HasDistinctNames};
 ghost use Rattle.gql_schema.specs.Object.{object_name};
 ghost use Rattle.gql_cli.specs.FirstBench.{constants};
-ghost use Rattle.gql_cli.specs.Tables.{root_constant, IsTabled};
+ghost use Rattle.gql_cli.specs.Tables.{root_constant, IsTabled, IsTableOf};
 
 use crate::first_bench::{FirstBench, FirstField};
-use crate::rule::Rule;
-use gql_base::{Items, Made, Name, TypeRef, Value};
+use crate::rule::{Rule, RuleKind};
+use gql_base::{Items, Made, Name, Text, TypeRef, Value};
 use gql_schema::{Field, Object, SchemaType, Types};
 use std::alloc::{AllocError, Global};
 
-/// A bench: the types of its schema, the name of the query root, the rules of its resolvers by their numbers, and the
-/// names of the root's fields that its request asks for.
+/// A bench: the types of its schema, the name of the query root, the rules of its resolvers by their numbers, the cells of
+/// its world, its turns, and the query of its request.
 #[derive(Debug, Drop)]
 pub struct Bench {
     pub types: Types,
     pub query: Name,
     pub rules: Items<Rule>,
-    pub request: Items<Name>,
+    pub cells: Items<i64>,
+    pub turns: Items<u64>,
+    pub request: Text,
 }
 
 impl Bench {
+    ghost use Rattle.std.specs.Prelude.{◌≡◌, Some, MatchBool};
     ghost use Rattle.std.specs.Option.{option_copied};
     ghost use Rattle.gql_cli.specs.Answer.{Chooses, HasChosen};
-    ghost use Rattle.gql_cli.specs.BenchAnswers.{bench_answers};
+    ghost use Rattle.gql_cli.specs.BenchAnswers.{bench_answers, bench_object, IsSuited};
 
     /// The constant that the query root's field of this name answers, or none where there is no such field.
     pub fn constant(&self, name: &str) -> Option<&Value>
@@ -33,16 +36,28 @@ impl Bench {
         let SchemaType::Object(object) = self.types.get(self.query.as_str())?;
         let field = object.get(name)?;
         let number = field.resolver();
-        let Rule::Const(value) = self.rules.get(number as usize)?;
+        let rule = self.rules.get(number as usize)?;
+        let RuleKind::Const(value) = &rule.kind;
         Some(value)
     }
 
-    /// True exactly where the query root has a field of each name that is asked for.
-    pub fn has_fields(&self) -> bool
-        ensures { MatchBool result (HasChosen (bench_answers self.now) self.now.request)
-            ((chosen : _) → Chooses (bench_answers self.now) self.now.request chosen → ⊥) }
+    /// The query root.
+    pub(crate) fn root(&self) -> &Object
+        requires { IsSuited self.now }
+        ensures { bench_object self.now ≡ Some result.now }
     {
-        for name in self.request.as_slice() {
+        match self.types.get(self.query.as_str()) {
+            Some(SchemaType::Object(object)) => object,
+            None => unreachable!(),
+        }
+    }
+
+    /// True exactly where the query root has a field of each of these names.
+    pub(crate) fn has_fields(&self, names: &[Name]) -> bool
+        ensures { MatchBool result (HasChosen (bench_answers self.now) names.now)
+            ((chosen : _) → Chooses (bench_answers self.now) names.now chosen → ⊥) }
+    {
+        for name in names {
             match self.constant(name.as_str()) {
                 Some(_) => {}
                 None => return false,
@@ -52,31 +67,29 @@ impl Bench {
     }
 }
 
-/// The bench of a first bench whose query asks for these names, unless two of its fields have one name.
-pub(crate) fn bench_of_first(
-    alloc: Global,
-    first: FirstBench,
-    request: Items<Name>,
-) -> Made<Option<Bench>>
+/// The bench of a first bench, unless two of its fields have one name.
+pub(crate) fn bench_of_first(alloc: Global, first: FirstBench) -> Made<Option<Bench>>
     ensures { IfOk result (λ made. MatchOption made (HasDistinctNames (constants first.fields) → ⊥)
-        (λ bench. HasDistinctNames (constants first.fields) × (bench.request ≡ request)
-        × ((name : List ℕ) → root_constant bench.types bench.query bench.rules name ≡ under name (constants first.fields)))) }
+        (λ bench. HasDistinctNames (constants first.fields) × (bench.request ≡ first.query) × IsTableOf first bench)) }
 {
     let FirstBench {
         root,
         fields,
-        query: _,
+        query,
+        turns,
     } = first;
     match tables_of(alloc, root.as_str(), fields)? {
         None => Ok(None),
-        Some(Tables { object, rules }) => {
+        Some(Builder { object, rules }) => {
             let mut types = Types::new(alloc);
             types.register(alloc, SchemaType::Object(object))?;
             Ok(Some(Bench {
                 types,
                 query: root,
                 rules,
-                request,
+                cells: Items::new(alloc),
+                turns,
+                request: query,
             }))
         }
     }
@@ -84,23 +97,24 @@ pub(crate) fn bench_of_first(
 
 /// An object type under construction, and the rules of its fields' resolvers.
 #[derive(Drop)]
-struct Tables {
+struct Builder {
     object: Object,
     rules: Items<Rule>,
 }
 
-impl Tables {
+impl Builder {
     ghost use Rattle.gql_cli.specs.Tables.{AddsField};
 
-    /// Adds a field with the rule of a constant, unless a field of that name is there.
-    fn add(self, alloc: Global, field: FirstField) -> Made<Option<Tables>>
+    /// Adds a field with its rule, unless a field of that name is there.
+    fn add(self, alloc: Global, field: FirstField) -> Made<Option<Builder>>
         ensures { IfOk result (λ made. AddsField self.object self.rules field (option_map (λ t. (t.object, t.rules)) made)) }
     {
-        let Tables { object, mut rules } = self;
+        let Builder { object, mut rules } = self;
         let FirstField {
             name,
             type_name,
             constant,
+            delay,
         } = field;
         if object.has_field(name.as_str()) {
             return Ok(None);
@@ -109,18 +123,21 @@ impl Tables {
         let ty = TypeRef::named(alloc, type_name.as_str())?;
         let field = Field::new(alloc, name.as_str(), ty, number)?;
         let object = object.field(alloc, field)?;
-        rules.push(Rule::Const(constant))?;
-        Ok(Some(Tables { object, rules }))
+        rules.push(Rule {
+            delay,
+            kind: RuleKind::Const(constant),
+        })?;
+        Ok(Some(Builder { object, rules }))
     }
 }
 
 /// An object type with these fields, and the rules of their resolvers, unless two of the fields have one name.
-fn tables_of(alloc: Global, root: &str, fields: Items<FirstField>) -> Made<Option<Tables>>
+fn tables_of(alloc: Global, root: &str, fields: Items<FirstField>) -> Made<Option<Builder>>
     ensures { IfOk result (λ made. MatchOption made (HasDistinctNames (constants fields) → ⊥)
-        (λ t. HasDistinctNames (constants fields) × (object_name t.object ≡ root.now) × IsTabled t.object t.rules (constants fields))) }
+        (λ t. HasDistinctNames (constants fields) × (object_name t.object ≡ root.now) × IsTabled t.object t.rules fields)) }
 {
     let object = Object::new(alloc, root)?;
-    let mut tables = Tables {
+    let mut tables = Builder {
         object,
         rules: Items::new(alloc),
     };

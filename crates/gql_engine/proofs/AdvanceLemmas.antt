@@ -1,6 +1,6 @@
 -- One turn: what it does to the tasks, their states and the record.
-use Rattle.std.proofs.Common.{ℕ, ◌≡◌, ◌^◌, ◌≤◌, List, [], ◌∷◌, ◌++◌, length, get_or, refl, sym, ap, subst, ◌∙◌, arith, inl, inr}
-use Rattle.std.specs.Prelude.{Option, Some, option_map, slice_get, slice_set, true, false, Result, Ok, Err, OnErr}
+use Rattle.std.proofs.Common.{ℕ, zero, suc, ◌≡◌, ◌+◌, ◌^◌, ◌<◌, ◌≤◌, List, [], ◌∷◌, ◌++◌, length, get_or, refl, sym, ap, subst, ◌∙◌, arith, inl, inr}
+use Rattle.std.specs.Prelude.{Option, Some, None, option_map, slice_get, slice_set, true, false, ◌⊎◌, Result, Ok, Err, OnErr}
 use Rattle.std.specs.Option.{ForSome}
 use Rattle.gql_resolve.specs.Call.{Call, call_of}
 use Rattle.gql_resolve.specs.Record.{with_more, entry_of}
@@ -9,11 +9,11 @@ use Rattle.gql_resolve.specs.declared.record_entry.RecordEntry.{RecordEntry}
 use Rattle.gql_resolve.specs.declared.resolver_context.ResolverContext.{ResolverContext}
 use Rattle.gql_engine.specs.declared.arena.State.{State}
 use Rattle.gql_engine.specs.declared.arena.State.TheVariants as state
-use Rattle.gql_engine.specs.Record.{waiting_from}
-use Rattle.gql_engine.specs.Arena.{marks_of, made_of, fresh_states, Subject, IsSound, Nearer}
+use Rattle.gql_engine.specs.Record.{waiting_from, Ran, Stopped}
+use Rattle.gql_engine.specs.Arena.{marks_of, made_of, fresh_states, Subject, IsSound, IsRight, Nearer}
 use Rattle.gql_engine.specs.Plan.{IsContextOf}
-use Rattle.gql_engine.specs.Progress.{Agrees, Progress, Ended, stage_of}
-use Rattle.gql_engine.specs.Turn.{StartsWaiting, KeepsWaiting, begins_now, BeginsAtMost}
+use Rattle.gql_engine.specs.Progress.{Agrees, story_of, Progress, Ended, stage_of}
+use Rattle.gql_engine.specs.Turn.{IsOpen, StartsWaiting, KeepsWaiting, begins_now, BeginsAtMost}
 use Rattle.gql_engine.proofs.Lists.{set_set}
 use Rattle.gql_engine.proofs.NearerLemmas.{nearer_settled}
 use Rattle.gql_engine.proofs.PickLemmas.{Pick, picked, open_undone}
@@ -36,14 +36,14 @@ module _ (V Task F T : Type 0) (choice : T → ℕ → ℕ) (after : T → ℕ �
     pub turns_is : turns' ≡ option_map (λ s. after s (length (waiting_from 0 (marks_of states)))) turns
 
   pub taken : (holds : ℕ → Answer V → Type 0) (tasks : List Task) (states : List (State F)) (waiting : List ℕ) (turns turns' : Option T)
-      (n place number : ℕ) (old : State F) (context : ResolverContext V)
+      (place number : ℕ) (old : State F) (context : ResolverContext V)
       → IsSound is_for subject holds tasks states waiting → slice_get waiting place ≡ Some number → old ≡ get_or states number old
       → ((task : Task) → slice_get tasks number ≡ Some task → IsContextOf number (subject.call task) (subject.path task) context)
-      → n ≡ length waiting → ForSome turns (λ s. place ≡ choice s n) → turns' ≡ option_map (λ s. after s n) turns
+      → ForSome turns (λ s. place ≡ choice s (length waiting)) → turns' ≡ option_map (λ s. after s (length waiting)) turns
       → Taken holds tasks states waiting turns turns' number old context
-  taken holds tasks states waiting turns turns' n place number old context sound stands read contexts n_is choices turns_is =
+  taken holds tasks states waiting turns turns' place number old context sound stands read contexts choices turns_is =
       let pick = picked place number old sound stands read in
-      let count : n ≡ length (waiting_from 0 (marks_of states)) = n_is ∙ ap length sound.waits in
+      let count : length waiting ≡ length (waiting_from 0 (marks_of states)) = ap length sound.waits in
       record {
         sound = sound;
         pick = pick;

@@ -4,6 +4,7 @@ pub mod ApartPlanLemmas
 pub mod ArenaLemmas
 pub mod Lists
 pub mod NearerLemmas
+pub mod PaceLemmas
 pub mod PickLemmas
 pub mod ProgressLemmas
 pub mod RecordLemmas

@@ -1,9 +1,12 @@
 -- Stretches of turns one after another.
-use Rattle.std.proofs.Common.{ℕ, ◌≡◌, List, refl, sym, ap, ◌∙◌}
-use Rattle.std.specs.Prelude.{Option}
+use Rattle.std.proofs.Common.{ℕ, ◌≡◌, ◌≤◌, List, [], ◌∷◌, ◌++◌, length, refl, sym, ap, subst, ◌∙◌, append_assoc}
+use Rattle.std.specs.Prelude.{Option, Some, None, option_map, false}
+use Rattle.std.specs.Option.{ForSome}
 use Rattle.gql_resolve.specs.Call.{Call}
+use Rattle.gql_resolve.specs.Record.{with_more}
 use Rattle.gql_resolve.specs.declared.answer.Answer.{Answer}
 use Rattle.gql_resolve.specs.declared.record_entry.RecordEntry.{RecordEntry}
+use Rattle.gql_engine.specs.Record.{Story, Made, Ran, Stopped, Turned, begun_at, state_at, made_at}
 use Rattle.gql_engine.specs.Arena.{Subject, made_of}
 use Rattle.gql_engine.specs.Progress.{Stage, Kept, Agrees, story_of, Progress, Ended}
 use Rattle.gql_engine.proofs.RecordLemmas.{ran_none, ran_trans, stopped_trans}

@@ -1,7 +1,7 @@
 -- From the first turn to the last: fresh tasks, and what stands when none waits.
-use Rattle.std.proofs.Common.{ℕ, zero, suc, ◌≡◌, Bool, true, false, List, [], ◌∷◌, ◌++◌, length, refl, sym, ap, subst, ◌∙◌, arith}
+use Rattle.std.proofs.Common.{ℕ, zero, suc, ◌≡◌, ◌+◌, ◌<◌, ◌≤◌, Bool, true, false, List, [], ◌∷◌, ◌++◌, length, map, refl, sym, ap, subst, ◌∙◌, arith}
 use Rattle.std.proofs.lemmas.List.{append-nil, length-map}
-use Rattle.std.specs.Prelude.{Option, Some, None, ◌&&◌, slice_get}
+use Rattle.std.specs.Prelude.{Option, Some, None, ◌&&◌, slice_get, slice_set}
 use Rattle.gql_resolve.specs.Call.{Call, is_mutation}
 use Rattle.gql_resolve.specs.Record.{with_more}
 use Rattle.gql_resolve.specs.declared.answer.Answer.{Answer}
@@ -13,9 +13,11 @@ use Rattle.gql_engine.specs.declared.scene.Scene.{Scene}
 use Rattle.gql_engine.specs.Apart.{Asked, asked_in, subject_in, placed, place_of, respond, root_of, unite_all, join}
 use Rattle.gql_engine.specs.ApartPlan.{seen, all_seen, Keeps, place_here, places_here}
 use Rattle.gql_engine.specs.Arena.{mark_of, marks_of, made_of, fresh_states, Subject, IsSound, IsRight}
-use Rattle.gql_engine.specs.Progress.{stage_of, Agrees, story_of, Progress, Ended, RunsWhole, RunStopped}
+use Rattle.gql_engine.specs.Pace.{Pacing}
+use Rattle.gql_engine.specs.Progress.{Stage, stage_of, Agrees, story_of, Progress, Ended, RunsWhole, RunStopped}
 use Rattle.gql_engine.specs.Record.{Mark, untold, begun, ready, Story, Made, Ran, Stopped, waiting_from, waiting, untold_marks, fresh, after_mark, after_entry, made_at, begun_at}
 use Rattle.gql_engine.proofs.Lists.{get_map, get_at, get_within}
+use Rattle.gql_engine.proofs.PaceLemmas.{each_paced}
 use Rattle.gql_engine.proofs.RecordLemmas.{with_more_none}
 use Rattle.gql_engine.proofs.TurnLemmas.{stopped_before}
 
@@ -140,8 +142,23 @@ module _ (V F T : Type 0) (choice : T → ℕ → ℕ) (after : T → ℕ → T)
       ran = subst (λ m. Ran choice after story told told' starts starts' turns turns' m (made_of (all_seen last os') states')) made_is
           (progress.ran law calm (λ task. answer task.call) right_answers)
 
-      pub runs_whole : RunsWhole choice after subject_in answer (asked_in scene) told told' starts starts' turns turns'
-      runs_whole = record { made = made_of (all_seen last os') states'; ran = ran; whole = sym sound.waits ∙ none }
+      all_answered : (k : ℕ) (task : Asked V) → slice_get (all_seen last os') k ≡ Some task → slice_get states' k ≡ Some state.Done
+      all_answered k task is =
+          let within = get_within (all_seen last os') k task is in
+          let m = sound.lengths in
+          let at = get_at states' k (omega arith) in
+          at.1 ∙ ap Some (sym (all_done V (Asked V) F is_for subject_in (λ number a. Keeps last os' number a) (all_seen last os') states' waiting' sound none k at.0 at.1))
+
+      pub runs_whole : (paced paced' : Type 0) (number_of : F → ℕ) (delay : ℕ → ℕ)
+          → Pacing quiet paced paced' number_of (λ task. delay task.call.resolver) told told' (all_seen first os) (all_seen last os') states states'
+          → RunsWhole choice after subject_in answer paced delay (asked_in scene) told told' starts starts' turns turns'
+      runs_whole paced paced' number_of delay pacing = record {
+        made = made_of (all_seen last os') states';
+        ran = ran;
+        whole = sym sound.waits ∙ none;
+        paces = λ pace before some. each_paced number_of (λ task. delay task.call.resolver) told told' before ran.entries (all_seen first os) (all_seen last os') n states states'
+            (pacing.paces calm pace) some ran.told_is states_is all_answered;
+      }
 
       pub stopped_whole : RunStopped choice after subject_in answer (asked_in scene) told told' starts starts' turns
       stopped_whole = record {

@@ -1,17 +1,17 @@
 -- What a turn does to the tasks and their states.
-use Rattle.std.proofs.Common.{ℕ, zero, suc, ◌≡◌, ◌<◌, List, ◌++◌, length, refl, sym, ap, subst, ◌∙◌, arith, inl, inr}
+use Rattle.std.proofs.Common.{ℕ, zero, suc, ◌≡◌, ◌+◌, ◌-◌, ◌*◌, ◌^◌, ◌<◌, ◌≤◌, List, [], ◌∷◌, ◌++◌, length, refl, sym, ap, subst, ◌∙◌, arith, inl, inr, zero-add}
 use Rattle.std.proofs.lemmas.Bool.{cases_eq}
-use Rattle.std.proofs.lemmas.List.{length-map, length-append}
-use Rattle.std.specs.Prelude.{Some, slice_get, slice_set, false}
+use Rattle.std.proofs.lemmas.List.{map-append, length-map, length-append}
+use Rattle.std.specs.Prelude.{Option, Some, None, slice_get, slice_set, map, ◌⊎◌, true, false, Bool}
 use Rattle.gql_resolve.specs.Call.{Call}
 use Rattle.gql_resolve.specs.declared.answer.Answer.{Answer}
 use Rattle.gql_engine.specs.declared.arena.State.{State}
 use Rattle.gql_engine.specs.declared.arena.State.TheVariants as state
-use Rattle.gql_engine.specs.Record.{Mark, ready, waiting_from}
-use Rattle.gql_engine.specs.Arena.{mark_of, marks_of, fresh_states, Subject, Fits, IsSound, IsRight}
-use Rattle.gql_engine.specs.Turn.{IsOpen}
-use Rattle.gql_engine.proofs.Lists.{map_set, get_map, get_within, get_set_same, get_set_other, get_append, length_set}
-use Rattle.gql_engine.proofs.ArenaLemmas.{IsUnanswered, waits_at, waiting_kept}
+use Rattle.gql_engine.specs.Record.{Mark, untold, begun, ready, Made, waiting_from, untold_marks, after_ready, after_pending}
+use Rattle.gql_engine.specs.Arena.{mark_of, marks_of, made_of, fresh_states, total, events_of, polls_of, events_left, polls_left, Nearer, Subject, Fits, IsSound, IsRight}
+use Rattle.gql_engine.specs.Turn.{IsOpen, StartsWaiting, KeepsWaiting}
+use Rattle.gql_engine.proofs.Lists.{map_set, get_map, get_within, get_set_same, get_set_other, get_append, get_at, length_set}
+use Rattle.gql_engine.proofs.ArenaLemmas.{IsUnanswered, Waits, waits_at, waiting_kept}
 
 module _ (V Task F : Type 0) (is_for : F → Call V → Type 0) (subject : Subject V Task) where
   -- the number that is chosen is that of a task, which may be taken up

@@ -1,21 +1,22 @@
 -- What one turn adds to the record.
-use Rattle.std.proofs.Common.{ℕ, ◌≡◌, ◌≤◌, List, [], ◌∷◌, ◌++◌, length, refl, sym, ap, subst, ◌∙◌, arith}
+use Rattle.std.proofs.Common.{ℕ, zero, suc, ◌≡◌, ◌+◌, ◌≤◌, List, [], ◌∷◌, ◌++◌, length, refl, sym, ap, subst, ◌∙◌, arith}
 use Rattle.std.proofs.lemmas.List.{append-nil, map-append}
-use Rattle.std.specs.Prelude.{Option, Some, option_map, slice_get, slice_set, true, false, Bool}
+use Rattle.std.specs.Prelude.{Option, Some, None, option_map, slice_get, slice_set, true, false, Bool}
 use Rattle.std.specs.Option.{ForSome}
+use Rattle.gql_resolve.specs.Call.{Call, call_of}
 use Rattle.gql_resolve.specs.Record.{with_more, entry_of}
 use Rattle.gql_resolve.specs.declared.answer.Answer.{Answer}
 use Rattle.gql_resolve.specs.declared.record_entry.RecordEntry.{RecordEntry}
 use Rattle.gql_resolve.specs.declared.resolver_context.ResolverContext.{ResolverContext}
 use Rattle.gql_engine.specs.declared.arena.State.{State}
 use Rattle.gql_engine.specs.declared.arena.State.TheVariants as state
-use Rattle.gql_engine.specs.Record.{untold, ready, Made, waiting_from, untold_marks, beneath_of, after_ready, after_mark, NamesTask, begins, begun_at, Ran, Stopped}
+use Rattle.gql_engine.specs.Record.{Mark, untold, begun, ready, Story, Made, waiting_from, waiting, untold_marks, beneath_of, after_ready, after_pending, after_mark, after_entry, NamesTask, Turned, begins, begun_at, state_at, made_at, Ran, Stopped}
 use Rattle.gql_engine.specs.Arena.{mark_of, marks_of, made_of, fresh_states, Subject}
 use Rattle.gql_engine.specs.Plan.{IsContextOf}
 use Rattle.gql_engine.specs.Progress.{story_of}
 use Rattle.gql_engine.specs.Turn.{begins_now}
 use Rattle.gql_engine.proofs.Lists.{map_set, get_map}
-use Rattle.gql_engine.proofs.RecordLemmas.{with_more_none}
+use Rattle.gql_engine.proofs.RecordLemmas.{ran_trans, with_more_none}
 
 module _ (V Task F State_ : Type 0) (choice : State_ → ℕ → ℕ) (after : State_ → ℕ → State_) (subject : Subject V Task) (answers : Task → Answer V) where
   marks_fresh : (tasks : List Task) → marks_of (fresh_states {F = F} (length tasks)) ≡ untold_marks tasks

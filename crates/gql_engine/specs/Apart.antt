@@ -1,6 +1,6 @@
 -- The response of a flat object, where each occurrence of a field asks an answer of its own, and places under one key are joined
 -- (GraphQL, October 2021, section 6.3).
-use Rattle.std.specs.Prelude.{ℕ, ◌&&◌, not, false, List, [], ◌∷◌, Option, Some, None, if◌then◌else◌, map, codes}
+use Rattle.std.specs.Prelude.{ℕ, ◌++◌, ◌&&◌, not, Bool, false, List, [], ◌∷◌, Option, Some, None, if◌then◌else◌, map, codes, length}
 use Rattle.std.specs.List.{flat_map}
 use Rattle.std.specs.Str.{bytes_eq}
 use Rattle.gql_base.specs.Pairs.{under}

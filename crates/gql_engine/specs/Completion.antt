@@ -1,5 +1,5 @@
 -- What an answer comes to by the type of its field (GraphQL, October 2021, sections 6.4.3 and 3.5). Lists and objects are to come.
-use Rattle.std.specs.Prelude.{ℕ, ℤ, pos, negsuc, ◌^◌, ◌-◌, ◌&&◌, ◌++◌, Bool, true, false, List, Option, Some, None, Result, Ok, Err, if◌then◌else◌, codes, int_le}
+use Rattle.std.specs.Prelude.{ℕ, ℤ, pos, negsuc, ◌^◌, ◌-◌, ◌≤◌, ◌&&◌, ◌++◌, Bool, true, false, List, Option, Some, None, Result, Ok, Err, if◌then◌else◌, codes, int_le}
 use Rattle.std.specs.Str.{bytes_eq}
 use Rattle.gql_base.specs.declared.error.Error.{Error}
 use Rattle.gql_base.specs.declared.type_ref.TypeRef.{TypeRef}

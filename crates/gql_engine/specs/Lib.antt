@@ -2,6 +2,7 @@ pub mod Apart
 pub mod ApartPlan
 pub mod Arena
 pub mod Completion
+pub mod Pace
 pub mod Path
 pub mod Plan
 pub mod Progress

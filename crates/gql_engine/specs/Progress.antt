@@ -1,9 +1,11 @@
 -- What stands between two turns, and what lies between two such stages.
 use Rattle.std.specs.Prelude.{ℕ, ◌≡◌, List, [], Option, false}
+use Rattle.std.specs.Option.{ForSome}
 use Rattle.gql_resolve.specs.Call.{Call}
 use Rattle.gql_resolve.specs.declared.answer.Answer.{Answer}
 use Rattle.gql_resolve.specs.declared.record_entry.RecordEntry.{RecordEntry}
 use Rattle.gql_engine.specs.declared.arena.State.{State}
+use Rattle.gql_engine.specs.Pace.{EachPaced}
 use Rattle.gql_engine.specs.Record.{Story, Made, Ran, Stopped, fresh, waiting}
 use Rattle.gql_engine.specs.Arena.{Subject, IsRight, made_of}
 
@@ -49,12 +51,14 @@ pub record Ended {V Task F T : Type 0} (lawful quiet : Type 0) (subject : Subjec
   pub stopped : lawful → quiet → (answers : Task → Answer V) → Agrees subject due answers
       → Stopped choice after (story_of subject answers) old.told told old.starts starts old.turns (made_of old.tasks old.states)
 
--- a whole execution of tasks that are fresh: a turned record that leaves none waiting
-pub record RunsWhole {V Task T : Type 0} (choice : T → ℕ → ℕ) (after : T → ℕ → T) (subject : Subject V Task) (due : Call V → Answer V) (tasks : List Task)
+-- a whole execution of tasks that are fresh: a turned record that leaves none waiting. Where the set is paced and tells its
+-- record, the entries of each task are as many pending ones as the delay of its resolver, and then its ready one
+pub record RunsWhole {V Task T : Type 0} (choice : T → ℕ → ℕ) (after : T → ℕ → T) (subject : Subject V Task) (due : Call V → Answer V) (paced : Type 0) (delay : ℕ → ℕ) (tasks : List Task)
     (told told' : Option (List RecordEntry)) (starts starts' : Option (List ℕ)) (turns turns' : Option T) : Type 0 where
   pub made : Made Task
   pub ran : Ran choice after (story_of subject (λ task. due (subject.call task))) told told' starts starts' turns turns' (fresh tasks) made
   pub whole : waiting made ≡ []
+  pub paces : paced → ForSome told (λ before. EachPaced (λ task. delay (subject.call task).resolver) made.tasks ran.entries)
 
 -- an execution that ended for want of memory
 pub record RunStopped {V Task T : Type 0} (choice : T → ℕ → ℕ) (after : T → ℕ → T) (subject : Subject V Task) (due : Call V → Answer V) (tasks : List Task)

@@ -1,6 +1,6 @@
 -- The record of an execution: one entry for each poll that answered, and what it says about the turns.
 -- A task is one call of a resolver. Tasks are numbered from 0 in the order in which they are made.
-use Rattle.std.specs.Prelude.{ℕ, suc, ◌≡◌, ◌≤◌, List, [], ◌∷◌, ◌++◌, Option, Some, None, Bool, if◌then◌else◌, length, slice_get, slice_set, option_map}
+use Rattle.std.specs.Prelude.{ℕ, zero, suc, ◌≡◌, ◌+◌, ◌-◌, ◌≤◌, ◌==◌, ◌↔◌, IsTrue, List, [], ◌∷◌, ◌++◌, Option, Some, None, Bool, if◌then◌else◌, length, map, slice_get, slice_set, slice_index, option_map}
 use Rattle.std.specs.Option.{ForSome}
 use Rattle.gql_resolve.specs.Record.{with_more}
 use Rattle.gql_resolve.specs.declared.record_entry.RecordEntry.{RecordEntry}

@@ -31,7 +31,7 @@ pub fn run_apart<R: ResolverSet, P: Turns>(
     ensures rules { R.rules resolvers.new ≡ R.rules resolvers.old }
     ensures lawful { R.is_lawful resolvers.old → R.is_lawful resolvers.new }
     ensures world { R.is_lawful resolvers.old → R.world resolvers.new ≡ R.world resolvers.old }
-    ensures record { R.is_lawful resolvers.old → OnOk result (RunsWhole P.choice P.after subject_in (λ call. R.answer (R.rules resolvers.old) call (R.world resolvers.old)) (asked_in scene.now)
+    ensures record { R.is_lawful resolvers.old → OnOk result (RunsWhole P.choice P.after subject_in (λ call. R.answer (R.rules resolvers.old) call (R.world resolvers.old)) (R.is_paced resolvers.old) (R.delay (R.rules resolvers.old)) (asked_in scene.now)
         (R.told resolvers.old) (R.told resolvers.new) (R.begun resolvers.old) (R.begun resolvers.new) (P.state turns.old) (P.state turns.new)) }
     ensures stopped { R.is_lawful resolvers.old → OnErr result (RunStopped P.choice P.after subject_in (λ call. R.answer (R.rules resolvers.old) call (R.world resolvers.old)) (asked_in scene.now)
         (R.told resolvers.old) (R.told resolvers.new) (R.begun resolvers.old) (R.begun resolvers.new) (P.state turns.old)) }

@@ -10,6 +10,7 @@ mod gathering;
 #[cfg(test)]
 mod meeting;
 mod occurrence;
+mod picking;
 mod place;
 mod placing;
 mod plan;

@@ -1,8 +1,10 @@
 ghost use Rattle.std.specs.Prelude.{ℕ, ◌≡◌, ◌<◌, [], false, Ok, length, IfOk, OnOk, OnErr};
 ghost use Rattle.gql_engine.specs.Arena.{IsSound, Nearer, events_left, subject_of};
+ghost use Rattle.gql_engine.specs.Pace.{Pacing};
 ghost use Rattle.gql_engine.specs.Progress.{Kept, Progress, Ended, stage_of};
 
 use crate::arena::{Arena, Turn};
+use crate::picking::pick_task;
 use crate::plan::Plan;
 use crate::rounds::Rounds;
 use crate::settling::settle;
@@ -29,22 +31,29 @@ fn advance<R: ResolverSet, L: Plan<R::Own>, H: Rounds<R::Own>, P: Turns>(
     ensures progress { OnOk result (Progress (R.is_lawful resolvers.old) (H.are_quiet hooks.old) (subject_of L.call L.path L.beneath) (λ call. R.answer (R.rules resolvers.old) call (R.world resolvers.old)) P.choice P.after (L.holds plan.old) (L.holds plan.new)
         (stage_of (L.tasks plan.old) arena.old.states.items (R.told resolvers.old) (R.begun resolvers.old) (P.state turns.old))
         (stage_of (L.tasks plan.new) arena.new.states.items (R.told resolvers.new) (R.begun resolvers.new) (P.state turns.new))) }
+    ensures paced { OnOk result (Pacing (H.are_quiet hooks.old) (R.is_paced resolvers.old) (R.is_paced resolvers.new) R.number (λ task. R.delay (R.rules resolvers.old) (L.call task).resolver)
+        (R.told resolvers.old) (R.told resolvers.new) (L.tasks plan.old) (L.tasks plan.new) arena.old.states.items arena.new.states.items) }
     ensures ended { OnErr result (Ended (R.is_lawful resolvers.old) (H.are_quiet hooks.old) (subject_of L.call L.path L.beneath) (λ call. R.answer (R.rules resolvers.old) call (R.world resolvers.old)) P.choice P.after
         (stage_of (L.tasks plan.old) arena.old.states.items (R.told resolvers.old) (R.begun resolvers.old) (P.state turns.old)) (R.told resolvers.new) (R.begun resolvers.new)) }
     ensures still { result ≡ Ok false → arena.new.waiting.items ≡ arena.old.waiting.items }
 {
-    let place = turns.pick(arena.waiting.len());
-    let number = arena.waiting[place];
+    let picked = pick_task(arena, turns);
     let turn = {
-        let context = plan.context(number);
-        take_turn(alloc, resolvers, hooks, &mut arena.states[number], &context)?
+        let context = plan.context(picked.number);
+        take_turn(
+            alloc,
+            resolvers,
+            hooks,
+            &mut arena.states[picked.number],
+            &context,
+        )?
     };
     match turn {
         Turn::Begun => Ok(true),
         Turn::Pending => Ok(false),
         Turn::Answered(answer) => {
-            let count = plan.complete(alloc, number, answer)?;
-            settle(arena, place, number, count)?;
+            let count = plan.complete(alloc, picked.number, answer)?;
+            settle(arena, picked.place, picked.number, count)?;
             Ok(true)
         }
     }
@@ -67,6 +76,8 @@ fn reach_event<R: ResolverSet, L: Plan<R::Own>, H: Rounds<R::Own>, P: Turns>(
     ensures progress { OnOk result (Progress (R.is_lawful resolvers.old) (H.are_quiet hooks.old) (subject_of L.call L.path L.beneath) (λ call. R.answer (R.rules resolvers.old) call (R.world resolvers.old)) P.choice P.after (L.holds plan.old) (L.holds plan.new)
         (stage_of (L.tasks plan.old) arena.old.states.items (R.told resolvers.old) (R.begun resolvers.old) (P.state turns.old))
         (stage_of (L.tasks plan.new) arena.new.states.items (R.told resolvers.new) (R.begun resolvers.new) (P.state turns.new))) }
+    ensures paced { OnOk result (Pacing (H.are_quiet hooks.old) (R.is_paced resolvers.old) (R.is_paced resolvers.new) R.number (λ task. R.delay (R.rules resolvers.old) (L.call task).resolver)
+        (R.told resolvers.old) (R.told resolvers.new) (L.tasks plan.old) (L.tasks plan.new) arena.old.states.items arena.new.states.items) }
     ensures ended { OnErr result (Ended (R.is_lawful resolvers.old) (H.are_quiet hooks.old) (subject_of L.call L.path L.beneath) (λ call. R.answer (R.rules resolvers.old) call (R.world resolvers.old)) P.choice P.after
         (stage_of (L.tasks plan.old) arena.old.states.items (R.told resolvers.old) (R.begun resolvers.old) (P.state turns.old)) (R.told resolvers.new) (R.begun resolvers.new)) }
 {
@@ -93,6 +104,8 @@ pub fn finish<R: ResolverSet, L: Plan<R::Own>, H: Rounds<R::Own>, P: Turns>(
     ensures progress { OnOk result (Progress (R.is_lawful resolvers.old) (H.are_quiet hooks.old) (subject_of L.call L.path L.beneath) (λ call. R.answer (R.rules resolvers.old) call (R.world resolvers.old)) P.choice P.after (L.holds plan.old) (L.holds plan.new)
         (stage_of (L.tasks plan.old) arena.old.states.items (R.told resolvers.old) (R.begun resolvers.old) (P.state turns.old))
         (stage_of (L.tasks plan.new) arena.new.states.items (R.told resolvers.new) (R.begun resolvers.new) (P.state turns.new))) }
+    ensures paced { OnOk result (Pacing (H.are_quiet hooks.old) (R.is_paced resolvers.old) (R.is_paced resolvers.new) R.number (λ task. R.delay (R.rules resolvers.old) (L.call task).resolver)
+        (R.told resolvers.old) (R.told resolvers.new) (L.tasks plan.old) (L.tasks plan.new) arena.old.states.items arena.new.states.items) }
     ensures ended { OnErr result (Ended (R.is_lawful resolvers.old) (H.are_quiet hooks.old) (subject_of L.call L.path L.beneath) (λ call. R.answer (R.rules resolvers.old) call (R.world resolvers.old)) P.choice P.after
         (stage_of (L.tasks plan.old) arena.old.states.items (R.told resolvers.old) (R.begun resolvers.old) (P.state turns.old)) (R.told resolvers.new) (R.begun resolvers.new)) }
 {

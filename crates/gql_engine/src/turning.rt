@@ -2,6 +2,7 @@ ghost use Rattle.std.specs.Prelude.{ℕ, ◌≡◌, ◌<◌, ◌++◌, [], ◌�
 ghost use Rattle.gql_resolve.specs.Record.{with_more};
 ghost use Rattle.gql_resolve.specs.Lawful.{plain_answer};
 ghost use Rattle.gql_resolve.specs.Call.{call_of};
+ghost use Rattle.gql_engine.specs.Pace.{TurnPaced};
 ghost use Rattle.gql_engine.specs.Turn.{BeginsAtMost, IsOpen, TurnOf, AnswersRightly, told_by_turn, begins_now};
 
 use crate::arena::{State, Turn};
@@ -26,6 +27,8 @@ pub fn take_turn<R: ResolverSet, H: Rounds<R::Own>>(
     ensures world { R.is_lawful resolvers.old → R.world resolvers.new ≡ R.world resolvers.old }
     ensures quiet { H.are_quiet hooks.old → H.are_quiet hooks.new }
     ensures answer { R.is_lawful resolvers.old → H.are_quiet hooks.old → AnswersRightly (R.answer (R.rules resolvers.old) (call_of context.now) (R.world resolvers.old)) result }
+    ensures pace { R.is_paced resolvers.old → R.is_paced resolvers.new }
+    ensures paced { H.are_quiet hooks.old → R.is_paced resolvers.old → IfOk result (TurnPaced R.number (R.delay (R.rules resolvers.old) context.now.resolver) state.old state.new) }
     ensures told { H.are_quiet hooks.old → R.told resolvers.new ≡ with_more (R.told resolvers.old) (told_by_turn context.now result) }
     ensures begun { H.are_quiet hooks.old → OnOk result (R.begun resolvers.new ≡ with_more (R.begun resolvers.old) (begins_now context.now.task state.old)) }
     ensures unbegun { H.are_quiet hooks.old → OnErr result (BeginsAtMost context.now.task (R.begun resolvers.old) (R.begun resolvers.new)) }
@@ -54,6 +57,8 @@ fn begin<R: ResolverSet, H: Rounds<R::Own>>(
     ensures world { R.is_lawful resolvers.old → R.world resolvers.new ≡ R.world resolvers.old }
     ensures quiet { H.are_quiet hooks.old → H.are_quiet hooks.new }
     ensures answer { R.is_lawful resolvers.old → H.are_quiet hooks.old → AnswersRightly (R.answer (R.rules resolvers.old) (call_of context.now) (R.world resolvers.old)) result }
+    ensures pace { R.is_paced resolvers.old → R.is_paced resolvers.new }
+    ensures paced { H.are_quiet hooks.old → R.is_paced resolvers.old → IfOk result (TurnPaced R.number (R.delay (R.rules resolvers.old) context.now.resolver) State.Fresh state.new) }
     ensures told { H.are_quiet hooks.old → R.told resolvers.new ≡ with_more (R.told resolvers.old) (told_by_turn context.now result) }
     ensures begun { H.are_quiet hooks.old → OnOk result (R.begun resolvers.new ≡ with_more (R.begun resolvers.old) (context.now.task ∷ [])) }
     ensures unbegun { H.are_quiet hooks.old → OnErr result (BeginsAtMost context.now.task (R.begun resolvers.old) (R.begun resolvers.new)) }
@@ -81,6 +86,8 @@ fn poll_first<R: ResolverSet>(
     ensures lawful { R.is_lawful resolvers.old → R.is_lawful resolvers.new }
     ensures world { R.is_lawful resolvers.old → R.world resolvers.new ≡ R.world resolvers.old }
     ensures answer { R.is_lawful resolvers.old → AnswersRightly (R.answer (R.rules resolvers.old) (call_of context.now) (R.world resolvers.old)) result }
+    ensures pace { R.is_paced resolvers.old → R.is_paced resolvers.new }
+    ensures paced { R.is_paced resolvers.old → IfOk result (TurnPaced R.number (R.number future) State.Fresh state.new) }
     ensures told { R.told resolvers.new ≡ with_more (R.told resolvers.old) (told_by_turn context.now result) }
     ensures begun { R.begun resolvers.new ≡ R.begun resolvers.old }
 {

@@ -1,10 +1,11 @@
 -- Keys beside their values: what look-up and `put_key` come to where the pairs are made of two lists.
-use Rattle.std.proofs.Common.{◌≡◌, ℕ, zero, suc, ◌+◌, ◌<◌, ◌≤◌, ◌==◌, Bool, true, false, cond, not, List, [], ◌∷◌, ◌++◌, length, Some, None, slice_get, slice_set, slice_index_or, refl, ap, sym, ◌∙◌, arith, ◌↔◌, nat_eq}
+use Rattle.std.proofs.Common.{◌≡◌, ℕ, suc, ◌+◌, ◌<◌, ◌≤◌, ◌==◌, Bool, true, false, cond, not, List, [], ◌∷◌, ◌++◌, length, Some, None, slice_get, slice_set, slice_index_or, drop, map, refl, ap, sym, ◌∙◌, arith, ◌↔◌, nat_eq}
 use Rattle.std.proofs.lemmas.Option.{slice_get_past, slice_get_read}
+use Rattle.std.proofs.lemmas.List.{drop_more}
 use Rattle.std.specs.List.{zip, position, position_or_len, list_any}
 use Rattle.indexmap.specs.IndexSet.{insert_key}
 use Rattle.gql_base.proofs.PairLemmas.{position-is, position-none}
-use Rattle.gql_request.specs.Data.{under_key, put_key}
+use Rattle.gql_request.specs.Data.{under_key, put_key, put_keys}
 
 one-more : (n : ℕ) → 1 + n ≡ suc n
 one-more n = omega arith
@@ -118,3 +119,51 @@ pub inserts : {T : Type 0} (sought : ℕ) (ks ks' : List ℕ) (vs vs' : List T) 
 inserts sought ks ks' vs vs' ps v made missing absent same keys values =
     let one = keys ∙ insert_key_absent ks sought absent in
     (λ i. zip (one i) (values i)) ∙ put_missing sought ks vs ps v missing same made
+
+-- the same at the pairs that the lists make
+pub puts_found : {T : Type 0} (sought : ℕ) (ks : List ℕ) (vs : List T) (i : ℕ) (v : T) → Some i ≡ position (λ k. sought == k) ks
+    → length vs ≡ length ks → zip ks (slice_set vs i v) ≡ put_key (zip ks vs) sought v
+puts_found sought ks vs i v found same = put_found sought ks vs (zip ks vs) i v found same refl
+
+pub puts_missing : {T : Type 0} (sought : ℕ) (ks ks' : List ℕ) (vs vs' : List T) (v : T) → None ≡ position (λ k. sought == k) ks
+    → false ≡ list_any (λ k. sought == k) ks → length vs ≡ length ks → ks' ≡ insert_key nat_eq ks sought → vs' ≡ vs ++ v ∷ []
+    → zip ks' vs' ≡ put_key (zip ks vs) sought v
+puts_missing sought ks ks' vs vs' v missing absent same keys values =
+    inserts sought ks ks' vs vs' (zip ks vs) v refl missing absent same keys values
+
+-- one pair of the others is put, and those behind it are left
+pub puts_more : {T : Type 0} (ks : List ℕ) (place : ℕ) (k : ℕ) (v : T) (rest rest' : List T) (ps ps' whole : List (ℕ × T)) → place < length ks
+    → k ≡ slice_index_or ks place k → rest ≡ v ∷ rest' → ps' ≡ put_key ps k v → put_keys ps (zip (drop place ks) rest) ≡ whole
+    → put_keys ps' (zip (drop (place + 1) ks) rest') ≡ whole
+puts_more ks place k v rest rest' ps ps' whole within read next put left =
+    let keys : drop place ks ≡ k ∷ drop (place + 1) ks = drop_more ks place k within ∙ ap (λ j. j ∷ drop (place + 1) ks) (sym read) in
+    ap (λ qs. put_keys qs (zip (drop (place + 1) ks) rest')) put ∙ sym (λ i. put_keys ps (zip (keys i) (next i))) ∙ left
+
+-- where no value is left, no pair is
+pub puts_none : {T : Type 0} (ks : List ℕ) (rest : List T) (ps whole : List (ℕ × T)) → rest ≡ [] → put_keys ps (zip ks rest) ≡ whole → ps ≡ whole
+puts_none {T} [] rest ps whole none left = left
+puts_none {T} (k ∷ ks) rest ps whole none left = sym (ap (λ vs. put_keys ps (zip (k ∷ ks) vs)) none) ∙ left
+
+-- pairs are equal exactly where their keys are, and their values
+module _ {T : Type 0} where
+  keys-zipped : (ks : List ℕ) (vs : List T) → length vs ≡ length ks → map (λ p. p.0) (zip ks vs) ≡ ks
+  keys-zipped [] vs e = refl
+  keys-zipped (k ∷ ks) [] e = absurd (omega arith)
+  keys-zipped (k ∷ ks) (v ∷ vs) e = ap (λ js. k ∷ js) (keys-zipped ks vs (omega arith))
+
+  values-zipped : (ks : List ℕ) (vs : List T) → length vs ≡ length ks → map (λ p. p.1) (zip ks vs) ≡ vs
+  values-zipped [] [] e = refl
+  values-zipped [] (v ∷ vs) e = absurd (omega arith)
+  values-zipped (k ∷ ks) [] e = absurd (omega arith)
+  values-zipped (k ∷ ks) (v ∷ vs) e = ap (λ ws. v ∷ ws) (values-zipped ks vs (omega arith))
+
+  pub same_data : (ks js : List ℕ) (vs ws : List T) (ps qs : List (ℕ × T)) → length vs ≡ length ks → length ws ≡ length js → zip ks vs ≡ ps → zip js ws ≡ qs
+      → (ps ≡ qs) ↔ ((ks ≡ js) × (vs ≡ ws))
+  same_data ks js vs ws ps qs here there made-here made-there = (
+    λ same.
+        let pairs = made-here ∙ same ∙ sym made-there in (
+          sym (keys-zipped ks vs here) ∙ ap (map (λ p. p.0)) pairs ∙ keys-zipped js ws there,
+          sym (values-zipped ks vs here) ∙ ap (map (λ p. p.1)) pairs ∙ values-zipped js ws there,
+        ),
+    λ (keys, values). sym made-here ∙ (λ i. zip (keys i) (values i)) ∙ made-there,
+  )

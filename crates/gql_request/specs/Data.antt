@@ -10,3 +10,8 @@ under_key key (p ∷ ps) = if key == p.0 then Some p.1 else under_key key ps
 abbrev pub put_key : {T : Type 0} → List (ℕ × T) → ℕ → T → List (ℕ × T)
 put_key [] key value = (key, value) ∷ []
 put_key (p ∷ ps) key value = if key == p.0 then (p.0, value) ∷ ps else p ∷ put_key ps key value
+
+-- the pairs once each key of the others has its value, one after another
+abbrev pub put_keys : {T : Type 0} → List (ℕ × T) → List (ℕ × T) → List (ℕ × T)
+put_keys ps [] = ps
+put_keys ps (q ∷ qs) = put_keys (put_key ps q.0 q.1) qs

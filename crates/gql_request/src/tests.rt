@@ -33,6 +33,45 @@ fn data_keep_one_value_a_key(rt: HostRuntime) -> Result<(), Fail> {
     Ok(())
 }
 
+/// Data of these keys and numbers.
+fn data_of(alloc: Global, pairs: &[(u32, u64)]) -> Made<Data> {
+    let mut data = Data::new(alloc);
+    for (key, value) in pairs {
+        data.insert(DataKey(*key), number(*value))?;
+    }
+    Ok(data)
+}
+
+/// Whether data equal those of these keys and numbers.
+fn is_data_of(alloc: Global, data: &Data, pairs: &[(u32, u64)]) -> Made<bool> {
+    let other = data_of(alloc, pairs)?;
+    Ok(data.equals(&other))
+}
+
+/// Whether a copy of data equals them.
+fn equals_its_copy(alloc: Global, data: &Data) -> Made<bool> {
+    let copy = data.try_clone(alloc)?;
+    Ok(copy == *data)
+}
+
+/// Data of the first pairs, with those of the second merged into them.
+fn merged(alloc: Global, first: &[(u32, u64)], second: &[(u32, u64)]) -> Made<Data> {
+    let mut data = data_of(alloc, first)?;
+    data.merge(data_of(alloc, second)?)?;
+    Ok(data)
+}
+
+#[test]
+fn merged_data_are_equal_pair_by_pair(rt: HostRuntime) -> Result<(), Fail> {
+    let alloc = rt.alloc();
+    let data = merged(alloc, &[(7, 1), (4, 2)], &[(5, 4), (7, 3)])?;
+    assert!(rt; is_data_of(alloc, &data, &[(7, 3), (4, 2), (5, 4)])?);
+    assert!(rt; !is_data_of(alloc, &data, &[(4, 2), (7, 3), (5, 4)])?);
+    assert!(rt; !is_data_of(alloc, &data, &[(7, 1), (4, 2), (5, 4)])?);
+    assert!(rt; equals_its_copy(alloc, &data)?);
+    Ok(())
+}
+
 /// The path `hero.friends.1.name`.
 fn path(alloc: Global) -> Made<[PathSegment; 4]> {
     Ok([

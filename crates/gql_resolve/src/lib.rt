@@ -3,6 +3,8 @@
 
 mod answer;
 mod copied;
+#[cfg(test)]
+mod data_tests;
 mod field_future;
 mod field_value;
 mod layers;

@@ -20,7 +20,7 @@ fn at<T>(node: T) -> Positioned<T> {
     }
 }
 
-fn field(alloc: Global, name: &str) -> Made<Field> {
+pub(crate) fn field(alloc: Global, name: &str) -> Made<Field> {
     Ok(Field {
         alias: None,
         name: at(Name::new(alloc, name)?),
@@ -32,7 +32,7 @@ fn field(alloc: Global, name: &str) -> Made<Field> {
     })
 }
 
-fn environment(alloc: Global, ty: OperationType) -> QueryEnv {
+pub(crate) fn environment(alloc: Global, ty: OperationType) -> QueryEnv {
     QueryEnv {
         variables: Variables::from_value(alloc, Value::Null),
         operation_name: None,
@@ -101,7 +101,7 @@ fn record_text(alloc: Global, set: &Echo) -> Made<String> {
 }
 
 /// A context of a task of resolver 7 with no data.
-fn context<'a, V>(
+pub(crate) fn context<'a, V>(
     segments: &'a [PathSegment],
     arguments: &'a Pairs<Value>,
     parent_value: &'a FieldValue<V>,

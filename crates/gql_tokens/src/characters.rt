@@ -16,7 +16,10 @@ pub fn characters_of(alloc: Global, text: &str) -> Made<Vec<char>>
 pub fn text_of(alloc: Global, characters: &[char]) -> Made<Text>
     ensures { IfOk result (λ made. made ≡ encode_utf8_all characters.now) }
 {
-    let text: String = characters.iter().copied().collect(alloc)?;
+    let mut text = String::with_capacity(alloc, characters.len())?;
+    for c in characters {
+        text.push(*c)?;
+    }
     Ok(Text::from_string(text))
 }
 

@@ -2,7 +2,7 @@
 #![tactic(auto)]
 
 use gql_base::Made;
-use gql_cli::{Status, StdSink, StdSource, run};
+use gql_cli::{Status, StdSink, StdSource, TableMaker, run};
 use std::alloc::AllocError;
 use std::env;
 use std::io::ErrorKind;
@@ -11,8 +11,16 @@ use std::process::ExitCode;
 fn main(rt: HostRuntime) -> ExitCode {
     let mut source = StdSource::new(rt.stdin());
     let mut sink = StdSink::new(rt.stdout());
+    let mut tables = TableMaker::new();
     let status = match words(&rt) {
-        Ok(words) => run(&rt, rt.alloc(), words.as_slice(), &mut source, &mut sink),
+        Ok(words) => run(
+            &rt,
+            rt.alloc(),
+            words.as_slice(),
+            &mut source,
+            &mut sink,
+            &mut tables,
+        ),
         Err(AllocError) => Status::NoMemory.code(),
     };
     ExitCode::from(status)

@@ -1,16 +1,21 @@
-use Rattle.std.proofs.Common.{codes, ◌++◌, ap, ◌∙◌, map}
-use Rattle.gql_base.specs.Separated.{separated}
-use Rattle.gql_cli.specs.Answer.{shown}
-use Rattle.gql_cli.proofs.AnswerLemmas.{response-parts}
+use Rattle.std.proofs.Common.{sym, ◌∙◌, subst}
+use Rattle.gql_cli.specs.Answer.{Chooses, HasChosen}
+use Rattle.gql_cli.specs.BenchAnswers.{bench_answers}
+use Rattle.gql_cli.proofs.QueryLemmas.{asks-same}
+use Rattle.gql_cli.proofs.TaskLemmas.{document-record}
 use Rattle.gql_cli.proofs.answer.response_of.Goals as goal
 
-pub returns-in_ok-push_str : goal.returns-in_ok-push_str
-returns-in_ok-push_str c =
-    let pushed = rw c.if-branch.true at c.in_ok-push_fields.ensures in (
-      pushed.0,
-      pushed.1,
-      c.from_string.ensures ∙ c.in_ok-push_str.ensures.bytes
-          ∙ ap (λ text. text ++ codes "}}\n")
-          (pushed.2 ∙ ap (λ text. text ++ separated (codes ",") (map shown pushed.0)) c.in_ok-out.ensures.ok)
-          ∙ response-parts pushed.0,
-    )
+pub returns-then-not-has_fields-clause-response : goal.returns-then-not-has_fields-clause-response
+returns-then-not-has_fields-clause-response g c =
+    λ text response.
+    let selects = rw c.in-Some.is at c.in_ok-names.ensures in
+    let same = asks-same c.args.document response.names c.in-Some.names response.selects.0 selects.0 in
+    c.if-not-has_fields.ensures response.chosen
+    (subst (λ names. Chooses (bench_answers c.args.bench.now) names response.chosen) (same ∙ sym c.as_slice.ensures) response.chooses)
+
+pub returns-clause-record : goal.returns-clause-record
+returns-clause-record g c =
+    let selects = rw c.in-Some.is at c.in_ok-names.ensures in
+    document-record c.args.bench.now c.args.document _ c.in-Some.names selects
+    (subst (HasChosen (bench_answers c.args.bench.now)) c.as_slice.ensures c.if-not-has_fields.ensures)
+    (c.in_ok-place.ensures.record c.in-Some.names selects.0)

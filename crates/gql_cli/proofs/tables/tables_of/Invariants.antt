@@ -9,4 +9,4 @@ use Rattle.gql_cli.proofs.tables.tables_of.Given as goal
 abbrev pub invariant-loop-field : goal.invariant-loop-field
 invariant-loop-field l =
     HasDistinctNames (constants l.yielded) × (object_name l.tables.object ≡ l.root)
-    × IsTabled l.tables.object l.tables.rules (constants l.yielded) × (l.fn.fields ≡ l.yielded ++ into_iter_items l.field-iterator)
+    × IsTabled l.tables.object l.tables.rules l.yielded × (l.fn.fields ≡ l.yielded ++ into_iter_items l.field-iterator)

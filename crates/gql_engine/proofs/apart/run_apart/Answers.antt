@@ -1,4 +1,4 @@
-use Rattle.std.proofs.Common.{◌≡◌, false, sym, subst, ◌∙◌}
+use Rattle.std.proofs.Common.{rules, ◌≡◌, false, length, sym, ap, subst, ◌∙◌}
 use Rattle.std.proofs.lemmas.List.{length-map}
 use Rattle.gql_resolve.specs.Call.{is_mutation}
 use Rattle.gql_engine.specs.Apart.{Asked, subject_in}
@@ -56,3 +56,4 @@ returns-clause-record g c = λ law. runs_whole g.row.R-Own.Denot g.row.R-Future.
     (g.R.ResolverSet.told c.args.resolvers.now) (g.R.ResolverSet.told c.finish.new.resolvers) (g.R.ResolverSet.begun c.args.resolvers.now) (g.R.ResolverSet.begun c.finish.new.resolvers)
     (g.P.Turns.state c.args.turns.now) (g.P.Turns.state c.finish.new.turns) c.len.result
     c.in_ok-plan.ensures.scene c.in_ok-plan.ensures.asked c.in_ok-arena.ensures.states (c.len.ensures ∙ c.in_ok-plan.plan.occurrences.ok.0) c.in_ok-finish.ensures.progress c.in_ok-finish.ensures.sound c.in_ok-finish.ensures.answered law tt
+    (g.R.ResolverSet.is_paced c.args.resolvers.now) (g.R.ResolverSet.is_paced c.finish.new.resolvers) g.R.ResolverSet.number (g.R.ResolverSet.delay (g.R.ResolverSet.rules c.args.resolvers.now)) c.in_ok-finish.ensures.paced

@@ -1,3 +1,4 @@
+use Rattle.std.proofs.Common.{rules, ◌≡◌, ◌<◌, length, arith}
 use Rattle.gql_engine.specs.ApartPlan.{all_seen}
 use Rattle.gql_engine.specs.Apart.{asked_in}
 use Rattle.gql_engine.proofs.ApartLemmas.{gathered}

@@ -1,4 +1,4 @@
-use Rattle.std.proofs.Common.{rules, ◌≡◌, ◌∙◌}
+use Rattle.std.proofs.Common.{rules, ◌≡◌, ◌<◌, length, ◌∙◌}
 use Rattle.std.specs.List.{remove}
 use Rattle.gql_engine.proofs.ArenaLemmas.{one_less}
 use Rattle.gql_engine.proofs.Lists.{get_within}

@@ -1,5 +1,5 @@
-use Rattle.std.proofs.Common.{◌∷◌, [], ◌++◌, ap, sym, ◌∙◌, refl, subst}
-use Rattle.gql_cli.specs.Answer.{IsAnswered, Chooses}
+use Rattle.std.proofs.Common.{◌∷◌, [], ◌++◌, ap, sym, ◌∙◌, refl}
+use Rattle.gql_cli.specs.Answer.{IsAnswered}
 use Rattle.gql_cli.specs.BenchAnswers.{bench_answers}
 use Rattle.gql_cli.proofs.ZipLemmas.{zip-more, zip-never}
 use Rattle.gql_cli.proofs.tables.Bench.has_fields.Goals as goal
@@ -7,17 +7,16 @@ use Rattle.gql_cli.proofs.tables.Bench.has_fields.Goals as goal
 pub returns-in-None : goal.returns-in-None
 returns-in-None c =
     λ chosen fits.
-    zip-never (IsAnswered (bench_answers c.args.self.now)) c.as_slice-name-items.result.now chosen c.loop-name.name-index c.name-item.result
+    zip-never (IsAnswered (bench_answers c.args.self.now)) c.args.names.now chosen c.loop-name.name-index c.name-item.result
     c.loop-name-test.true c.name-item.is
-    (λ p (same, found). let clash = c.in-None.ensures ∙ ap (bench_answers c.args.self.now) c.as_str.ensures ∙ found in cc)
-    (subst (λ names. Chooses (bench_answers c.args.self.now) names chosen) (sym c.as_slice-name-items.ensures) fits)
+    (λ p (same, found). let clash = c.in-None.ensures ∙ ap (bench_answers c.args.self.now) c.as_str.ensures ∙ found in cc) fits
 
 pub loop-name-preserved : goal.loop-name-preserved
 loop-name-preserved c =
     record {
       chosen = c.loop-name.invariant.chosen ++ (c.name-item.result, c.in-Some.field-0.now) ∷ [];
       chooses =
-          zip-more (IsAnswered (bench_answers c.args.self.now)) c.as_slice-name-items.result.now c.loop-name.invariant.chosen c.loop-name.name-index
+          zip-more (IsAnswered (bench_answers c.args.self.now)) c.args.names.now c.loop-name.invariant.chosen c.loop-name.name-index
           c.name-item.result (c.name-item.result, c.in-Some.field-0.now) c.loop-name-test.true c.name-item.is c.loop-name.invariant.chooses
           (refl, ap (bench_answers c.args.self.now) (sym c.as_str.ensures) ∙ sym c.in-Some.ensures);
     }

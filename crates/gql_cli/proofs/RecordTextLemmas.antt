@@ -1,0 +1,51 @@
+-- The lines of a record, and an answer behind them.
+use Rattle.std.proofs.Common.{◌≡◌, ℕ, ◌+◌, ◌<◌, List, [], ◌∷◌, ◌++◌, take, length, get_or, Option, Some, Result, Ok, Err, IfOk, IfSome, MatchOption, ap, sym, ◌∙◌, subst}
+use Rattle.std.proofs.lemmas.List.{take_more, flat_map_more}
+use Rattle.gql_resolve.specs.declared.record_entry.RecordEntry.{RecordEntry}
+use Rattle.gql_cli.specs.Bench.{Request, behind, lines_for, HoldsTold, QueryGives, WithRecord}
+use Rattle.gql_cli.specs.BenchRecord.{entry_line, record_lines}
+use Rattle.gql_cli.specs.declared.bench.Command.{Command}
+use Rattle.gql_cli.specs.declared.bench.Command.TheVariants.{Execute}
+use Rattle.gql_cli.specs.declared.bench.Written.{Written}
+use Rattle.gql_cli.specs.declared.bench.Written.TheVariants.{Answered, Refused, NotJson, NotBuilt}
+
+-- an answer over a set, behind the lines of what that set told while it is held
+pub answer-behind : {S : Type 0} (told : S → Option (List RecordEntry)) (set : S) (shown : List RecordEntry) (command : Command) (request : Request)
+    (answer : Written) → IfSome (told set) (λ entries. shown ≡ entries)
+    → WithRecord (QueryGives Execute request) (λ entries. told set ≡ Some entries) answer
+    → WithRecord (QueryGives command request) (HoldsTold (Some set) told) (behind (lines_for command shown) answer)
+answer-behind told set shown command request (Answered text) shows (entries, gives, tells) =
+    let same : shown ≡ entries = subst (λ (known : Option (List RecordEntry)). IfSome known (λ es. shown ≡ es)) tells shows in (
+      entries,
+      record {
+        response = gives.response;
+        answers = gives.answers;
+        recorded = gives.recorded;
+        is = λ i. lines_for command (same i) ++ gives.is i;
+      },
+      tells,
+    )
+answer-behind told set shown command request (Refused text) shows (entries, gives, tells) = (entries, gives, tells)
+answer-behind told set shown command request NotBuilt shows (entries, gives, tells) = (entries, gives, tt)
+answer-behind told set shown command request NotJson shows (entries, gives, tells) = absurd gives
+
+-- the same of what was made of it, where the set that is held is known by an equation
+pub made_behind : {S E : Type 0} (told : S → Option (List RecordEntry)) (held : Option S) (set : S) → held ≡ Some set → (shown : List RecordEntry)
+    (command : Command) (request : Request) (answer : Written) → MatchOption held (shown ≡ []) (λ s. IfSome (told s) (λ entries. shown ≡ entries))
+    → WithRecord (QueryGives Execute request) (λ entries. told set ≡ Some entries) answer
+    → (made : Result Written E) → IfOk made (λ written. written ≡ behind (lines_for command shown) answer)
+    → IfOk made (WithRecord (QueryGives command request) (HoldsTold held told))
+made_behind {S} told held set is shown command request answer shows gives (Err want) same = same
+made_behind {S} told held set is shown command request answer shows gives (Ok written) same =
+    let shown_by : IfSome (told set) (λ entries. shown ≡ entries)
+    = subst (λ (h : Option S). MatchOption h (shown ≡ []) (λ s. IfSome (told s) (λ entries. shown ≡ entries))) is shows in
+    subst (λ (h : Option S). WithRecord (QueryGives command request) (HoldsTold h told) written) (sym is)
+    (subst (λ (w : Written). WithRecord (QueryGives command request) (HoldsTold (Some set) told) w) (sym same)
+    (answer-behind told set shown command request answer shown_by gives))
+
+-- one more line
+pub lines-more : (entries : List RecordEntry) (i : ℕ) (entry : RecordEntry) (first old new : List ℕ) → i < length entries → entry ≡ get_or entries i entry
+    → old ≡ first ++ record_lines (take i entries) → new ≡ old ++ entry_line entry → new ≡ first ++ record_lines (take (i + 1) entries)
+lines-more entries i entry first old new within at so_far more =
+    more ∙ ap (λ bytes. bytes ++ entry_line entry) so_far ∙ flat_map_more entry_line first (take i entries) entry
+    ∙ ap (λ es. first ++ record_lines es) (sym (take_more entries i entry within ∙ ap (λ e. take i entries ++ e ∷ []) (sym at)))

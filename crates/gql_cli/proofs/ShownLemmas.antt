@@ -1,0 +1,99 @@
+-- The engine's response to a query for some fields of a bench is what the bench answers under their names.
+use Rattle.std.proofs.Common.{rules, ◌≡◌, ℕ, ℤ, List, [], ◌∷◌, ◌++◌, map, Some, refl, ap, sym, ◌∙◌, subst}
+use Rattle.std.specs.List.{AllZip, flat_map}
+use Rattle.gql_base.specs.Pairs.{under, names_of, HasDistinctNames}
+use Rattle.gql_base.specs.declared.value.Value.{Value}
+use Rattle.gql_doc.specs.Document.{alias_or}
+use Rattle.gql_doc.specs.declared.document.Field.{Field, out-Field}
+use Rattle.gql_doc.specs.declared.document.Positioned.{Positioned}
+use Rattle.gql_doc.specs.declared.document.Selection.{Selection, out-Selection}
+use Rattle.gql_doc.specs.declared.document.OperationDefinition.{OperationDefinition}
+use Rattle.gql_resolve.specs.Call.{Call}
+use Rattle.gql_resolve.specs.declared.answer.Answer.{Answer}
+use Rattle.gql_schema.specs.Object.{fields_of}
+use Rattle.gql_schema.specs.declared.field.Field.{Field as SchemaField}
+use Rattle.gql_engine.specs.Apart.{asked_of, asked_at, asked, field_here, name_of, fill, place_of, placed, join, unite_all, respond}
+use Rattle.gql_engine.specs.Completion.{shape_of}
+use Rattle.gql_engine.specs.Path.{key_text}
+use Rattle.gql_engine.specs.declared.place.Tree.{the_lemmas as tree_lemmas}
+use Rattle.gql_engine.specs.declared.scene.Scene.{Scene}
+use Rattle.gql_cli.specs.Answer.{Chooses}
+use Rattle.gql_cli.specs.BenchAnswers.{bench_answers, bench_object, IsSuited, AnswersBy}
+use Rattle.gql_cli.specs.Query.{HasOnlyName, IsBare, IsBareQuery, AreDistinct, bare, selections_of}
+use Rattle.gql_cli.specs.Shown.{data_of, shown_value}
+use Rattle.gql_cli.specs.Table.{rule_answer}
+use Rattle.gql_cli.specs.Tables.{rule_of}
+use Rattle.gql_cli.specs.declared.tables.Bench.{Bench}
+use Rattle.gql_cli.proofs.FieldsLemmas.{IsKnown, known-answer}
+use Rattle.gql_cli.proofs.ResponseLemmas.{value_of, constant-shows}
+use Rattle.gql_cli.proofs.UniteLemmas.{unite-distinct, distinct-by-names, bare-names}
+
+pub key-is : (field : Positioned Field) (n : List ℕ) → HasOnlyName field.node n → key_text field ≡ n
+key-is field n only = ap (λ alias. (alias_or alias (out-Field field.node).name).node) only.alias ∙ only.named
+
+-- the occurrences that stand in selections
+abbrev pub occurrences : List (Positioned Selection) → List (Positioned Field)
+occurrences selections = flat_map (λ selection. field_here (out-Selection selection.node)) selections
+
+-- what a selection of a declared field by its name adds
+module _ (scene : Scene ℤ) where
+  asked-one : (field : Positioned Field) (n : List ℕ) (declared : SchemaField) → HasOnlyName field.node n → under n (fields_of scene.object.now) ≡ Some declared
+      → asked_at scene field (under (name_of field) (fields_of scene.object.now)) ≡ asked_of scene field declared ∷ []
+  asked-one field n declared only stands = ap (asked_at scene field) (ap (λ m. under m (fields_of scene.object.now)) only.named ∙ stands)
+
+  pub asked-more : (s : Positioned Selection) (ss : List (Positioned Selection)) (n : List ℕ) (declared : SchemaField) (b : IsBare s n)
+      → under n (fields_of scene.object.now) ≡ Some declared
+      → asked scene (occurrences (s ∷ ss)) ≡ asked_of scene b.field declared ∷ asked scene (occurrences ss)
+  asked-more s ss n declared b stands =
+      ap (λ fs. asked scene (fs ++ occurrences ss)) (ap field_here b.is)
+      ∙ ap (λ ts. ts ++ asked scene (occurrences ss)) (asked-one b.field n declared b.only stands)
+
+module _ (bench : Bench) (suited : IsSuited bench) (scene : Scene ℤ) (is : bench_object bench ≡ Some scene.object.now) (answer : Call ℤ → Answer ℤ)
+    (by : AnswersBy bench.rules answer) where
+  -- the value that stands at a known field's place
+  place-value : (field : Positioned Field) (n : List ℕ) (v : Value) (known : IsKnown bench scene.object.now n v)
+      → value_of (place_of (asked_of scene field known.declared) (answer (asked_of scene field known.declared).call)).tree ≡ v
+  place-value field n v known =
+      let call = (asked_of scene field known.declared).call in
+      let answered : answer call ≡ rule_answer (Some (rule_of known.entry.field)) = by.ruled call ∙ ap rule_answer known.entry.ruled in
+      (λ i. value_of (fill (shape_of (known.entry.typed i) (answered i).result)))
+      ∙ constant-shows known.entry.field.type_name known.entry.field.constant known.entry.taken ∙ known.constant
+
+  keys-are : (selections : List (Positioned Selection)) (names : List (List ℕ)) (chosen : List (List ℕ × Value)) → AllZip IsBare selections names
+      → Chooses (bench_answers bench) names chosen → names_of (placed answer (asked scene (occurrences selections))) ≡ names
+  keys-are [] [] [] bare chooses = refl
+  keys-are [] (n ∷ ns) chosen bare chooses = absurd bare
+  keys-are (s ∷ ss) [] chosen bare chooses = absurd bare
+  keys-are (s ∷ ss) (n ∷ ns) [] bare chooses = absurd chooses
+  keys-are [] [] (c ∷ cs) bare chooses = absurd chooses
+  keys-are (s ∷ ss) (n ∷ ns) (c ∷ cs) (b, bare) ((named, found), chooses) =
+      let known = known-answer bench suited scene.object.now n c.1 is found in
+      ap (λ ts. names_of (placed answer ts)) (asked-more scene s ss n known.declared b known.stands)
+      ∙ (λ i. key-is b.field n b.only i ∷ keys-are ss ns cs bare chooses i)
+
+  values-are : (selections : List (Positioned Selection)) (names : List (List ℕ)) (chosen : List (List ℕ × Value)) → AllZip IsBare selections names
+      → Chooses (bench_answers bench) names chosen → map shown_value (placed answer (asked scene (occurrences selections))) ≡ chosen
+  values-are [] [] [] bare chooses = refl
+  values-are [] (n ∷ ns) chosen bare chooses = absurd bare
+  values-are (s ∷ ss) [] chosen bare chooses = absurd bare
+  values-are (s ∷ ss) (n ∷ ns) [] bare chooses = absurd chooses
+  values-are [] [] (c ∷ cs) bare chooses = absurd chooses
+  values-are (s ∷ ss) (n ∷ ns) (c ∷ cs) (b, bare) ((named, found), chooses) =
+      let known = known-answer bench suited scene.object.now n c.1 is found in
+      ap (λ ts. map shown_value (placed answer ts)) (asked-more scene s ss n known.declared b known.stands)
+      ∙ (λ i. (key-is b.field n b.only i, place-value b.field n c.1 known i) ∷ values-are ss ns cs bare chooses i)
+      ∙ ap (λ m. (m, c.1) ∷ cs) (sym named)
+
+  -- the data of the response
+  pub response-data : (operation : OperationDefinition) → scene.env.now.operation.node ≡ operation → (names : List (List ℕ)) (chosen : List (List ℕ × Value))
+      → IsBareQuery operation names → AreDistinct names → Chooses (bench_answers bench) names chosen → data_of (respond scene answer) ≡ chosen
+  response-data operation same names chosen asks distinct chooses =
+      let fields : AllZip IsBare (selections_of scene.env.now.operation.node.selection_set) names
+      = subst (λ (o : OperationDefinition). AllZip IsBare (selections_of o.selection_set) names) (sym same) asks.fields in
+      let selections = selections_of scene.env.now.operation.node.selection_set in
+      let members = placed answer (asked scene (occurrences selections)) in
+      let keys = keys-are selections names chosen fields chooses in
+      let apart : HasDistinctNames members = distinct-by-names (map bare names) members (bare-names names ∙ sym keys) distinct in
+      let united : unite_all join [] members ≡ members = unite-distinct join members [] apart in
+      let shown : data_of (respond scene answer) ≡ map shown_value (unite_all join [] members) = search (rules, tree_lemmas) in
+      shown ∙ ap (map shown_value) united ∙ values-are selections names chosen fields chooses

@@ -1,0 +1,52 @@
+-- A name under which something is answered is that of a task.
+use Rattle.std.proofs.Common.{◌≡◌, ℕ, List, [], ◌∷◌, Option, Some, None, option_map, option_and_then, slice_get, refl}
+use Rattle.gql_base.specs.Pairs.{under}
+use Rattle.gql_base.specs.declared.value.Value.{Value}
+use Rattle.gql_doc.specs.declared.document.ExecutableDocument.{ExecutableDocument}
+use Rattle.gql_resolve.specs.declared.record_entry.RecordEntry.{RecordEntry}
+use Rattle.gql_schema.specs.Field.{resolver_of}
+use Rattle.gql_schema.specs.Object.{fields_of}
+use Rattle.gql_schema.specs.Table.{types_of}
+use Rattle.gql_schema.specs.declared.field.Field.{Field}
+use Rattle.gql_schema.specs.declared.schema_type.SchemaType.{SchemaType}
+use Rattle.gql_cli.specs.Answer.{Chooses, HasChosen}
+use Rattle.gql_cli.specs.BenchAnswers.{bench_answers}
+use Rattle.gql_cli.specs.BenchRecord.{BenchTask, AreAsked, HasTold, HasToldFor, bench_task, task_with}
+use Rattle.gql_cli.specs.Query.{Selects}
+use Rattle.gql_cli.specs.Tables.{constant_of, field_constant, object_in}
+use Rattle.gql_cli.specs.declared.rule.Rule.{Rule}
+use Rattle.gql_cli.specs.declared.tables.Bench.{Bench}
+
+field-task : (rules : List Rule) (name : List ℕ) (value : Value) (found : Option Field)
+    → option_and_then (λ field. option_map constant_of (slice_get rules (resolver_of field))) found ≡ Some value
+    → (task : BenchTask) × (option_map (task_with rules name) found ≡ Some task)
+field-task rules name value None answered = cc
+field-task rules name value (Some field) answered = (task_with rules name field, refl)
+
+type-task : (rules : List Rule) (name : List ℕ) (value : Value) (found : Option SchemaType)
+    → option_and_then (λ ty. field_constant (object_in ty) rules name) found ≡ Some value
+    → (task : BenchTask)
+    × (option_map (task_with rules name) (option_and_then (λ object. under name (fields_of object)) (option_map object_in found)) ≡ Some task)
+type-task rules name value None answered = cc
+type-task rules name value (Some ty) answered = field-task rules name value (under name (fields_of (object_in ty))) answered
+
+-- names that all have an answer have tasks
+pub chosen-tasks : (bench : Bench) (names : List (List ℕ)) (chosen : List (List ℕ × Value)) → Chooses (bench_answers bench) names chosen
+    → (tasks : List BenchTask) × AreAsked (bench_task bench) names tasks
+chosen-tasks bench [] [] h = ([], tt)
+chosen-tasks bench [] (p ∷ ps) h = absurd h
+chosen-tasks bench (n ∷ ns) [] h = absurd h
+chosen-tasks bench (n ∷ ns) (p ∷ ps) ((named, found), h) =
+    let (task, is) = type-task bench.rules n p.1 (under bench.query (types_of bench.types)) found in
+    let (tasks, asked) = chosen-tasks bench ns ps h in
+    (task ∷ tasks, (is, asked))
+
+-- a document whose names have answers has the record of their tasks
+pub document-record : (bench : Bench) (document : ExecutableDocument) (told : Option (List RecordEntry)) (names : List (List ℕ)) → Selects document names
+    → HasChosen (bench_answers bench) names
+    → ((tasks : List BenchTask) → AreAsked (bench_task bench) names tasks → HasTold told bench.turns tasks)
+    → HasToldFor (bench_task bench) bench.turns document told
+document-record bench document told names selects has ran =
+    let (tasks, asked) = chosen-tasks bench names has.chosen has.chooses in
+    let (entries, tells, is) = ran tasks asked in
+    (entries, tells, record { names = names; selects = selects; tasks = tasks; asked = asked; is = is })
