@@ -8,6 +8,8 @@ mod cursor;
 mod definition_building;
 mod definitions;
 mod document;
+#[cfg(test)]
+mod example_tests;
 mod fault;
 mod lists;
 mod operation_rule;

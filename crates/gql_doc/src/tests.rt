@@ -157,7 +157,7 @@ fn a_type_is_read(rt: HostRuntime) -> Result<(), Fail> {
 }
 
 /// What a text gives as a document: the document in short, or the fault's kind and place.
-fn query_answer(alloc: Global, text: &str, places: bool) -> Made<String> {
+pub(crate) fn query_answer(alloc: Global, text: &str, places: bool) -> Made<String> {
     match parse_query(alloc, text)? {
         Ok(document) => summary(alloc, &document, places),
         Err(fault) => fault_text(alloc, &fault),
