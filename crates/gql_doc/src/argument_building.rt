@@ -5,6 +5,7 @@ ghost use Rattle.gql_doc.specs.Building.{argument_of, directive_of};
 ghost use Rattle.gql_doc.specs.Builds.{Builds};
 
 use crate::document::{Argument, Directive, Positioned};
+use crate::lists::room_for;
 use crate::tree::{ArgumentTree, DirectiveTree};
 use crate::trouble::BuildError;
 use crate::value_building::build_value;
@@ -18,7 +19,7 @@ pub fn build_arguments(
 ) -> Result<Items<Argument>, BuildError>
     ensures { Builds result (doubled_in_arguments trees) (map argument_of trees) }
 {
-    let mut arguments = Items::new(alloc);
+    let mut arguments = room_for(alloc, trees.len())?;
     for tree in trees.into_vec() {
         arguments.push(build_argument(alloc, tree)?)?;
     }
@@ -47,7 +48,7 @@ pub fn build_directives(
 ) -> Result<Items<Positioned<Directive>>, BuildError>
     ensures { Builds result (doubled_in_directives trees) (map directive_of trees) }
 {
-    let mut directives = Items::new(alloc);
+    let mut directives = room_for(alloc, trees.len())?;
     for tree in trees.into_vec() {
         directives.push(build_directive(alloc, tree)?)?;
     }

@@ -5,6 +5,7 @@ ghost use Rattle.gql_doc.specs.Readers.{Leaves, some};
 ghost use Rattle.gql_doc.specs.Reading.{other_than, argument, arguments as arguments_at, directive, directives as directives_at};
 
 use crate::cursor::Cursor;
+use crate::lists::list_of;
 use crate::tree::{ArgumentTree, DirectiveTree, Variables};
 use crate::trouble::ReadError;
 use crate::values::read_placed_value;
@@ -38,8 +39,8 @@ fn read_some_arguments(
 ) -> Result<Items<ArgumentTree>, ReadError>
     ensures { Leaves result cursor.new (some (other_than CloseParen) (argument variables) cursor.old) }
 {
-    let mut arguments = Items::new(alloc);
-    arguments.push(read_argument(alloc, cursor, variables)?)?;
+    let first = read_argument(alloc, cursor, variables)?;
+    let mut arguments = list_of(alloc, first)?;
     'more: while cursor.is_before(Punctuator::CloseParen) {
         arguments.push(read_argument(alloc, cursor, variables)?)?;
     }

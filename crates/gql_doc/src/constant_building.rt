@@ -5,6 +5,7 @@ ghost use Rattle.gql_doc.specs.NameRules.{first_in, doubled_in_value};
 ghost use Rattle.gql_doc.specs.Building.{constant_of};
 ghost use Rattle.gql_doc.specs.Builds.{Builds, Adds, constant_member_of, doubled_in_member, doubled_among_members};
 
+use crate::lists::room_for;
 use crate::tree::{MemberTree, ValueTree};
 use crate::trouble::BuildError;
 use crate::value_building::refuse_taken;
@@ -34,7 +35,7 @@ pub fn build_constant(alloc: Global, tree: ValueTree) -> Result<Value, BuildErro
 fn build_constants(alloc: Global, trees: Items<ValueTree>) -> Result<Items<Value>, BuildError>
     ensures { Builds result (first_in doubled_in_value trees) (map constant_of trees) }
 {
-    let mut values = Items::new(alloc);
+    let mut values = room_for(alloc, trees.len())?;
     for tree in trees.into_vec() {
         values.push(build_constant(alloc, tree)?)?;
     }

@@ -5,6 +5,7 @@ ghost use Rattle.gql_doc.specs.Reading.{is_name, before_end, take_name, set as s
 use crate::arguments::read_directives;
 use crate::cursor::Cursor;
 use crate::document::{OperationType, Positioned};
+use crate::lists::list_of;
 use crate::selections::{read_condition, read_set};
 use crate::tree::{DefinitionTree, FragmentTree, OperationTree, SetTree, Variables};
 use crate::trouble::ReadError;
@@ -39,8 +40,8 @@ pub fn read_type_text(alloc: Global, cursor: &mut Cursor) -> Result<TypeRef, Rea
 fn read_definitions(alloc: Global, cursor: &mut Cursor) -> Result<Items<DefinitionTree>, ReadError>
     ensures { Leaves result cursor.new (some before_end definition cursor.old) }
 {
-    let mut definitions = Items::new(alloc);
-    definitions.push(read_definition(alloc, cursor)?)?;
+    let first = read_definition(alloc, cursor)?;
+    let mut definitions = list_of(alloc, first)?;
     'more: while cursor.is_before_end() {
         definitions.push(read_definition(alloc, cursor)?)?;
     }

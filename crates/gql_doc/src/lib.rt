@@ -9,6 +9,7 @@ mod definition_building;
 mod definitions;
 mod document;
 mod fault;
+mod lists;
 mod operation_rule;
 mod parse;
 mod selection_building;

@@ -9,6 +9,7 @@ ghost use Rattle.std.specs.Prelude.{codes};
 use crate::arguments::{read_arguments, read_directives};
 use crate::cursor::Cursor;
 use crate::document::Positioned;
+use crate::lists::list_of;
 use crate::tree::{SelectionTree, SetTree, Variables};
 use crate::trouble::ReadError;
 use gql_base::{Items, Name, Pos};
@@ -48,8 +49,8 @@ fn read_selections(
 ) -> Result<Items<SelectionTree>, ReadError>
     ensures { Leaves result cursor.new (some (other_than CloseBrace) (selection_at levels) cursor.old) }
 {
-    let mut selections = Items::new(alloc);
-    selections.push(read_selection(alloc, cursor, levels)?)?;
+    let first = read_selection(alloc, cursor, levels)?;
+    let mut selections = list_of(alloc, first)?;
     'more: while cursor.is_before(Punctuator::CloseBrace) {
         selections.push(read_selection(alloc, cursor, levels)?)?;
     }

@@ -6,6 +6,7 @@ ghost use Rattle.gql_doc.specs.Building.{value_of};
 ghost use Rattle.gql_doc.specs.Builds.{Builds, Refuses, Adds, member_of, doubled_in_member, doubled_among_members};
 
 use crate::document::DocValue;
+use crate::lists::room_for;
 use crate::tree::{MemberTree, ValueTree};
 use crate::trouble::BuildError;
 use gql_base::{Items, Name, Pairs, Pos};
@@ -34,7 +35,7 @@ pub fn build_value(alloc: Global, tree: ValueTree) -> Result<DocValue, BuildErro
 fn build_values(alloc: Global, trees: Items<ValueTree>) -> Result<Items<DocValue>, BuildError>
     ensures { Builds result (first_in doubled_in_value trees) (map value_of trees) }
 {
-    let mut values = Items::new(alloc);
+    let mut values = room_for(alloc, trees.len())?;
     for tree in trees.into_vec() {
         values.push(build_value(alloc, tree)?)?;
     }

@@ -6,6 +6,7 @@ ghost use Rattle.gql_doc.specs.Reading.{other_than, default as default_at, varia
 use crate::arguments::read_directives;
 use crate::cursor::Cursor;
 use crate::document::Positioned;
+use crate::lists::list_of;
 use crate::tree::{ValueTree, VariableTree, Variables};
 use crate::trouble::ReadError;
 use crate::types::read_placed_type;
@@ -32,8 +33,8 @@ pub fn read_variables(alloc: Global, cursor: &mut Cursor) -> Result<Items<Variab
 fn read_some_variables(alloc: Global, cursor: &mut Cursor) -> Result<Items<VariableTree>, ReadError>
     ensures { Leaves result cursor.new (some (other_than CloseParen) variable cursor.old) }
 {
-    let mut variables = Items::new(alloc);
-    variables.push(read_variable(alloc, cursor)?)?;
+    let first = read_variable(alloc, cursor)?;
+    let mut variables = list_of(alloc, first)?;
     'more: while cursor.is_before(Punctuator::CloseParen) {
         variables.push(read_variable(alloc, cursor)?)?;
     }

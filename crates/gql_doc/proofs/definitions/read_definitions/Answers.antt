@@ -9,19 +9,19 @@ use Rattle.gql_doc.proofs.LoopLaws.{loop_first, loop_goes, loop_stops, loop_ends
 use Rattle.gql_doc.proofs.definitions.read_definitions.Goals as goal
 
 pub more-init : goal.more-init
-more-init c = rw (c.in_ok-push.ensures.ok, c.new-definitions.ensures) (loop_first before_end definition c.in_ok-read_definition.field-0 c.args.cursor.now _ c.in_ok-read_definition.ensures)
+more-init c = rw c.in_ok-definitions.ensures (loop_first before_end definition c.in_ok-first.first c.args.cursor.now _ c.in_ok-first.ensures)
 
-pub returns-in_err-read_definition-2 : goal.returns-in_err-read_definition-2
-returns-in_err-read_definition-2 c =
-    let p = err_from_is_err_and c.from_residual-in_err-read_definition-2.result c.from_residual-in_err-read_definition-2.ensures.1 in
-    rw (p.1, p.2) (loop_stops before_end definition IsDefinition definition_reads.sound definition_starts c.more.definitions _ c.more.cursor _ _ (sym c.is_before_end.ensures ∙ c.more-test.true) c.in_err-read_definition-2.ensures c.more.invariant)
+pub returns-in_err-read_definition : goal.returns-in_err-read_definition
+returns-in_err-read_definition c =
+    let p = err_from_is_err_and c.from_residual-in_err-read_definition.result c.from_residual-in_err-read_definition.ensures.1 in
+    rw (p.1, p.2) (loop_stops before_end definition IsDefinition definition_reads.sound definition_starts c.more.definitions _ c.more.cursor _ _ (sym c.is_before_end.ensures ∙ c.more-test.true) c.in_err-read_definition.ensures c.more.invariant)
 
 pub more-smaller : goal.more-smaller
-more-smaller c = loop_shrinks before_end definition IsDefinition definition_reads.sound definition_starts _ _ _ c.in_ok-read_definition-2.ensures
+more-smaller c = loop_shrinks before_end definition IsDefinition definition_reads.sound definition_starts _ _ _ c.in_ok-read_definition.ensures
 
 pub more-preserved : goal.more-preserved
 more-preserved c =
-    rw c.in_ok-push-2.ensures.ok (loop_goes before_end definition IsDefinition definition_reads.sound definition_starts c.more.definitions _ c.more.cursor _ _ (sym c.is_before_end.ensures ∙ c.more-test.true) c.in_ok-read_definition-2.ensures c.more.invariant)
+    rw c.in_ok-push.ensures.ok (loop_goes before_end definition IsDefinition definition_reads.sound definition_starts c.more.definitions _ c.more.cursor _ _ (sym c.is_before_end.ensures ∙ c.more-test.true) c.in_ok-read_definition.ensures c.more.invariant)
 
 pub returns : goal.returns
 returns c = loop_ends before_end definition IsDefinition definition_reads.sound definition_starts _ _ _ (sym c.is_before_end.ensures ∙ c.more-test.false) c.more.invariant

@@ -9,19 +9,19 @@ use Rattle.gql_doc.proofs.LoopLaws.{loop_first, loop_goes, loop_stops, loop_ends
 use Rattle.gql_doc.proofs.variables.read_some_variables.Goals as goal
 
 pub more-init : goal.more-init
-more-init c = rw (c.in_ok-push.ensures.ok, c.new-variables.ensures) (loop_first (other_than CloseParen) variable c.in_ok-read_variable.field-0 c.args.cursor.now _ c.in_ok-read_variable.ensures)
+more-init c = rw c.in_ok-variables.ensures (loop_first (other_than CloseParen) variable c.in_ok-first.first c.args.cursor.now _ c.in_ok-first.ensures)
 
-pub returns-in_err-read_variable-2 : goal.returns-in_err-read_variable-2
-returns-in_err-read_variable-2 c =
-    let p = err_from_is_err_and c.from_residual-in_err-read_variable-2.result c.from_residual-in_err-read_variable-2.ensures.1 in
-    rw (p.1, p.2) (loop_stops (other_than CloseParen) variable IsVariable variable_reads.sound variable_starts c.more.variables _ c.more.cursor _ _ (sym c.is_before.ensures ∙ c.more-test.true) c.in_err-read_variable-2.ensures c.more.invariant)
+pub returns-in_err-read_variable : goal.returns-in_err-read_variable
+returns-in_err-read_variable c =
+    let p = err_from_is_err_and c.from_residual-in_err-read_variable.result c.from_residual-in_err-read_variable.ensures.1 in
+    rw (p.1, p.2) (loop_stops (other_than CloseParen) variable IsVariable variable_reads.sound variable_starts c.more.variables _ c.more.cursor _ _ (sym c.is_before.ensures ∙ c.more-test.true) c.in_err-read_variable.ensures c.more.invariant)
 
 pub more-smaller : goal.more-smaller
-more-smaller c = loop_shrinks (other_than CloseParen) variable IsVariable variable_reads.sound variable_starts _ _ _ c.in_ok-read_variable-2.ensures
+more-smaller c = loop_shrinks (other_than CloseParen) variable IsVariable variable_reads.sound variable_starts _ _ _ c.in_ok-read_variable.ensures
 
 pub more-preserved : goal.more-preserved
 more-preserved c =
-    rw c.in_ok-push-2.ensures.ok (loop_goes (other_than CloseParen) variable IsVariable variable_reads.sound variable_starts c.more.variables _ c.more.cursor _ _ (sym c.is_before.ensures ∙ c.more-test.true) c.in_ok-read_variable-2.ensures c.more.invariant)
+    rw c.in_ok-push.ensures.ok (loop_goes (other_than CloseParen) variable IsVariable variable_reads.sound variable_starts c.more.variables _ c.more.cursor _ _ (sym c.is_before.ensures ∙ c.more-test.true) c.in_ok-read_variable.ensures c.more.invariant)
 
 pub returns : goal.returns
 returns c = loop_ends (other_than CloseParen) variable IsVariable variable_reads.sound variable_starts _ _ _ (sym c.is_before.ensures ∙ c.more-test.false) c.more.invariant
