@@ -1,8 +1,15 @@
 -- Places behind one piece of text after another.
-use Rattle.std.proofs.Common.{◌≡◌, ℕ, ◌+◌, ◌<◌, List, [], ◌∷◌, ◌++◌, refl, sym, ap, ◌∙◌, append_assoc, take, drop, length, get_or}
+use Rattle.std.proofs.Common.{◌≡◌, ℕ, ◌+◌, ◌<◌, true, false, if◌then◌else◌, ◌⊎◌, List, [], ◌∷◌, ◌++◌, refl, sym, ap, subst, ◌∙◌, inl, inr, arith, append_assoc, take, drop, length, get_or}
+use Rattle.std.proofs.lemmas.Bool.Decides.{nat_tests}
 use Rattle.gql_base.specs.declared.pos.Pos.{Pos}
-use Rattle.gql_tokens.specs.Place.{next_place, place_after}
-use Rattle.gql_tokens.proofs.Lists.{take_at_item, drop_at_item}
+use Rattle.gql_tokens.specs.declared.token.Punctuator.{Punctuator}
+use Rattle.gql_tokens.specs.declared.token.Punctuator.TheVariants as punctuators
+use Rattle.gql_tokens.specs.declared.token.Lexeme.{Lexeme}
+use Rattle.gql_tokens.specs.declared.token.Lexeme.TheVariants as lexemes
+use Rattle.gql_tokens.specs.Characters.{is_line_character, is_name_part}
+use Rattle.gql_tokens.specs.Place.{ends_line, next_place, place_after}
+use Rattle.gql_tokens.specs.Token.{characters_of, Spells}
+use Rattle.gql_tokens.proofs.Lists.{Each, each_same, each_weaker, take_at_item, drop_at_item}
 
 pub place_after-append : (place : Pos) (a b rest : List ℕ) → place_after place (a ++ b) rest ≡ place_after (place_after place a (b ++ rest)) b rest
 place_after-append place [] b rest = refl
@@ -17,3 +24,46 @@ place_after_more place text i c h e =
     let next = drop (i + 1) text in
     ap (λ l. place_after place l next) (take_at_item text i c h e) ∙ place_after-append place (take i text) (c ∷ []) next
     ∙ ap (λ l. next_place (place_after place (take i text) l) c next) (sym (drop_at_item text i c h e))
+
+-- the place at a column of the same line
+abbrev pub at_column : Pos → ℕ → Pos
+at_column place column = record { line = place.line; column = column }
+
+ends_no_line : (c : ℕ) (rest : List ℕ) → is_line_character c ≡ true → ends_line c rest ≡ false
+ends_no_line c rest h = grind (arith, nat_tests)
+
+-- the place behind characters of which none ends a line
+place_after_plain : (place : Pos) (cs rest : List ℕ) → Each is_line_character cs → place_after place cs rest ≡ at_column place (place.column + length cs)
+place_after_plain place [] rest h = ap (at_column place) (omega arith)
+place_after_plain place (c ∷ cs) rest h =
+    let next = at_column place (place.column + 1) in
+    ap (λ ends. place_after (if ends then record { line = place.line + 1; column = 1 } else next) cs rest) (ends_no_line c (cs ++ rest) h.0)
+    ∙ place_after_plain next cs rest h.1 ∙ ap (at_column place) (omega arith)
+
+name_plain : (c : ℕ) → is_name_part c ≡ true → is_line_character c ≡ true
+name_plain c h = grind (arith, nat_tests)
+
+punctuator_plain : (p : Punctuator) → Each is_line_character (characters_of p)
+punctuator_plain punctuators.Bang = (refl, tt)
+punctuator_plain punctuators.Dollar = (refl, tt)
+punctuator_plain punctuators.Ampersand = (refl, tt)
+punctuator_plain punctuators.OpenParen = (refl, tt)
+punctuator_plain punctuators.CloseParen = (refl, tt)
+punctuator_plain punctuators.Spread = (refl, (refl, (refl, tt)))
+punctuator_plain punctuators.Colon = (refl, tt)
+punctuator_plain punctuators.Equals = (refl, tt)
+punctuator_plain punctuators.At = (refl, tt)
+punctuator_plain punctuators.OpenBracket = (refl, tt)
+punctuator_plain punctuators.CloseBracket = (refl, tt)
+punctuator_plain punctuators.OpenBrace = (refl, tt)
+punctuator_plain punctuators.Pipe = (refl, tt)
+punctuator_plain punctuators.CloseBrace = (refl, tt)
+
+-- the place behind a punctuator or a name
+pub place_after_unbroken : (place : Pos) (l : Lexeme) (cs rest : List ℕ) → Spells l cs
+    → ((p : Punctuator) × (l ≡ lexemes.Punctuator p)) ⊎ ((name : List ℕ) × (l ≡ lexemes.Name name))
+    → place_after place cs rest ≡ at_column place (place.column + length cs)
+place_after_unbroken place l cs rest h (inl e) =
+    place_after_plain place cs rest (each_same is_line_character (sym (subst (λ k. Spells k cs) e.1 h)) (punctuator_plain e.0))
+place_after_unbroken place l cs rest h (inr e) =
+    place_after_plain place cs rest (each_weaker is_name_part is_line_character cs name_plain (subst (λ k. Spells k cs) e.1 h).0.1)

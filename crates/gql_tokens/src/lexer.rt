@@ -6,9 +6,9 @@ ghost use Rattle.gql_tokens.specs.declared.token.Punctuator.{Punctuator as Mark}
 ghost use Rattle.gql_tokens.specs.declared.token.Token.{Token as OneToken};
 ghost use Rattle.gql_tokens.specs.Characters.{quote, begins, is_name_start};
 ghost use Rattle.gql_tokens.specs.Block.{three_quotes};
-ghost use Rattle.gql_tokens.specs.Token.{characters_of, is_final};
+ghost use Rattle.gql_tokens.specs.Token.{characters_of, Spells, is_final};
 ghost use Rattle.gql_tokens.specs.Lexer.{Lexes, EndFinally};
-ghost use Rattle.gql_tokens.specs.Place.{text_start};
+ghost use Rattle.gql_tokens.specs.Place.{place_after, text_start};
 ghost use Rattle.gql_tokens.specs.Parts.{IsUnended, NoBlockEnds, begins_number, StandsAt, IsStep};
 
 use crate::block::block_at;
@@ -225,6 +225,25 @@ fn is_final(lexeme: &Lexeme) -> bool
     )
 }
 
+/// The place behind a token of so many characters. No line ends in a punctuator or a name.
+fn place_behind(pos: Pos, lexeme: &Lexeme, text: &[char], count: usize) -> Pos
+    requires within { count ≤ length text.now }
+    requires spelled { Spells lexeme.now (take count text.now) }
+    requires line { pos.line + count < 2 ^ 64 }
+    requires column { pos.column + count < 2 ^ 64 }
+    ensures exact { result ≡ place_after pos (take count text.now) (drop count text.now) }
+    ensures line { result.line ≤ pos.line + count }
+    ensures column { result.column ≤ pos.column + count }
+{
+    match lexeme {
+        Lexeme::Punctuator(_) | Lexeme::Name(_) => Pos {
+            line: pos.line,
+            column: pos.column + count,
+        },
+        _ => place_after(pos, text, count),
+    }
+}
+
 /// A token, how far it and what is ignored before it reach, and the place behind it.
 #[derive(Drop)]
 struct Step {
@@ -252,7 +271,7 @@ fn step_at(alloc: Global, place: Pos, text: &[char], blocks_end: &mut bool) -> M
             place: pos,
         });
     }
-    let place = place_after(pos, behind, length);
+    let place = place_behind(pos, &lexeme, behind, length);
     Ok(Step {
         token: Token { lexeme, pos },
         length: gap + length,

@@ -11,7 +11,7 @@ returns-clause-stands c =
     let reading = c.in_ok-lexeme.field-0 in
     let more = sym c.if-is_final.ensures in
     step_is c.args.place c.args.text.now reading.lexeme c.gap_length-gap.result reading.length c.place_after-pos.result c.gap_length-gap.ensures.within
-    c.gap_length-gap.ensures.gap c.place_after-pos.ensures.exact c.in_ok-lexeme.ensures.stands more c.place_after-place.result c.place_after-place.ensures.exact
+    c.gap_length-gap.ensures.gap c.place_after-pos.ensures.exact c.in_ok-lexeme.ensures.stands more c.place_behind-place.result c.place_behind-place.ensures.exact
     (omega arith) (omega arith)
 
 pub returns-clause-known : goal.returns-clause-known
