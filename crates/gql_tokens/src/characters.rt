@@ -9,7 +9,18 @@ use std::alloc::Global;
 pub fn characters_of(alloc: Global, text: &str) -> Made<Vec<char>>
     ensures { IfOk result (λ made. made.items ≡ chars text.now) }
 {
-    text.chars().collect(alloc)
+    if text.is_ascii() {
+        characters_of_bytes(alloc, text.as_bytes())
+    } else {
+        text.chars().collect(alloc)
+    }
+}
+
+/// The characters of these numbers.
+fn characters_of_bytes(alloc: Global, bytes: &[u8]) -> Made<Vec<char>>
+    ensures { IfOk result (λ made. made.items ≡ bytes.now) }
+{
+    bytes.iter().map(|byte| char::from(*byte)).collect(alloc)
 }
 
 /// The text of some characters.
