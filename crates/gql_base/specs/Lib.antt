@@ -7,6 +7,6 @@ pub mod Separated
 pub mod TypeRef
 pub mod formers
 pub mod PathSegment
-pub mod Variables
+pub mod Kinds
 pub mod ErrorExtensionValues
 pub mod ErrorJson

@@ -1,7 +1,7 @@
 ghost use Rattle.std.specs.Prelude.{◌≡◌, ◌↔◌, IsTrue, IfOk, []};
 ghost use Rattle.std.specs.Option.{option_copied};
 ghost use Rattle.gql_base.specs.Pairs.{under};
-ghost use Rattle.gql_base.specs.Variables.{members_of_value};
+ghost use Rattle.gql_base.specs.Kinds.{members_of_value};
 
 use crate::copied::Copied;
 use crate::made::Made;
