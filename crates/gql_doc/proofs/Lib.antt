@@ -5,6 +5,7 @@ pub mod CursorLaws
 pub mod Deep
 pub mod DefinitionLaws
 pub mod DepthLaws
+pub mod DepthRows
 pub mod DraftLaws
 pub mod Follows
 pub mod LevelLaws
