@@ -1,7 +1,7 @@
 pub mod PairLemmas
 pub mod SeparatedLemmas
 pub mod JsonLemmas
-pub mod ReadJsonLemmas
 pub mod ErrorJsonLemmas
+pub mod ErrorExtensionsLemmas
 pub mod InOrderLemmas
 pub mod SameLemmas

@@ -1,4 +1,6 @@
 pub mod ReadJson
+pub mod Readings
+pub mod Letters
 pub mod Json
 pub mod Number
 pub mod Pairs
@@ -9,4 +11,5 @@ pub mod formers
 pub mod PathSegment
 pub mod Kinds
 pub mod ErrorExtensionValues
+pub mod ErrorExtensions
 pub mod ErrorJson
