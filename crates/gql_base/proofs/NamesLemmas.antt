@@ -3,15 +3,18 @@ use Rattle.std.proofs.Common.{◌≡◌, ℕ, zero, suc, ◌+◌, ◌<◌, ◌�
 use Rattle.std.specs.Option.{option_map, option_map_or}
 use Rattle.std.specs.Str.{bytes_eq}
 use Rattle.std.specs.String.{string_cmp}
-use Rattle.std.specs.Cmp.Lexicographic.{bytes_decides, nat_list_eq_equiv}
-use Rattle.std.specs.BTreeMap.{BTreeMap, Updates, get_by_text}
+use Rattle.std.specs.Cmp.Lexicographic.{bytes_decides, nat_list_eq_equiv, slice_cmp}
+use Rattle.std.specs.BTreeMap.{BTreeMap, Updates, get_by_text, is_at}
+use Rattle.std.specs.Map.{lookup}
+use Rattle.std.specs.List.{AllZip}
+use Rattle.std.specs.Ordering.{is_eq, nat_cmp}
 use Rattle.std.proofs.lemmas.Map.Text.{btree_map_updates_text}
 use Rattle.std.proofs.lemmas.List.{take_more}
 use Rattle.std.proofs.lemmas.Option.{slice_get_within, slice_get_read, get_or_from_slice_get}
 use Rattle.gql_base.specs.Names.{place_of, AreDistinct}
 use Rattle.gql_base.specs.Places.{HasPlaces}
 
-abbrev next : Option ℕ → Option ℕ
+abbrev pub next : Option ℕ → Option ℕ
 next o = option_map (λ place. suc place) o
 
 within_more : (o : Option ℕ) (n i : ℕ) → ((j : ℕ) → o ≡ Some j → j < n) → next o ≡ Some i → i < suc n
@@ -81,7 +84,7 @@ has_places_pushed m n names name key i named at none has updates cs =
     let told : get_by_text n cs ≡ cond (bytes_eq name cs) (Some i) (get_by_text m cs)
     = btree_map_updates_text (string_bytes key) m n (Some i) updates cs ∙ ap (λ k. cond (bytes_eq k cs) (Some i) (get_by_text m cs)) named in
     let P : Bool → Type 0 = λ b. (b ≡ true → name ≡ cs) → bytes_eq cs name ≡ b
-      → cond b (Some i) (get_by_text m cs) ≡ or_at (place_of cs names) (bytes_eq cs name) (length names) in
+    → cond b (Some i) (get_by_text m cs) ≡ or_at (place_of cs names) (bytes_eq cs name) (length names) in
     told
     ∙ (elim (bytes_eq name cs) as P [
       | true ↦ λ same here. (let gone : place_of cs names ≡ None = ap (λ k. place_of k names) (sym (same refl)) ∙ none in rw (gone, here, at) refl)
@@ -152,3 +155,20 @@ pub distinct_added : {X E : Type 0} (r : Result X E) (name : List ℕ) (old new 
     → OnOk r (new ≡ old ++ name ∷ []) → OnErr r (new ≡ old) → AreDistinct new
 distinct_added (Ok x) name old new distinct none ok err = rw ok (distinct_pushed name old distinct none)
 distinct_added (Err e) name old new distinct none ok err = rw err distinct
+
+abbrev IsCopy : String Global × ℕ → String Global × ℕ → Type 0
+IsCopy p q = (string_bytes q.0 ≡ string_bytes p.0) × (q.1 ≡ p.1)
+
+lookup_copied : (name : List ℕ) (es fs : List (String Global × ℕ)) → AllZip IsCopy es fs
+    → lookup (is_at (λ k. slice_cmp nat_cmp name (string_bytes k))) fs ≡ lookup (is_at (λ k. slice_cmp nat_cmp name (string_bytes k))) es
+lookup_copied name [] [] same = refl
+lookup_copied name [] (f ∷ fs) same = absurd same
+lookup_copied name (e ∷ es) [] same = absurd same
+lookup_copied name (e ∷ es) (f ∷ fs) (here, rest) =
+    λ i. cond (is_eq (slice_cmp nat_cmp name (here.0 i))) (Some (here.1 i)) (lookup_copied name es fs rest i)
+
+-- a copy of a tree of places has the same places
+pub has_places_copied : (m n : BTreeMap (String Global) ℕ) (names others : List (List ℕ)) → AllZip IsCopy m.entries n.entries → others ≡ names
+    → HasPlaces m names → HasPlaces n others
+has_places_copied m n names others copied same has name =
+    lookup_copied name m.entries n.entries copied ∙ has name ∙ ap (place_of name) (sym same)

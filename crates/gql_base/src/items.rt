@@ -32,6 +32,14 @@ impl<T> Items<T> {
         }
     }
 
+    /// The empty list, with room for some items.
+    pub fn with_capacity(alloc: Global, room: usize) -> Made<Items<T>>
+        ensures { IfOk result (λ made. made ≡ []) }
+    {
+        let list = Vec::with_capacity(alloc, room)?;
+        Ok(Items { list })
+    }
+
     /// The items of a vector, moved.
     pub fn from_vec(list: Vec<T>) -> Items<T>
         ensures { result ≡ list.items }
@@ -91,6 +99,13 @@ impl<T: Drop> Items<T> {
     {
         self.list.push(item)?;
         Ok(())
+    }
+
+    /// Takes room for more items.
+    pub fn reserve(&mut self, more: usize) -> Made<()>
+        ensures { self.new ≡ self.old }
+    {
+        self.list.reserve(more)
     }
 
     /// Moves all items of `more` to the end.

@@ -2,6 +2,7 @@ ghost use Rattle.std.specs.Prelude.{◌≡◌, [], ◌∷◌, ◌++◌, ◌<◌,
 ghost use Rattle.gql_base.specs.Names.{place_of, AreDistinct};
 ghost use Rattle.gql_base.specs.Places.{HasPlaces};
 
+use crate::copied::{Copied, copies};
 use crate::made::Made;
 use crate::name::Name;
 use std::alloc::Global;
@@ -55,6 +56,26 @@ impl Names {
     {
         Names {
             kept: Kept::Few(Vec::new(alloc)),
+        }
+    }
+
+    /// No name at all, with room for some.
+    pub fn with_capacity(alloc: Global, room: usize) -> Made<Names>
+        ensures { IfOk result (λ made. made ≡ []) }
+    {
+        let list = Vec::with_capacity(alloc, room)?;
+        Ok(Names {
+            kept: Kept::Few(list),
+        })
+    }
+
+    /// Takes room for more names.
+    pub fn reserve(&mut self, more: usize) -> Made<()>
+        ensures { self.new ≡ self.old }
+    {
+        match &mut self.kept {
+            Kept::Few(list) => list.reserve(more),
+            Kept::Many(indexed) => indexed.list.reserve(more),
         }
     }
 
@@ -126,6 +147,40 @@ impl Names {
             }
             Kept::Many(indexed) => indexed.add(name),
         }
+    }
+}
+
+/// A copy keeps the tree of places, and looks no name up.
+impl Copied for Names {
+    fn try_clone(&self, alloc: Global) -> Made<Names> {
+        let list = copies(alloc, self.as_slice())?;
+        match &self.kept {
+            Kept::Few(_) => Ok(Names {
+                kept: Kept::Few(list),
+            }),
+            Kept::Many(indexed) => {
+                let places = indexed.places.clone()?;
+                let indexed = Box::new(alloc, Indexed { list, places })?;
+                Ok(Names {
+                    kept: Kept::Many(indexed),
+                })
+            }
+        }
+    }
+}
+
+/// Equal where the names are, in their order.
+impl PartialEq for Names {
+    ghost use Rattle.std.specs.Prelude.{nat_eq};
+    ghost use Rattle.std.specs.Cmp.{partial_equiv_from_equiv};
+    ghost use Rattle.std.specs.Cmp.Lexicographic.{pointwise, lists_per, nat_list_eq_equiv};
+
+    ghost eq = { pointwise (pointwise nat_eq) };
+
+    ghost laws = { lists_per (partial_equiv_from_equiv nat_list_eq_equiv) };
+
+    fn eq(&self, other: &Names) -> bool {
+        self.as_slice() == other.as_slice()
     }
 }
 

@@ -20,14 +20,16 @@ pub invariant_of-self-in-Few : goal.invariant_of-self-in-Few
 invariant_of-self-in-Few c =
     let whole = subst IsWhole c.in-Few.is c.self.invariant in
     let named : c.in-Few.list.items ≡ c.args.self.now = ap kept_names (sym c.in-Few.is) ∙ c.self.view_is in
-    let none = subst (λ ns. place_of c.args.name ns ≡ None) (sym named) c.requires in
-    (distinct_added c.add-added.result c.args.name c.in-Few.list.items c.add-added.new.self.list.items whole.0 none (search rules) (search rules)
-    , c.add-added.ensures.places)
+    let none = subst (λ ns. place_of c.args.name ns ≡ None) (sym named) c.requires in (
+      distinct_added c.add-added.result c.args.name c.in-Few.list.items c.add-added.new.self.list.items whole.0 none (search rules) (search rules),
+      c.add-added.ensures.places,
+    )
 
 pub invariant_of-self-in-Many : goal.invariant_of-self-in-Many
 invariant_of-self-in-Many c =
     let whole = subst IsWhole c.in-Many.is c.self.invariant in
     let named : c.in-Many.indexed.value.list.items ≡ c.args.self.now = ap kept_names (sym c.in-Many.is) ∙ c.self.view_is in
-    let none = subst (λ ns. place_of c.args.name ns ≡ None) (sym named) c.requires in
-    (distinct_added c.add.result c.args.name c.in-Many.indexed.value.list.items c.add.new.self.list.items whole.0 none (search rules) (search rules)
-    , c.add.ensures.places)
+    let none = subst (λ ns. place_of c.args.name ns ≡ None) (sym named) c.requires in (
+      distinct_added c.add.result c.args.name c.in-Many.indexed.value.list.items c.add.new.self.list.items whole.0 none (search rules) (search rules),
+      c.add.ensures.places,
+    )
