@@ -3,6 +3,7 @@ use Rattle.std.proofs.Common.{◌≡◌, ℕ, zero, suc, ◌+◌, ◌<◌, ◌�
 use Rattle.std.proofs.lemmas.Option.{slice_get_past, slice_get_read, slice_get_within, get_or_from_slice_get}
 use Rattle.std.proofs.lemmas.List.{take_more, map-append}
 use Rattle.std.proofs.lemmas.Bool.Decides.{nat_tests}
+use lib.ListN.{length-map}
 use Rattle.std.specs.List.{zip, position, position_or_len}
 use Rattle.std.specs.Str.{bytes_eq}
 use Rattle.std.specs.Option.{option_map_or, option_map, option_and_then}
@@ -144,6 +145,21 @@ module _ {T : Type 0} (sought : List ℕ) (ks : List (List ℕ)) (vs : List T) (
 
   pub put_found : (i : ℕ) (v : T) → Some i ≡ place_of sought ks → zip ks (slice_set vs i v) ≡ put ps sought v
   put_found i v found = sym (put_zipped sought ks vs v i same (sym found)) ∙ ap (λ qs. put qs sought v) made
+
+-- the same of pairs as their names beside their values
+module _ {T : Type 0} (sought : List ℕ) (ps : List (List ℕ × T)) where
+  same_lengths : length (values_of ps) ≡ length (names_of ps)
+  same_lengths = length-map ps (λ p. p.1) ∙ sym (length-map ps (λ p. p.0))
+
+  pub put_in_place : (i : ℕ) (v : T) → Some i ≡ place_of sought (names_of ps) → zip (names_of ps) (slice_set (values_of ps) i v) ≡ put ps sought v
+  put_in_place i v found = put_found sought (names_of ps) (values_of ps) ps same_lengths (zipped_again ps) i v found
+
+  pub under_in_place : (i : ℕ) (v : T) → Some i ≡ place_of sought (names_of ps) → slice_get (values_of ps) i ≡ Some v → Some v ≡ under sought ps
+  under_in_place i v found at =
+      sym (under_place sought (names_of ps) (values_of ps) ps same_lengths (zipped_again ps) ∙ ap (option_and_then (slice_get (values_of ps))) (sym found) ∙ at)
+
+  pub under_no_place : None ≡ place_of sought (names_of ps) → None ≡ under sought ps
+  under_no_place missing = under_missing sought (names_of ps) (values_of ps) ps same_lengths (zipped_again ps) missing
 
 -- names and values that got one more each
 pub pushed_same : {K T : Type 0} (ks : List K) (vs : List T) (k : K) (v : T) (ks' : List K) (vs' : List T) → length vs ≡ length ks

@@ -1,5 +1,6 @@
-ghost use Rattle.std.specs.Prelude.{◌≡◌, [], ◌∷◌, ◌++◌, ◌<◌, ◌↔◌, IsTrue, length, slice_get, slice_set, IfOk, MatchOption, OnOk, OnErr};
+ghost use Rattle.std.specs.Prelude.{◌≡◌, [], ◌∷◌, ◌++◌, ◌<◌, ◌↔◌, IsTrue, length, slice_get, slice_set, IfOk, MatchOption, OnOk, OnErr, Some};
 ghost use Rattle.std.specs.Option.{option_copied};
+ghost use Rattle.std.specs.Borrow.{Lends, sem};
 
 use crate::made::Made;
 use std::alloc::Global;
@@ -23,6 +24,8 @@ impl<T> Model for Items<T> {
 }
 
 impl<T> Items<T> {
+    ghost use Rattle.gql_base.specs.contracts.items.Items.{the_row};
+
     /// The empty list, which takes no memory.
     pub fn new(alloc: Global) -> Items<T>
         ensures { result ≡ [] }
@@ -81,6 +84,15 @@ impl<T> Items<T> {
         ensures { option_copied result ≡ slice_get self.now place }
     {
         self.list.get(place)
+    }
+
+    /// The item at a place, counted from 0, to be changed.
+    pub fn at_mut(&mut self, place: usize) -> &mut T
+        requires { place < length self.old }
+        ensures* writes_back { sem 𝓛 (Lends (the_row T.row) T.row self.entry result (slice_set self.old place)) }
+        ensures value { slice_get self.old place ≡ Some result.now }
+    {
+        &mut self.list[place]
     }
 
     /// Takes the last item off, or answers none where there is none.

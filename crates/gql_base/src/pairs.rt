@@ -1,6 +1,7 @@
-ghost use Rattle.std.specs.Prelude.{◌≡◌, ◌↔◌, [], ◌∷◌, ◌++◌, ◌<◌, IsTrue, length, slice_get, IfOk, IfSome, OnOk, OnErr, Some, None};
+ghost use Rattle.std.specs.Prelude.{◌≡◌, ◌↔◌, [], ◌∷◌, ◌++◌, ◌<◌, IsTrue, length, slice_get, slice_set, IfOk, IfSome, OnOk, OnErr, Some, None};
+ghost use Rattle.std.specs.Borrow.{Lends, LendsIf, sem};
 ghost use Rattle.std.specs.List.{zip};
-ghost use Rattle.std.specs.Option.{option_copied};
+ghost use Rattle.std.specs.Option.{option_copied, option_copied_mut};
 ghost use Rattle.gql_base.specs.Names.{place_of};
 ghost use Rattle.gql_base.specs.Pairs.{under, put, names_of, values_of, HasDistinctNames};
 
@@ -34,6 +35,8 @@ impl<T> Model for Pairs<T> {
 }
 
 impl<T> Pairs<T> {
+    ghost use Rattle.gql_base.specs.contracts.pairs.Pairs.{the_row};
+
     /// No pair at all, which takes no memory.
     pub fn new(alloc: Global) -> Pairs<T>
         ensures { result ≡ [] }
@@ -85,6 +88,29 @@ impl<T> Pairs<T> {
         ensures { slice_get self.now place ≡ Some (result.0.now, result.1.now) }
     {
         (self.names.at(place), &self.values[place])
+    }
+
+    /// The value at a place, counted from 0, to be changed.
+    pub fn at_mut(&mut self, place: usize) -> &mut T
+        requires { place < length self.old }
+        ensures* writes_back {
+            sem 𝓛 (Lends (the_row T.row) T.row self.entry result
+                (λ value. zip (names_of self.old) (slice_set (values_of self.old) place value)))
+        }
+        ensures value { slice_get (values_of self.old) place ≡ Some result.now }
+    {
+        &mut self.values[place]
+    }
+
+    /// The value under a name, to be changed, or none where the name isn't there.
+    pub fn get_mut(&mut self, name: &str) -> Option<&mut T>
+        ensures* writes_back { sem 𝓛 (LendsIf (the_row T.row) T.row self.entry result (put self.old name.now) self.old) }
+        ensures value { option_copied_mut result ≡ under name.now self.old }
+    {
+        match self.place_of(name) {
+            Some(place) => Some(self.at_mut(place)),
+            None => None,
+        }
     }
 
     /// The names and the values, moved.
