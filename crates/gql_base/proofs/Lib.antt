@@ -1,4 +1,5 @@
 pub mod PairLemmas
+pub mod NamesLemmas
 pub mod SeparatedLemmas
 pub mod JsonLemmas
 pub mod ErrorJsonLemmas

@@ -10,6 +10,9 @@ pub mod TypeRef
 pub mod formers
 pub mod PathSegment
 pub mod Kinds
+pub mod Names
+pub mod NamesKept
+pub mod Places
 pub mod ErrorExtensionValues
 pub mod ErrorExtensions
 pub mod ErrorJson

@@ -44,7 +44,7 @@ fn names(rt: HostRuntime) -> Result<(), Fail> {
     assert_eq!(rt; name.as_str(), "hero");
     assert_eq!(rt; format!(in alloc; "{name}!")?.as_str(), "hero!");
     assert!(rt; copies(alloc, &name)?);
-    assert_eq!(rt; name.into_string().as_str(), "hero");
+    assert_eq!(rt; name.as_str(), "hero");
     Ok(())
 }
 
