@@ -12,7 +12,7 @@ use Rattle.gql_resolve.specs.Call.{Call}
 use Rattle.gql_resolve.specs.declared.answer.Answer.{Answer}
 use Rattle.gql_schema.specs.Object.{fields_of}
 use Rattle.gql_schema.specs.declared.field.Field.{Field as SchemaField}
-use Rattle.gql_engine.specs.Apart.{asked_of, asked_at, asked, field_here, name_of, fill, place_of, placed, join, unite_all, respond}
+use Rattle.gql_engine.specs.Apart.{asked_of, asked_at, asked, field_here, name_of, fill, place_of, placed, join, respond}
 use Rattle.gql_engine.specs.Completion.{shape_of}
 use Rattle.gql_engine.specs.Path.{key_text}
 use Rattle.gql_engine.specs.declared.place.Tree.{the_lemmas as tree_lemmas}

@@ -1,5 +1,5 @@
 //! The program's resolver set: the rules of a bench, over its cells.
-ghost use Rattle.std.specs.Prelude.{◌≡◌, ◌++◌, ◌∷◌, ◌<◌, [], IfOk, vec_len, vec_capacity};
+ghost use Rattle.std.specs.Prelude.{◌≡◌, IfOk};
 ghost use Rattle.gql_resolve.specs.Record.{entry_of};
 
 use crate::rule::{Rule, RuleKind};
@@ -153,7 +153,7 @@ impl ResolverSet for Table {
         let value = self.value_of(alloc, call.resolver)?;
         self.begun.reserve(1)?;
         self.tell(alloc, call, true)?;
-        push_within(&mut self.begun, call.task);
+        self.begun.push_reserved(call.task);
         Ok(FieldFuture::Value(value))
     }
 
@@ -188,16 +188,5 @@ impl ResolverSet for Table {
 
     fn snapshot(&self, alloc: Global) -> Made<Items<i64>> {
         self.cells.try_clone(alloc)
-    }
-}
-
-/// Adds a number for which there is room.
-fn push_within(numbers: &mut Vec<u64>, number: u64)
-    requires { vec_len numbers.old < vec_capacity numbers.old }
-    ensures { numbers.new.items ≡ numbers.old.items ++ number ∷ [] }
-{
-    match numbers.push(number) {
-        Ok(()) => {}
-        Err(_) => unreachable!(),
     }
 }
