@@ -1,3 +1,4 @@
 pub mod Data
+pub mod KeyTree
 pub mod Path
 pub mod Parents
