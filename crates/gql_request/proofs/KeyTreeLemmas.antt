@@ -1,16 +1,17 @@
 -- How a search goes along the ways of a tree of keys, and that a tree of keys stays one.
-use Rattle.std.proofs.Common.{◌≡◌, ℕ, ◌+◌, ◌*◌, ◌/◌, ◌%◌, ◌<◌, ◌≤◌, ◌==◌, ◌⊎◌, inl, inr, Bool, true, false, List, [], ◌∷◌, ◌++◌, Option, Some, None, length, slice_get, slice_set, slice_index_or, refl, ap, sym, ◌∙◌, arith, subst, length-append, eq-eqb}
+use Rattle.std.proofs.Common.{◌≡◌, ℕ, zero, suc, ◌+◌, ◌*◌, ◌/◌, ◌%◌, ◌<◌, ◌≤◌, ◌==◌, ◌⊎◌, inl, inr, Bool, true, false, List, [], ◌∷◌, ◌++◌, Option, Some, None, length, slice_get, slice_set, slice_index_or, refl, ap, sym, ◌∙◌, arith, subst, append_assoc, length-append, length-set, eq-eqb}
 use borrow.Author.Tests.{eqb-true}
+use Rattle.std.proofs.lemmas.Bool.{cases_lt}
 use Rattle.std.proofs.lemmas.Grind.{common_steps}
 use Rattle.std.proofs.lemmas.Option.{slice_get_within, slice_get-get_or, get_or_from_slice_get}
 use Rattle.std.proofs.lemmas.List.Sums.{position_or_len_is}
-use Rattle.gql_request.specs.KeyTree.{link_at, end_of, Leads, Arrives, GoesOn, IsKeyTree, first_place, Extends, Ends, EndsAt, Finds}
+use Rattle.gql_request.specs.KeyTree.{link_at, end_of, Leads, Arrives, GoesOn, IsKeyTree, first_place, Extends, Ends, EndsAt, EndsWithin, with_end, Finds}
 use Rattle.gql_request.specs.declared.key_tree.Sought.{Sought}
 use Rattle.gql_request.specs.declared.key_tree.Sought.TheVariants.{At, Missing}
 
 not-true : (b : Bool) → (b ≡ true → ⊥) → b ≡ false
-not-true true no = absurd (no refl)
-not-true false no = refl
+not-true true h = absurd (h refl)
+not-true false h = refl
 
 -- a way stays where links are added
 extended : (links more : List (Option ℕ)) → Extends links more → (goal place bits : ℕ) → Leads links goal place bits → Leads more goal place bits
@@ -92,18 +93,111 @@ ends_here links place bits within free =
       leads = λ more goal extends there. GoesOn place bits goal there (Arrives (bits / 2));
     }
 
--- a key at the end of its way makes a tree of the tree
+get-front : {A : Type 0} (xs ys : List A) (k : ℕ) → k < length xs → slice_get (xs ++ ys) k ≡ slice_get xs k
+get-front [] ys k within = absurd (omega arith)
+get-front (x ∷ xs) ys zero within = refl
+get-front (x ∷ xs) ys (suc k) within = get-front xs ys k (omega arith)
+
+get-last : {A : Type 0} (xs : List A) (x : A) → slice_get (xs ++ x ∷ []) (length xs) ≡ Some x
+get-last [] x = refl
+get-last (y ∷ xs) x = get-last xs x
+
+no-ends : (link next : ℕ) → end_of (None ∷ None ∷ []) link ≡ Some next → ⊥
+no-ends zero next e = cc
+no-ends (suc zero) next e = cc
+no-ends (suc (suc link)) next e = cc
+
+kept-front : (links : List (Option ℕ)) (at next : ℕ) (behind : List (Option ℕ)) → end_of links at ≡ Some next → end_of (links ++ behind) at ≡ Some next
+kept-front [] at next behind end = cc
+kept-front (x ∷ links) zero next behind end = end
+kept-front (x ∷ links) (suc at) next behind end = kept-front links at next behind end
+
+front-only : (links : List (Option ℕ)) (at next : ℕ) → end_of (links ++ None ∷ None ∷ []) at ≡ Some next → end_of links at ≡ Some next
+front-only [] at next end = absurd (no-ends at next end)
+front-only (x ∷ links) zero next end = end
+front-only (x ∷ links) (suc at) next end = front-only links at next end
+
+-- what a link goes to once another one is set and two are added
+kept : (links : List (Option ℕ)) (at link next : ℕ) (new : Option ℕ) (behind : List (Option ℕ)) → end_of links at ≡ Some next → end_of links link ≡ None
+    → end_of (slice_set links link new ++ behind) at ≡ Some next
+kept [] at link next new behind end free = cc
+kept (x ∷ links) zero zero next new behind end free = cc
+kept (x ∷ links) zero (suc link) next new behind end free = end
+kept (x ∷ links) (suc at) zero next new behind end free = kept-front links at next behind end
+kept (x ∷ links) (suc at) (suc link) next new behind end free = kept links at link next new behind end free
+
+only : (links : List (Option ℕ)) (at link next goal : ℕ) → link < length links → end_of (slice_set links link (Some goal) ++ None ∷ None ∷ []) at ≡ Some next
+    → (end_of links at ≡ Some next) ⊎ ((at < length links) × (next ≡ goal))
+only [] at link next goal within end = absurd (omega arith)
+only (x ∷ links) zero zero next goal within end = inr (omega arith, cc)
+only (x ∷ links) zero (suc link) next goal within end = inl end
+only (x ∷ links) (suc at) zero next goal within end = inl (front-only links at next end)
+only (x ∷ links) (suc at) (suc link) next goal within end = elim (only links at link next goal (omega arith) end) [
+  | inl old ↦ inl old
+  | inr (before, same) ↦ inr (omega arith, same)
+]
+
+set-here : (links : List (Option ℕ)) (link : ℕ) (new : Option ℕ) (behind : List (Option ℕ)) → link < length links
+    → end_of (slice_set links link new ++ behind) link ≡ new
+set-here [] link new behind within = absurd (omega arith)
+set-here (x ∷ links) zero new behind within = refl
+set-here (x ∷ links) (suc link) new behind within = set-here links link new behind (omega arith)
+
 module _ (keys : List ℕ) (links more : List (Option ℕ)) (tree : IsKeyTree keys links) (key : ℕ) where
   grown : length more ≡ length links + 2 → Extends links more
       → ((link next : ℕ) → end_of more link ≡ Some next → (end_of links link ≡ Some next) ⊎ ((link < length links) × (next ≡ length keys)))
       → Leads more (length keys) 0 key → IsKeyTree (keys ++ key ∷ []) more
-  grown long extends only leads =
+  grown long extends others leads =
       let longer : length (keys ++ key ∷ []) ≡ length keys + 1 = length-append keys (key ∷ []) in
       record {
         two = omega (arith, tree.two);
-        later = λ link next end. elim (only link next end) [
+        later = λ link next end. elim (others link next end) [
           | inl old ↦ (let at = tree.later link next old in (at.0, omega (arith, at.1)))
           | inr (within, last) ↦ (omega (arith, tree.two), omega arith)
         ];
-        reached = ?;
+        reached = λ place other at. elim (cases_lt place (length keys)) [
+          | inl before ↦ extended links more extends place 0 other (tree.reached place other (sym (get-front keys (key ∷ []) place before) ∙ at))
+          | inr behind ↦ (
+            let last : place ≡ length keys = (let within = slice_get_within (keys ++ key ∷ []) place other at in omega arith) in
+            let same : Some key ≡ Some other = sym (get-last keys key) ∙ ap (slice_get (keys ++ key ∷ [])) (sym last) ∙ at in
+            let one : key ≡ other = cc in
+            subst (λ (k : ℕ). Leads more place 0 k) one (subst (λ (p : ℕ). Leads more p 0 key) (sym last) leads)
+          )
+        ];
       }
+
+  -- the first key of all
+  grown-first : links ≡ [] → more ≡ None ∷ None ∷ [] → IsKeyTree (keys ++ key ∷ []) more
+  grown-first none is =
+      let empty : length links ≡ 0 = ap length none in
+      let no_key : length keys ≡ 0 = omega (arith, tree.two) in
+      grown (ap length is ∙ omega arith)
+        (λ link next end. absurd (let e : end_of links link ≡ None = ap (λ ls. end_of ls link) none in cc))
+        (λ link next end. absurd (no-ends link next (ap (λ ls. end_of ls link) (sym is) ∙ end)))
+        (subst (λ (goal : ℕ). Leads more goal 0 key) (sym no_key) (Arrives key))
+
+  -- a key at a link
+  grown-at : (link : ℕ) → Ends links 0 key link → more ≡ slice_set links link (Some (length keys)) ++ None ∷ None ∷ [] → IsKeyTree (keys ++ key ∷ []) more
+  grown-at link ends is =
+      let set : List (Option ℕ) = slice_set links link (Some (length keys)) in
+      let long : length more ≡ length links + 2 = ap length is ∙ length-append set (None ∷ None ∷ []) ∙ ap (λ n. n + 2) (length-set links link (Some (length keys))) in
+      let extends : Extends links more = λ at next end. ap (λ ls. end_of ls at) is ∙ kept links at link next (Some (length keys)) (None ∷ None ∷ []) end ends.free in
+      grown long extends
+        (λ at next end. only links at link next (length keys) ends.within (ap (λ ls. end_of ls at) (sym is) ∙ end))
+        (ends.leads more (length keys) extends (ap (λ ls. end_of ls link) is ∙ set-here links link (Some (length keys)) (None ∷ None ∷ []) ends.within))
+
+-- a key at the end of its way makes a tree of the tree
+pub grown_end : (keys keys' : List ℕ) (links set half more : List (Option ℕ)) (key place : ℕ) (end : Option ℕ) → IsKeyTree keys links → EndsAt links 0 key end
+    → place ≡ length keys → set ≡ with_end links end place → half ≡ set ++ None ∷ [] → more ≡ half ++ None ∷ [] → keys' ≡ keys ++ key ∷ []
+    → IsKeyTree keys' more
+grown_end keys keys' links set half more key place None tree ends at is first second grows =
+    let made : more ≡ None ∷ None ∷ [] = second ∙ ap (λ ls. ls ++ None ∷ []) (first ∙ ap (λ ls. ls ++ None ∷ []) (is ∙ ends)) in
+    subst (λ (ks : List ℕ). IsKeyTree ks more) (sym grows) (grown-first keys links more tree key ends made)
+grown_end keys keys' links set half more key place (Some link) tree ends at is first second grows =
+    let two : more ≡ set ++ None ∷ None ∷ [] = second ∙ ap (λ ls. ls ++ None ∷ []) first ∙ append_assoc set (None ∷ []) (None ∷ []) in
+    let made : more ≡ slice_set links link (Some (length keys)) ++ None ∷ None ∷ [] = two ∙ ap (λ ls. ls ++ None ∷ None ∷ []) (is ∙ ap (λ p. slice_set links link (Some p)) at) in
+    subst (λ (ks : List ℕ). IsKeyTree ks more) (sym grows) (grown-at keys links more tree key link ends made)
+
+pub ends_within : (links : List (Option ℕ)) (place bits : ℕ) (end : Option ℕ) → EndsAt links place bits end → EndsWithin links end
+ends_within links place bits None ends = tt
+ends_within links place bits (Some link) ends = ends.within

@@ -1,6 +1,6 @@
 -- How data find their keys: each key has two links to keys that were added later. The way to a key begins at the first key, and where
 -- a key is another one it takes the link of the lowest bit of the key that is sought, which is then left out.
-use Rattle.std.specs.Prelude.{◌≡◌, ℕ, ◌+◌, ◌*◌, ◌/◌, ◌%◌, ◌<◌, ◌≤◌, ◌==◌, List, [], Option, Some, None, length, slice_get, slice_index_or}
+use Rattle.std.specs.Prelude.{◌≡◌, ℕ, ◌+◌, ◌*◌, ◌/◌, ◌%◌, ◌<◌, ◌≤◌, ◌==◌, List, [], Option, Some, None, length, slice_get, slice_set, slice_index_or}
 use Rattle.std.specs.List.{position_or_len}
 use Rattle.gql_request.specs.declared.key_tree.Sought.{Sought}
 use Rattle.gql_request.specs.declared.key_tree.Sought.TheVariants.{At, Missing}
@@ -44,6 +44,16 @@ pub record Ends (links : List (Option ℕ)) (place bits link : ℕ) : Type 0 whe
 abbrev pub EndsAt : List (Option ℕ) → ℕ → ℕ → Option ℕ → Type 0
 EndsAt links place bits None = links ≡ []
 EndsAt links place bits (Some link) = Ends links place bits link
+
+-- that an end is a link that there is
+abbrev pub EndsWithin : List (Option ℕ) → Option ℕ → Type 0
+EndsWithin links None = Unit {0}
+EndsWithin links (Some link) = link < length links
+
+-- the links once the one at an end, if any, goes to a place
+abbrev pub with_end : List (Option ℕ) → Option ℕ → ℕ → List (Option ℕ)
+with_end links None place = links
+with_end links (Some link) place = slice_set links link (Some place)
 
 -- what a search for a key along the way from a place finds
 abbrev pub Finds : List ℕ → List (Option ℕ) → ℕ → ℕ → ℕ → Sought → Type 0

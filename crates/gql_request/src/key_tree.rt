@@ -1,7 +1,7 @@
 //! The keys of data, so that a look-up takes at most 33 steps whatever the keys are.
 
-ghost use Rattle.std.specs.Prelude.{◌≡◌, [], ◌∷◌, ◌++◌, ◌+◌, ◌*◌, ◌<◌, ◌≤◌, ℕ, Some, OnOk, OnErr, length, slice_get, vec_len, vec_capacity};
-ghost use Rattle.gql_request.specs.KeyTree.{IsKeyTree, Leads, EndsAt, Finds};
+ghost use Rattle.std.specs.Prelude.{◌≡◌, [], ◌∷◌, ◌++◌, ◌+◌, ◌*◌, ◌<◌, ◌≤◌, ℕ, Some, IfOk, OnOk, length, slice_get, vec_len, vec_capacity};
+ghost use Rattle.gql_request.specs.KeyTree.{IsKeyTree, Leads, EndsAt, EndsWithin, Finds, with_end};
 
 use gql_base::Made;
 use std::alloc::Global;
@@ -36,6 +36,17 @@ impl KeyTree {
         }
     }
 
+    /// A copy.
+    pub fn copy(&self, alloc: Global) -> Made<KeyTree>
+        ensures keys { IfOk result (λ copy. copy.keys.items ≡ self.now.keys.items) }
+        ensures links { IfOk result (λ copy. copy.links.items ≡ self.now.links.items) }
+    {
+        Ok(KeyTree {
+            keys: Vec::from_slice(alloc, self.keys.as_slice())?,
+            links: Vec::from_slice(alloc, self.links.as_slice())?,
+        })
+    }
+
     /// Where a key is.
     pub fn sought(&self, key: u32) -> Sought
         requires { IsKeyTree self.now.keys.items self.now.links.items }
@@ -59,6 +70,7 @@ impl KeyTree {
     }
 
     /// Adds a key for which there is room, at the end of its way.
+    #[tactic(auto, using(crate::proofs::KeyTreeLemmas::grown_end, crate::proofs::KeyTreeLemmas::ends_within))]
     pub fn grow(&mut self, end: Option<usize>, key: u32)
         requires tree { IsKeyTree self.old.keys.items self.old.links.items }
         requires ends { EndsAt self.old.links.items 0 key end }
@@ -71,12 +83,22 @@ impl KeyTree {
         ensures link_len { vec_len self.new.links ≡ vec_len self.old.links + 2 }
         ensures link_capacity { vec_capacity self.new.links ≡ vec_capacity self.old.links }
     {
-        if let Some(link) = end {
-            self.links[link] = Some(self.keys.len());
-        }
+        set_end(&mut self.links, end, self.keys.len());
         self.links.push_reserved(None);
         self.links.push_reserved(None);
         self.keys.push_reserved(key);
+    }
+}
+
+/// Lets the link at an end, if there is one, go to a place.
+fn set_end(links: &mut Vec<Option<usize>>, end: Option<usize>, place: usize)
+    requires { EndsWithin links.old.items end }
+    ensures items { links.new.items ≡ with_end links.old.items end place }
+    ensures len { vec_len links.new ≡ vec_len links.old }
+    ensures capacity { vec_capacity links.new ≡ vec_capacity links.old }
+{
+    if let Some(link) = end {
+        links[link] = Some(place);
     }
 }
 
