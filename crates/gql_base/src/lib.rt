@@ -13,6 +13,7 @@ mod made;
 mod name;
 mod no_memory;
 mod number;
+mod order;
 mod pairs;
 mod path_segment;
 mod pos;
