@@ -19,7 +19,8 @@ use Rattle.gql_engine.specs.declared.place.Tree.{the_lemmas as tree_lemmas}
 use Rattle.gql_engine.specs.declared.scene.Scene.{Scene}
 use Rattle.gql_cli.specs.Answer.{Chooses}
 use Rattle.gql_cli.specs.BenchAnswers.{bench_answers, bench_object, IsSuited, AnswersBy}
-use Rattle.gql_cli.specs.Query.{HasOnlyName, IsBare, IsBareQuery, AreDistinct, bare, selections_of}
+use Rattle.gql_doc.specs.Depth.{selections_of}
+use Rattle.gql_cli.specs.Query.{HasOnlyName, IsBare, IsBareQuery, AreDistinct, bare}
 use Rattle.gql_cli.specs.Shown.{data_of, shown_value}
 use Rattle.gql_cli.specs.Table.{rule_answer}
 use Rattle.gql_cli.specs.Tables.{rule_of}

@@ -3,8 +3,7 @@
 use Rattle.std.specs.Prelude.{ℕ, ◌++◌, ◌&&◌, not, Bool, false, List, [], ◌∷◌, Option, Some, None, map, codes, length}
 use Rattle.std.specs.List.{flat_map}
 use Rattle.gql_base.specs.Pairs.{under, unite_all}
-use Rattle.gql_base.specs.PathSegment.{segment_text}
-use Rattle.gql_base.specs.Separated.{separated}
+use Rattle.gql_base.specs.PathSegment.{path_text}
 use Rattle.gql_base.specs.TypeRef.{is_nullable}
 use Rattle.gql_base.specs.declared.pos.Pos.{Pos}
 use Rattle.gql_base.specs.declared.type_ref.TypeRef.{TypeRef}
@@ -59,7 +58,7 @@ asked_of scene occurrence declared = record {
     arguments = [];
     layers = layers_of scene.layers;
   };
-  path = separated (codes ".") (map segment_text (path_of occurrence));
+  path = path_text (path_of occurrence);
   key = key_text occurrence;
   place = occurrence.pos;
   ty = field_type declared;

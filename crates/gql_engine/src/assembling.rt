@@ -25,6 +25,7 @@ fn add_place(alloc: Global, members: &mut Pairs<Place>, occurrence: Occurrence<'
     let Occurrence {
         item,
         declared: _,
+        env: _,
         path: _,
         place,
     } = occurrence;
