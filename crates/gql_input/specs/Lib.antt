@@ -1,3 +1,2 @@
 pub mod AccessFault
 pub mod Accessor
-pub mod Kinds

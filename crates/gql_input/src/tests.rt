@@ -134,3 +134,13 @@ fn accessors_of_parts(rt: HostRuntime) -> Result<(), Fail> {
     assert!(rt; ListAccessor::new(&[]).is_empty());
     Ok(())
 }
+
+fn is_send_sync<T: Send + Sync>() {}
+
+#[test]
+fn types_can_be_shared() {
+    is_send_sync::<AccessFault<'static>>();
+    is_send_sync::<ListAccessor<'static>>();
+    is_send_sync::<ObjectAccessor<'static>>();
+    is_send_sync::<ValueAccessor<'static>>();
+}
