@@ -1,2 +1,3 @@
 pub mod AccessFault
 pub mod Accessor
+pub mod Iterators
