@@ -15,6 +15,8 @@ mod names;
 mod no_memory;
 mod number;
 mod pairs;
+#[cfg(test)]
+mod pairs_tests;
 mod path_segment;
 mod pos;
 mod read_json;

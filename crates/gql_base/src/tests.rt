@@ -1,10 +1,10 @@
 //! Each public call with ample memory, against texts and values from outside. What a test looks at is made by small functions
 //! beside it, since a test is proved too.
 use crate::{
-    Boxed, Copied, Error, ErrorExtensionValues, Items, JsonFault, Made, Name, NoMemory, Number,
-    Pairs, PathSegment, Pos, ServerError, Text, TypeRef, Value, Variables, from_json, json_of,
-    literal_of, push_comma, push_error, push_errors, push_extension_values, push_json, push_name,
-    push_quoted, push_type,
+    Boxed, Copied, Error, ErrorExtensionValues, Items, JsonFault, Made, Name, Names, NoMemory,
+    Number, Pairs, PathSegment, Pos, ServerError, Text, TypeRef, Value, Variables, from_json,
+    json_of, literal_of, push_comma, push_error, push_errors, push_extension_values, push_json,
+    push_name, push_quoted, push_type,
 };
 use std::alloc::{AllocError, Global};
 use std::test::Fail;
@@ -411,6 +411,7 @@ fn types_can_be_shared() {
     is_send_sync::<Items<Value>>();
     is_send_sync::<JsonFault>();
     is_send_sync::<Name>();
+    is_send_sync::<Names>();
     is_send_sync::<NoMemory>();
     is_send_sync::<Number>();
     is_send_sync::<Pairs<Value>>();
