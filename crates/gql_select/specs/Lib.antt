@@ -1,0 +1,9 @@
+pub mod Alike
+pub mod Collected
+pub mod Conflicts
+pub mod Constants
+pub mod Documents
+pub mod Grouped
+pub mod Kept
+pub mod Laws
+pub mod Reading

@@ -1,0 +1,1 @@
+//! Laws on selections. Each is the contract of a function without parameters.
