@@ -56,7 +56,7 @@ module _ {O F X : Type 0} (reading : Reading O F X) (is : IsReading reading) whe
     at_both : (f g : F) (inner : O) → Contains (reading.objects o (reading.both f g)) inner → Contains (reading.objects o f) inner
     at_both f g inner at = subst (λ os. Contains os inner) (is.objects_of_both o f g) at
 
-    fit_left : (a b c : F) → Fit n o a b → Fit n o a c → Fit n o b c → Fit n o (reading.both a b) c
+    pub fit_left : (a b c : F) → Fit n o a b → Fit n o a c → Fit n o b c → Fit n o (reading.both a b) c
     fit_left a b c ab ac bc =
         fit_from (reading.both a b) c (is.alike_both a b c ∙ ac.alike)
         (λ inner at'. let at : Contains (reading.objects o a) inner = at_both a b inner at' in
@@ -96,7 +96,7 @@ module _ {O F X : Type 0} (reading : Reading O F X) (is : IsReading reading) whe
         ((λ e. fit_in set agree f g in_f (within g (first_in g gs)) (sym ((bytes_decides (reading.key g) (reading.key f)).0 e))),
         each_fits set agree f in_f gs (λ h at. within h (later_in g h gs at)))
 
-    among_in : (set : List X) → Agree reading (suc n) o set set → (fs : List F) → ((f : F) → Contains fs f → Contains (reading.fields o set) f)
+    pub among_in : (set : List X) → Agree reading (suc n) o set set → (fs : List F) → ((f : F) → Contains fs f → Contains (reading.fields o set) f)
         → Among (Fit n o) (keyed reading fs)
     among_in set agree [] within = tt
     among_in set agree (f ∷ fs) within =

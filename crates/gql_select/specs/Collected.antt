@@ -2,17 +2,18 @@
 use Rattle.std.specs.Prelude.{ℕ, zero, suc, Bool, true, List, [], ◌∷◌, ◌++◌, Option, Some, None, if◌then◌else◌}
 use Rattle.std.specs.List.{flat_map}
 use Rattle.gql_base.specs.Pairs.{under}
-use Rattle.gql_doc.specs.declared.document.Field.{Field, out-Field, roll-Field}
+use Rattle.gql_doc.specs.Depth.{Fragments, field_set, fragment_set, selections_of}
+use Rattle.gql_doc.specs.declared.document.Field.{Field}
 use Rattle.gql_doc.specs.declared.document.FragmentDefinition.{FragmentDefinition}
 use Rattle.gql_doc.specs.declared.document.InlineFragment.{InlineFragment, out-InlineFragment}
 use Rattle.gql_doc.specs.declared.document.Positioned.{Positioned}
 use Rattle.gql_doc.specs.declared.document.Selection.{Selection, out-Selection}
 use Rattle.gql_doc.specs.declared.document.Selection.TheOpen.{Selection-F}
-use Rattle.gql_doc.specs.declared.document.SelectionSet.{SelectionSet, out-SelectionSet, roll-SelectionSet}
+use Rattle.gql_doc.specs.declared.document.SelectionSet.{SelectionSet}
 
 -- what the fields of a request are read by
 pub record Setting : Type 0 where
-  pub fragments : List (List ℕ × Positioned FragmentDefinition)
+  pub fragments : Fragments
   -- how many levels of sets and fragments are entered
   pub levels : ℕ
   -- whether a condition on a type lets an object in
@@ -20,18 +21,16 @@ pub record Setting : Type 0 where
   -- the objects that are possible beneath the field of this name on an object
   pub beneath : List ℕ → List ℕ → List (List ℕ)
 
-abbrev pub selections_in : Positioned SelectionSet → List (Positioned Selection)
-selections_in set = (out-SelectionSet set.node).items
-
-abbrev pub selections_of : Positioned Field → List (Positioned Selection)
-selections_of field = selections_in (out-Field field.node).selection_set
+-- the selections of a field's own set
+abbrev pub own_selections : Positioned Field → List (Positioned Selection)
+own_selections field = selections_of (field_set field)
 
 module _ (setting : Setting) (object : List ℕ) (deeper : List (Positioned Selection) → List (Positioned Field)) where
   -- the fields of a named fragment, if there is one and it applies to the object
   abbrev pub fields_of_spread : Option (Positioned FragmentDefinition) → List (Positioned Field)
   fields_of_spread None = []
   fields_of_spread (Some fragment) =
-      if setting.covers fragment.node.type_condition.node object then deeper (selections_in fragment.node.selection_set) else []
+      if setting.covers fragment.node.type_condition.node object then deeper (selections_of (fragment_set fragment)) else []
 
   -- the fields of a fragment in place, which applies to each object where it has no condition
   abbrev pub fields_under : Option (Positioned (List ℕ)) → List (Positioned Selection) → List (Positioned Field)
@@ -39,7 +38,7 @@ module _ (setting : Setting) (object : List ℕ) (deeper : List (Positioned Sele
   fields_under (Some condition) selections = if setting.covers condition.node object then deeper selections else []
 
   abbrev pub fields_of_inline : InlineFragment → List (Positioned Field)
-  fields_of_inline fragment = fields_under (out-InlineFragment fragment).type_condition (selections_in (out-InlineFragment fragment).selection_set)
+  fields_of_inline fragment = fields_under (out-InlineFragment fragment).type_condition (selections_of (out-InlineFragment fragment).selection_set)
 
   -- the fields that a selection stands for
   abbrev pub fields_of : Selection-F Selection Field InlineFragment SelectionSet → List (Positioned Field)

@@ -7,7 +7,7 @@ use Rattle.gql_doc.specs.declared.document.Positioned.{Positioned}
 use Rattle.gql_doc.specs.declared.document.Selection.{Selection}
 use Rattle.gql_doc.specs.declared.document.SelectionSet.{SelectionSet, roll-SelectionSet}
 use Rattle.gql_select.specs.Alike.{alike, name_of}
-use Rattle.gql_select.specs.Collected.{Setting, collect, selections_of}
+use Rattle.gql_select.specs.Collected.{Setting, collect, own_selections}
 use Rattle.gql_select.specs.Reading.{Reading}
 
 -- a field with these selections for its own
@@ -18,13 +18,13 @@ with_selections field selections =
 
 -- the first of two occurrences, with the second's selections behind its own
 abbrev pub both : Positioned Field → Positioned Field → Positioned Field
-both f g = record { pos = f.pos; node = with_selections f.node (selections_of f ++ selections_of g) }
+both f g = record { pos = f.pos; node = with_selections f.node (own_selections f ++ own_selections g) }
 
 abbrev pub reading : Setting → Reading (List ℕ) (Positioned Field) (Positioned Selection)
 reading setting = record {
   fields = collect setting;
   key = λ f. (key_of f.node).node;
-  set = selections_of;
+  set = own_selections;
   both = both;
   alike = alike;
   objects = λ object f. setting.beneath object (name_of f);

@@ -4,6 +4,7 @@ use Rattle.std.specs.List.{list_all}
 use Rattle.std.specs.Str.{bytes_eq}
 use Rattle.gql_base.specs.Kinds.{boolean_of}
 use Rattle.gql_base.specs.declared.value.Value.{Value}
+use Rattle.gql_doc.specs.Depth.{Fragments}
 use Rattle.gql_doc.specs.declared.document.Directive.{Directive}
 use Rattle.gql_doc.specs.declared.document.DocValue.{DocValue}
 use Rattle.gql_doc.specs.declared.document.Field.{Field, out-Field, roll-Field}
@@ -15,6 +16,7 @@ use Rattle.gql_doc.specs.declared.document.Selection.TheVariants as selection
 use Rattle.gql_doc.specs.declared.document.Selection.TheOpen.{Selection-F, Field-F, InlineFragment-F, SelectionSet-F}
 use Rattle.gql_doc.specs.declared.document.Selection.TheFolds.{fold-Selection, fold-Field, fold-InlineFragment, fold-SelectionSet}
 use Rattle.gql_doc.specs.declared.document.SelectionSet.{SelectionSet, roll-SelectionSet}
+use Rattle.gql_select.specs.Collected.{Setting}
 use Rattle.gql_select.specs.Constants.{given, resolved}
 
 abbrev pub is_skip : Directive → Bool
@@ -65,29 +67,46 @@ module _ (known : List ℕ → Value) where
       kept_if (out-InlineFragment fragment.node).directives (selection.InlineFragment (record { pos = fragment.pos; node = other_inline fragment.node }))
 
   abbrev pub field_step : Field-F (Option Selection) Field InlineFragment SelectionSet → Field
-  field_step field = roll-Field field
+  field_step field =
+      roll-Field
+      (record { alias = field.alias; name = field.name; arguments = field.arguments; directives = field.directives; selection_set = field.selection_set })
 
   abbrev pub inline_step : InlineFragment-F (Option Selection) Field InlineFragment SelectionSet → InlineFragment
-  inline_step fragment = roll-InlineFragment fragment
+  inline_step fragment =
+      roll-InlineFragment (record { type_condition = fragment.type_condition; directives = fragment.directives; selection_set = fragment.selection_set })
 
-  abbrev pub placed : Positioned (Option Selection) → Option (Positioned Selection)
-  placed selection = option_map (λ node. record { pos = selection.pos; node = node }) selection.node
+  abbrev pub if_kept : Positioned (Option Selection) → Option (Positioned Selection)
+  if_kept selection = option_map (λ node. record { pos = selection.pos; node = node }) selection.node
 
   abbrev pub set_step : SelectionSet-F (Option Selection) Field InlineFragment SelectionSet → SelectionSet
-  set_step set = roll-SelectionSet (record { items = filter_map placed set.items })
+  set_step set = roll-SelectionSet (record { items = filter_map if_kept set.items })
 
   abbrev pub kept_selection : Selection → Option Selection
   kept_selection = fold-Selection (Option Selection) Field InlineFragment SelectionSet selection_step field_step inline_step set_step
 
+  -- a field of which the set beneath is kept
+  abbrev pub kept_field : Field → Field
+  kept_field = fold-Field (Option Selection) Field InlineFragment SelectionSet selection_step field_step inline_step set_step
+
+  abbrev pub kept_inline : InlineFragment → InlineFragment
+  kept_inline = fold-InlineFragment (Option Selection) Field InlineFragment SelectionSet selection_step field_step inline_step set_step
+
   -- a set without what is left out, whatever it is nested in
-  abbrev pub kept : SelectionSet → SelectionSet
-  kept = fold-SelectionSet (Option Selection) Field InlineFragment SelectionSet selection_step field_step inline_step set_step
+  abbrev pub kept_set : SelectionSet → SelectionSet
+  kept_set = fold-SelectionSet (Option Selection) Field InlineFragment SelectionSet selection_step field_step inline_step set_step
+
+  abbrev pub kept : List (Positioned Selection) → List (Positioned Selection)
+  kept selections = filter_map (λ selection. if_kept (record { pos = selection.pos; node = kept_selection selection.node })) selections
 
   abbrev pub kept_fragment : Positioned FragmentDefinition → Positioned FragmentDefinition
   kept_fragment fragment = record {
     pos = fragment.pos;
-    node = record fragment.node { selection_set = record { pos = fragment.node.selection_set.pos; node = kept fragment.node.selection_set.node } };
+    node = record fragment.node { selection_set = record { pos = fragment.node.selection_set.pos; node = kept_set fragment.node.selection_set.node } };
   }
 
-  abbrev pub kept_fragments : List (List ℕ × Positioned FragmentDefinition) → List (List ℕ × Positioned FragmentDefinition)
+  abbrev pub kept_fragments : Fragments → Fragments
   kept_fragments fragments = map (λ pair. (pair.0, kept_fragment pair.1)) fragments
+
+  -- what the fields of the kept document are read by
+  abbrev pub kept_setting : Setting → Setting
+  kept_setting setting = record setting { fragments = kept_fragments setting.fragments }
