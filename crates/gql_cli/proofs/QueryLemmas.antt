@@ -9,7 +9,8 @@ use Rattle.gql_doc.specs.declared.document.Field.{Field, out-Field}
 use Rattle.gql_doc.specs.declared.document.OperationDefinition.{OperationDefinition}
 use Rattle.gql_doc.specs.declared.document.Positioned.{Positioned}
 use Rattle.gql_doc.specs.declared.document.Selection.{Selection}
-use Rattle.gql_cli.specs.Query.{IsBare, Asks, selections_of, bare}
+use Rattle.gql_doc.specs.Depth.{selections_of}
+use Rattle.gql_cli.specs.Query.{IsBare, Asks, bare}
 use Rattle.gql_cli.proofs.TablesLemmas.{distinct-more, distinct-never}
 
 bare-same : (selection : Positioned Selection) (m n : List ℕ) → IsBare selection m → IsBare selection n → m ≡ n

@@ -7,6 +7,7 @@ mod constant_building;
 mod cursor;
 mod definition_building;
 mod definitions;
+mod depth;
 mod document;
 #[cfg(test)]
 mod example_tests;
@@ -29,6 +30,7 @@ mod values;
 mod variable_building;
 mod variables;
 
+pub use depth::more_levels_find_no_more;
 pub use document::{
     Argument, Directive, DocValue, DocumentOperations, ExecutableDocument, Field,
     FragmentDefinition, FragmentSpread, InlineFragment, OperationDefinition, OperationType,

@@ -167,7 +167,7 @@ pub(crate) fn query_answer(alloc: Global, text: &str, places: bool) -> Made<Stri
 /// What a text gives as a type.
 fn type_answer(alloc: Global, text: &str) -> Made<String> {
     match parse_type(alloc, text)? {
-        Ok(ty) => Ok(ty.text(alloc)?.into_string()),
+        Ok(ty) => String::from_str(alloc, ty.text(alloc)?.as_str()),
         Err(fault) => fault_text(alloc, &fault),
     }
 }
