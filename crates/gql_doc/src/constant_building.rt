@@ -1,7 +1,8 @@
 //! Builds the constants of a document: values without variables (section 2.9).
 ghost use Rattle.std.specs.Prelude.{map, [], ◌∷◌};
 ghost use Rattle.gql_base.specs.Pairs.{names_of};
-ghost use Rattle.gql_doc.specs.NameRules.{first_in, doubled_in_value};
+ghost use Rattle.gql_doc.specs.First.{first_in};
+ghost use Rattle.gql_doc.specs.NameRules.{doubled_in_value};
 ghost use Rattle.gql_doc.specs.Building.{constant_of};
 ghost use Rattle.gql_doc.specs.Builds.{Builds, Adds, constant_member_of, doubled_in_member, doubled_among_members};
 

@@ -4,6 +4,7 @@
 mod argument_building;
 mod arguments;
 mod constant_building;
+mod copied;
 mod cursor;
 mod definition_building;
 mod definitions;

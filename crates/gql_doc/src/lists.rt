@@ -1,4 +1,4 @@
-//! Lists that take no more memory than their items need.
+//! Lists that begin with room for the items that are known to come.
 ghost use Rattle.std.specs.Prelude.{◌≡◌, [], ◌∷◌, IfOk};
 
 use gql_base::{Items, Made};

@@ -1,6 +1,7 @@
 //! Builds selections and their sets (sections 2.4, 2.5, 2.7 and 2.8).
 ghost use Rattle.std.specs.Prelude.{map};
-ghost use Rattle.gql_doc.specs.NameRules.{first_of, first_in, doubled_in_directives, doubled_in_selection};
+ghost use Rattle.gql_doc.specs.First.{first_in};
+ghost use Rattle.gql_doc.specs.NameRules.{doubled_in_directives, doubled_in_selection};
 ghost use Rattle.gql_doc.specs.Building.{set_of, selection_of};
 ghost use Rattle.gql_doc.specs.Builds.{Builds};
 

@@ -1,7 +1,8 @@
 //! Builds the values of a document (section 2.9).
 ghost use Rattle.std.specs.Prelude.{◌≡◌, map, [], ◌∷◌, None, OnOk};
 ghost use Rattle.gql_base.specs.Pairs.{under, names_of};
-ghost use Rattle.gql_doc.specs.NameRules.{first_in, if_among, doubled_in_value};
+ghost use Rattle.gql_doc.specs.First.{first_in};
+ghost use Rattle.gql_doc.specs.NameRules.{if_among, doubled_in_value};
 ghost use Rattle.gql_doc.specs.Building.{value_of};
 ghost use Rattle.gql_doc.specs.Builds.{Builds, Refuses, Adds, member_of, doubled_in_member, doubled_among_members};
 

@@ -1,6 +1,7 @@
 //! Builds definitions of variables (section 2.10).
 ghost use Rattle.std.specs.Prelude.{map};
-ghost use Rattle.gql_doc.specs.NameRules.{first_in, doubled_in_default, doubled_in_variable};
+ghost use Rattle.gql_doc.specs.First.{first_in};
+ghost use Rattle.gql_doc.specs.NameRules.{doubled_in_default, doubled_in_variable};
 ghost use Rattle.gql_doc.specs.Building.{default_of, variable_of};
 ghost use Rattle.gql_doc.specs.Builds.{Builds};
 

@@ -9,10 +9,12 @@ mod lines;
 mod name;
 mod number;
 mod place;
+mod shared;
 mod string;
 mod token;
 
 pub use lexer::{one_token_list, tokens_of};
+pub use name::is_name;
 pub use token::{Lexeme, Punctuator, Token};
 
 #[cfg(test)]
