@@ -1,0 +1,17 @@
+//! Places of a response: how they are joined, how null is raised through them, and which errors and header operations
+//! they have (GraphQL, October 2021, sections 6.3 and 6.4).
+#![tactic(auto)]
+
+mod place_headers;
+mod header_op;
+mod place;
+mod place_faults;
+mod raising;
+mod shape;
+
+pub use place_headers::header_ops;
+pub use header_op::HeaderOp;
+pub use place::{Place, Tree};
+pub use place_faults::faults;
+pub use raising::raise;
+pub use shape::Shape;
