@@ -1,3 +1,5 @@
 pub mod Faults
+pub mod Filled
 pub mod HeaderOps
+pub mod Join
 pub mod Raised

@@ -1,5 +1,7 @@
 -- The value of a place, where null is raised through the places that may not be null (GraphQL, October 2021, section 6.4.4).
 use Rattle.std.specs.Prelude.{ℕ, Bool, true, false, List, [], ◌∷◌, map, Option, Some, None, option_map, unwrap_or}
+use Rattle.std.specs.List.{zip}
+use Rattle.gql_base.specs.Pairs.{names_of, values_of}
 use Rattle.gql_base.specs.declared.value.Value.{Value}
 use Rattle.gql_base.specs.declared.value.Value.TheVariants as value
 use Rattle.gql_place.specs.declared.place.Place.{Place}
@@ -23,13 +25,9 @@ all_items [] = Some []
 all_items (None ∷ rest) = None
 all_items (Some item ∷ rest) = with_first item (all_items rest)
 
-abbrev pub member_before : List ℕ → Option Value → Option (List (List ℕ × Value)) → Option (List (List ℕ × Value))
-member_before key None rest = None
-member_before key (Some member) rest = with_first (key, member) rest
-
+-- the members of an object, or none where a value is wanting
 abbrev pub all_members : List (List ℕ × Option Value) → Option (List (List ℕ × Value))
-all_members [] = Some []
-all_members (m ∷ ms) = member_before m.0 m.1 (all_members ms)
+all_members members = option_map (zip (names_of members)) (all_items (values_of members))
 
 -- the value of what stands at a place: a fault has none, nor has an object or a list of which a part is wanting
 abbrev pub tree_step : Tree-F (Option Value) (Option Value) → Option Value

@@ -3,14 +3,12 @@
 #![tactic(auto)]
 
 mod place_headers;
-mod header_op;
 mod place;
 mod place_faults;
 mod raising;
 mod shape;
 
 pub use place_headers::header_ops;
-pub use header_op::HeaderOp;
 pub use place::{Place, Tree};
 pub use place_faults::faults;
 pub use raising::raise;

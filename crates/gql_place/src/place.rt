@@ -1,5 +1,5 @@
 use gql_base::{Error, Items, Pairs, Pos, Value};
-use crate::header_op::HeaderOp;
+use gql_request::HeaderOp;
 
 /// A place of a response: what came to stand there, before nulls are raised (GraphQL, October 2021, section 6.4).
 #[cycle(place)]

@@ -4,7 +4,7 @@ ghost use Rattle.gql_place.specs.HeaderOps.{ops_of, tree_ops};
 
 use crate::place::{Place, Tree};
 use gql_base::{Copied, Items, Made, Pairs};
-use crate::header_op::HeaderOp;
+use gql_request::HeaderOp;
 use std::alloc::Global;
 
 /// What all places of a response do to the headers of the HTTP response, a place before those beneath it, nulled or not.

@@ -2,7 +2,7 @@ ghost use Rattle.std.specs.Prelude.{◌≡◌, IfOk};
 ghost use Rattle.gql_place.specs.Raised.{raised, value_at as value_of, tree_value as value_of_tree, member_values as values_of_members, item_values as values_of_items};
 
 use crate::place::{Place, Tree};
-use gql_base::{Copied, Items, Made, Name, Pairs, Value};
+use gql_base::{Copied, Items, Made, Pairs, Value};
 use std::alloc::Global;
 
 /// The value of a whole response: a failed place is null where it may be null, and else makes the place around it fail
@@ -51,15 +51,15 @@ fn tree_value(alloc: Global, tree: &Tree) -> Made<Option<Value>>
 fn member_values(alloc: Global, members: &Pairs<Place>) -> Made<Option<Pairs<Value>>>
     ensures { IfOk result (λ values. values ≡ values_of_members members.now) }
 {
-    let mut values = Pairs::new(alloc);
+    let mut values = Vec::new(alloc);
     for place in 0..members.len() {
-        let (key, member) = members.at(place);
+        let (_, member) = members.at(place);
         match value_at(alloc, member)? {
-            Some(value) => values.add(Name::new(alloc, key)?, value)?,
+            Some(value) => values.push(value)?,
             None => return Ok(None),
         }
     }
-    Ok(Some(values))
+    Ok(Some(members.with_values(alloc, values)?))
 }
 
 #[cycle(raise)]

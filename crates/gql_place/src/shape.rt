@@ -8,5 +8,6 @@ pub enum Shape<O, P> {
     Leaf(Value),
     Fault(Error),
     Object(O, P),
-    List(Items<Shape<O, P>>),
+    /// Items, and whether null may not stand at them.
+    List(bool, Items<Shape<O, P>>),
 }
