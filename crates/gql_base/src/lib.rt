@@ -24,6 +24,8 @@ mod no_memory;
 mod number;
 mod order;
 mod pairs;
+#[cfg(test)]
+mod pairs_tests;
 mod path_segment;
 mod pos;
 mod read_json;

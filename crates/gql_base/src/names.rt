@@ -120,6 +120,7 @@ impl Names {
     }
 
     /// Adds a name that isn't there, at the end, and looks no name up. Where memory is wanting the names stay as they were.
+    #[tactic(auto, using(crate::proofs::NamesLemmas::distinct_added, crate::proofs::NamesLemmas::distinct_pushed))]
     pub fn add_fresh(&mut self, name: Name) -> Made<()>
         requires { place_of name self.old ≡ None }
         ensures ok { OnOk result (self.new ≡ self.old ++ name ∷ []) }
@@ -186,6 +187,7 @@ impl PartialEq for Names {
 
 impl Indexed {
     /// Adds a name that isn't there, with its place.
+    #[tactic(auto, using(crate::proofs::NamesLemmas::has_places_pushed))]
     fn add(&mut self, name: Name) -> Made<()>
         requires fresh { place_of name self.old.list.items ≡ None }
         requires places { HasPlaces self.old.places self.old.list.items }

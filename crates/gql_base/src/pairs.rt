@@ -93,10 +93,8 @@ impl<T> Pairs<T> {
     /// The value at a place, counted from 0, to be changed.
     pub fn at_mut(&mut self, place: usize) -> &mut T
         requires { place < length self.old }
-        ensures* writes_back {
-            sem 𝓛 (Lends (the_row T.row) T.row self.entry result
-                (λ value. zip (names_of self.old) (slice_set (values_of self.old) place value)))
-        }
+        ensures* writes_back { sem 𝓛 (Lends (the_row T.row) T.row self.entry result
+            (λ value. zip (names_of self.old) (slice_set (values_of self.old) place value))) }
         ensures value { slice_get (values_of self.old) place ≡ Some result.now }
     {
         &mut self.values[place]

@@ -1,7 +1,7 @@
 //! The public types can be moved to threads and shared between them, where what they are made of can.
 use crate::{
-    Boxed, EnumForm, Error, ErrorExtensionValues, Items, JsonFault, JsonPlace, Name, NoMemory,
-    Number, Pairs, PathSegment, Pos, ServerError, Text, Told, TypeRef, Value, Variables,
+    Boxed, EnumForm, Error, ErrorExtensionValues, Items, JsonFault, JsonPlace, Name, Names,
+    NoMemory, Number, Pairs, PathSegment, Pos, ServerError, Text, Told, TypeRef, Value, Variables,
 };
 
 fn shared<T: Send + Sync>() {}
@@ -15,6 +15,7 @@ fn public_types<'a>() {
     shared::<JsonFault>();
     shared::<JsonPlace>();
     shared::<Name>();
+    shared::<Names>();
     shared::<NoMemory>();
     shared::<Number>();
     shared::<Pairs<Value>>();

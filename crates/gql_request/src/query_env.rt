@@ -2,8 +2,9 @@ ghost use Rattle.std.specs.Prelude.{◌≡◌, None};
 ghost use Rattle.std.proofs.Props.{props};
 ghost use Rattle.gql_doc.specs.Depth.{deep_from};
 
-use gql_base::{Pairs, Text, Variables};
+use gql_base::{Copied, Made, Pairs, Text, Variables};
 use gql_doc::{FragmentDefinition, OperationDefinition, Positioned};
+use std::alloc::Global;
 
 /// How far a request may ask for the schema itself.
 #[derive(Clone, Copy, PartialEq, Eq, Debug)]
@@ -76,5 +77,18 @@ impl QueryEnv {
         ensures nests { NestsIn self.now self.now.operation.node.selection_set }
     {
         self.levels
+    }
+}
+
+impl Copied for QueryEnv {
+    fn try_clone(&self, alloc: Global) -> Made<QueryEnv> {
+        Ok(QueryEnv {
+            variables: self.variables.try_clone(alloc)?,
+            operation_name: self.operation_name.try_clone(alloc)?,
+            operation: self.operation.try_clone(alloc)?,
+            fragments: self.fragments.try_clone(alloc)?,
+            introspection_mode: self.introspection_mode,
+            levels: self.levels,
+        })
     }
 }

@@ -14,11 +14,13 @@ pub returns : goal.returns
 returns g c =
     let names = pairs_names c.self.inside.names c.self.inside.values.items c.args.self.now c.self.invariant c.self.view_is in
     let values = pairs_values c.self.inside.names c.self.inside.values.items c.args.self.now c.self.invariant c.self.view_is in
-    let long = pairs_long c.self.inside.names c.self.inside.values.items c.args.self.now c.self.invariant c.self.view_is in
-    ((refl, λ w k. zip (sym names k) (slice_set (sym values k) c.args.place w)), record {
-      writes_back = tt;
-      value =
-          ap (λ vs. slice_get vs c.args.place) values
-          ∙ slice_get_read c.self.inside.values.items (length c.self.inside.names) c.args.place c.index_mut.result.now (sym c.self.invariant)
-          (omega (arith, long, c.requires)) c.index_mut.ensures.value
-    })
+    let long = pairs_long c.self.inside.names c.self.inside.values.items c.args.self.now c.self.invariant c.self.view_is in (
+      (refl, λ w k. zip (sym names k) (slice_set (sym values k) c.args.place w)),
+      record {
+        writes_back = tt;
+        value =
+            ap (λ vs. slice_get vs c.args.place) values
+            ∙ slice_get_read c.self.inside.values.items (length c.self.inside.names) c.args.place c.index_mut.result.now (sym c.self.invariant)
+            (omega (arith, long, c.requires)) c.index_mut.ensures.value;
+      },
+    )
