@@ -1,2 +1,5 @@
-pub mod PartLemmas
+pub mod AnsweredLemmas
+pub mod FillLemmas
 pub mod JoinLemmas
+pub mod LawProofs
+pub mod PartLemmas

@@ -1,6 +1,7 @@
 -- Folds of places, part by part.
 use Rattle.std.proofs.Common.{rules, ◌≡◌, ℕ, zero, suc, ◌+◌, ◌<◌, List, [], ◌∷◌, ◌++◌, length, map, take, Option, Some, None, option_map, slice_get, refl, ap, sym, ◌∙◌, subst, arith, append_assoc, add-one}
 use Rattle.std.specs.List.{flat_map, zip}
+use Rattle.std.specs.Prelude.{MatchOption}
 use Rattle.std.proofs.lemmas.List.{append-nil, length-map, length-take-le}
 use Rattle.gql_base.specs.Pairs.{names_of, values_of}
 use Rattle.gql_base.specs.declared.path_segment.PathSegment.{PathSegment}
@@ -126,6 +127,25 @@ next_member ms i m path old grown new at before step =
     next_of (λ p. faults_at p.1 (path ++ Field p.0 ∷ [])) ms i m old grown new at (before ∙ ap (λ rest. old ++ rest) (is (take i ms))) step
     ∙ ap (λ rest. old ++ rest) (sym (is (take (i + 1) ms)))
 
+never_nil : {A : Type 0} (xs : List A) (x : A) → xs ++ x ∷ [] ≡ [] → ⊥
+never_nil [] x e = cc
+never_nil (y ∷ ys) x e = cc
+
+front_same : {A : Type 0} (xs ys : List A) (x y : A) → xs ++ x ∷ [] ≡ ys ++ y ∷ [] → xs ≡ ys
+front_same [] [] x y e = refl
+front_same [] (b ∷ ys) x y e = let tail : ys ++ y ∷ [] ≡ [] = cc in absurd (never_nil ys y tail)
+front_same (a ∷ xs) [] x y e = let tail : xs ++ x ∷ [] ≡ [] = cc in absurd (never_nil xs x tail)
+front_same (a ∷ xs) (b ∷ ys) x y e =
+    let head : a ≡ b = cc in
+    let tail : xs ++ x ∷ [] ≡ ys ++ y ∷ [] = cc in
+    λ i. head i ∷ front_same xs ys x y tail i
+
+-- a path that loses the segment that it got is the path before
+back : (path behind after : List PathSegment) (segment : PathSegment) (popped : Option PathSegment) → behind ≡ path ++ segment ∷ []
+    → MatchOption popped ((behind ≡ []) × (after ≡ [])) (λ last. behind ≡ after ++ last ∷ []) → after ≡ path
+back path behind after segment None grown (none, rest) = absurd (never_nil path segment (sym grown ∙ none))
+back path behind after segment (Some last) grown popped = front_same after path last segment (sym popped ∙ grown)
+
 items_end : (n : ℕ) (ps : List AtPath) (p : AtPath) (path : List PathSegment)
     → beneath_items n (ps ++ p ∷ []) path ≡ beneath_items n ps path ++ p (path ++ Index (n + length ps) ∷ [])
 items_end n [] p path =
@@ -151,3 +171,25 @@ next_fault xs i x path old grown new at within before step =
       ∙ ap (λ k. item_faults (take i xs) path ++ faults_at x (path ++ Index k ∷ [])) (let e : 0 + length (map faults_at (take i xs)) ≡ i = omega arith in e) in
     step ∙ ap (λ g. g ++ faults_at x (path ++ Index i ∷ [])) before
     ∙ append_assoc old (item_faults (take i xs) path) (faults_at x (path ++ Index i ∷ [])) ∙ ap (λ rest. old ++ rest) (sym more)
+
+-- one more member, with the path back as it was
+pub member_preserved : (ms : List (List ℕ × Place)) (i : ℕ) (m : List ℕ × Place) (path now pushed behind after : List PathSegment) (key : List ℕ)
+    (old grown new : List ServerError) (popped : Option PathSegment) → slice_get ms i ≡ Some m
+    → (grown ≡ old ++ member_faults (take i ms) path) × (now ≡ path) → key ≡ m.0 → pushed ≡ now ++ Field key ∷ []
+    → new ≡ grown ++ faults_at m.1 pushed → behind ≡ pushed
+    → MatchOption popped ((behind ≡ []) × (after ≡ [])) (λ last. behind ≡ after ++ last ∷ [])
+    → (new ≡ old ++ member_faults (take (i + 1) ms) path) × (after ≡ path)
+member_preserved ms i m path now pushed behind after key old grown new popped at (before, here) named entered step stays left =
+    let there : pushed ≡ path ++ Field m.0 ∷ [] = entered ∙ (λ j. here j ++ Field (named j) ∷ []) in
+    (next_member ms i m path old grown new at before (step ∙ ap (λ p. grown ++ faults_at m.1 p) there)
+    , back path behind after (Field m.0) popped (stays ∙ there) left)
+
+pub item_preserved : (xs : List Place) (i : ℕ) (x : Place) (path now pushed behind after : List PathSegment) (old grown new : List ServerError)
+    (popped : Option PathSegment) → slice_get xs i ≡ Some x → i < length xs → (grown ≡ old ++ item_faults (take i xs) path) × (now ≡ path)
+    → pushed ≡ now ++ Index i ∷ [] → new ≡ grown ++ faults_at x pushed → behind ≡ pushed
+    → MatchOption popped ((behind ≡ []) × (after ≡ [])) (λ last. behind ≡ after ++ last ∷ [])
+    → (new ≡ old ++ item_faults (take (i + 1) xs) path) × (after ≡ path)
+item_preserved xs i x path now pushed behind after old grown new popped at within (before, here) entered step stays left =
+    let there : pushed ≡ path ++ Index i ∷ [] = entered ∙ (λ j. here j ++ Index i ∷ []) in
+    (next_fault xs i x path old grown new at within before (step ∙ ap (λ p. grown ++ faults_at x p) there)
+    , back path behind after (Index i) popped (stays ∙ there) left)

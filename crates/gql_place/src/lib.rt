@@ -2,6 +2,7 @@
 //! they have (GraphQL, October 2021, sections 6.3 and 6.4).
 #![tactic(auto)]
 
+pub mod laws;
 mod place_headers;
 mod place;
 mod place_faults;
