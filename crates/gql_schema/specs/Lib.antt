@@ -1,4 +1,15 @@
+pub mod Enum
 pub mod Field
+pub mod InputObject
+pub mod InputValue
+pub mod Interface
+pub mod InterfaceField
+pub mod Keyed
+pub mod NameSet
 pub mod Object
+pub mod Scalar
+pub mod Subscription
+pub mod SubscriptionField
 pub mod Table
 pub mod Types
+pub mod Union

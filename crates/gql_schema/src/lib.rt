@@ -1,15 +1,40 @@
 //! The types of a schema, as it is built at run time.
 #![tactic(auto)]
 
+mod by_name;
+mod enum_;
 mod field;
+mod input_object;
+mod input_value;
+mod interface;
+mod interface_field;
+mod name_set;
+mod named;
 mod object;
+mod same;
+mod scalar;
+mod scalar_rule;
 mod schema_type;
+mod subscription;
+mod subscription_field;
 mod types;
+mod union;
 
+pub use by_name::ByName;
+pub use enum_::Enum;
 pub use field::Field;
+pub use input_object::InputObject;
+pub use input_value::InputValue;
+pub use interface::Interface;
+pub use interface_field::InterfaceField;
+pub use name_set::NameSet;
+pub use named::Named;
 pub use object::Object;
+pub use same::Same;
+pub use scalar::Scalar;
+pub use scalar_rule::ScalarRule;
 pub use schema_type::SchemaType;
+pub use subscription::Subscription;
+pub use subscription_field::SubscriptionField;
 pub use types::Types;
-
-#[cfg(test)]
-mod tests;
+pub use union::Union;

@@ -1,0 +1,2 @@
+mod ByNameLemmas
+mod NameSetLemmas
