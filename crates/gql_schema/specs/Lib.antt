@@ -1,5 +1,8 @@
+pub mod Covariance
 pub mod Enum
+pub mod Faults
 pub mod Field
+pub mod Fits
 pub mod InputObject
 pub mod InputValue
 pub mod Interface
@@ -8,8 +11,13 @@ pub mod Keyed
 pub mod NameSet
 pub mod Object
 pub mod Scalar
+pub mod ScalarRule
+pub mod Sound
 pub mod Subscription
 pub mod SubscriptionField
 pub mod Table
+pub mod TableReading
+pub mod Texts
 pub mod Types
 pub mod Union
+pub mod Finished

@@ -1,10 +1,14 @@
-ghost use Rattle.std.specs.Prelude.{◌≡◌, ◌↔◌, [], ◌<◌, length, slice_get, IsTrue, OnOk, OnErr, Some};
+ghost use Rattle.std.specs.Prelude.{◌≡◌, ◌↔◌, [], ◌<◌, length, slice_get, IfOk, IsTrue, OnOk, OnErr, Some};
 ghost use Rattle.std.specs.Option.{option_copied};
 ghost use Rattle.gql_base.specs.Pairs.{under, put, values_of, HasDistinctNames};
 ghost use Rattle.gql_schema.specs.Keyed.{IsKeyed};
 
 use crate::by_name::ByName;
+use crate::checks::first_refusal;
 use crate::same::Same;
+use crate::scalar::Scalar;
+use crate::scalar_rule::ScalarRule;
+use crate::schema_error::SchemaError;
 use crate::schema_type::SchemaType;
 use gql_base::{Copied, Made};
 use std::alloc::Global;
@@ -66,6 +70,34 @@ impl Types {
         ensures { IsTrue result ↔ (self.now ≡ other.now) }
     {
         self.table.same(&other.table)
+    }
+}
+
+impl Types {
+    ghost use Rattle.gql_schema.specs.Table.{types_of};
+    ghost use Rattle.gql_schema.specs.Finished.{IsFinished};
+    ghost use Rattle.gql_schema.specs.Sound.{with_built_in, with_scalar};
+
+    /// The table with the scalars that every schema has, where no rule is broken, and else the first refusal.
+    pub fn finish(self, alloc: Global) -> Made<Result<Types, SchemaError>>
+        ensures { IfOk result (λ finished. IsFinished (with_built_in (types_of self)) finished) }
+    {
+        let mut types = self;
+        types.register_scalar(alloc, "Int", ScalarRule::Int)?;
+        types.register_scalar(alloc, "String", ScalarRule::Text)?;
+        types.register_scalar(alloc, "Boolean", ScalarRule::Bool)?;
+        types.register_scalar(alloc, "ID", ScalarRule::Id)?;
+        match first_refusal(alloc, &types)? {
+            Some(error) => Ok(Err(error)),
+            None => Ok(Ok(types)),
+        }
+    }
+
+    fn register_scalar(&mut self, alloc: Global, name: &str, rule: ScalarRule) -> Made<()>
+        ensures { OnOk result (types_of self.new ≡ with_scalar (types_of self.old) name.now rule) }
+    {
+        let scalar = Scalar::new(alloc, name)?.rule(rule);
+        self.register(alloc, SchemaType::Scalar(scalar))
     }
 }
 
