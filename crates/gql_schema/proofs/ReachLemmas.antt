@@ -101,7 +101,7 @@ from_all x ns (n ∷ xs) there =
     elim (from_all x (with_name ns n) xs there) [
       | inl h ↦ elim (from-one x n ns h) [
         | inl old ↦ inl old
-        | inr new ↦ inr (elim (or-either (bytes_eq x n) false new) [ inl same ↦ or-left (bytes_eq x n) _ same | inr no ↦ absurd (never no) ])
+        | inr new ↦ inr (elim (or-either (bytes_eq x n) false new) [ inl same ↦ or-left (bytes_eq x n) _ same | inr nothing ↦ absurd (never nothing) ])
       ]
       | inr h ↦ inr (or-right (bytes_eq x n) _ h)
     ]
@@ -153,9 +153,9 @@ module _ (table : TypeTable) (start : List ℕ) where
   pub walk_starts : (reached : List (List ℕ)) → reached ≡ with_names [] (needed_by table start) → IsWalk table start reached 0
   walk_starts reached made = rw made (record {
     within = omega arith;
-    sound = λ x h. elim (from_all x [] (needed_by table start) h) [ inl no ↦ absurd (none-among x no) | inr new ↦ at_once x new ];
+    sound = λ x h. elim (from_all x [] (needed_by table start) h) [ inl nothing ↦ absurd (none-among x nothing) | inr new ↦ at_once x new ];
     first = λ x h. added_all x [] (needed_by table start) h;
-    closed = λ y x no h. absurd (none-among y no);
+    closed = λ y x nothing h. absurd (none-among y nothing);
   })
 
   pub walk_goes : (reached more : List (List ℕ)) (next : ℕ) (name : List ℕ) → IsWalk table start reached next → slice_get reached next ≡ Some name
@@ -182,8 +182,8 @@ module _ (table : TypeTable) (start : List ℕ) where
 
   reached-all : (reached : List (List ℕ)) (next : ℕ) → IsWalk table start reached next → take next reached ≡ reached → (x : List ℕ) → Reaches table start x
       → is_among x reached ≡ true
-  reached-all reached next walk whole x (at_once x need) = walk.first x need
-  reached-all reached next walk whole x (further via x before need) =
+  reached-all reached next walk whole _ (at_once x need) = walk.first x need
+  reached-all reached next walk whole _ (further via x before need) =
       walk.closed via x (ap (is_among via) whole ∙ reached-all reached next walk whole via before) need
 
   pub walk_tells : (reached : List (List ℕ)) (next : ℕ) (result : Bool) → IsWalk table start reached next → length reached ≤ next → result ≡ is_among start reached

@@ -1,5 +1,5 @@
 -- Sound tables, and the first refusal of another. The places of a table are taken in the order of the registration of their types.
-use Rattle.std.specs.Prelude.{◌≡◌, ◌↔◌, ℕ, ◌<◌, Bool, IsTrue, List, [], Option, Some, None, codes, length, slice_get}
+use Rattle.std.specs.Prelude.{◌≡◌, ℕ, ◌<◌, Bool, true, List, [], Option, Some, None, codes, length, slice_get}
 use Rattle.std.specs.Bool.{Decides}
 use Rattle.std.specs.List.{filter_map}
 use Rattle.gql_base.specs.Pairs.{under, put, values_of}
