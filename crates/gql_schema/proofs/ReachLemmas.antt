@@ -1,5 +1,5 @@
 -- Walks over the input objects that others need.
-use Rattle.std.proofs.Common.{◌≡◌, ◌⊎◌, inl, inr, ℕ, zero, suc, ◌+◌, ◌≤◌, ◌<◌, Bool, true, false, ◌||◌, ◌&&◌, not, cond, List, [], ◌∷◌, ◌++◌, map, take, length, Option, Some, None, slice_get, refl, ap, sym, ◌∙◌, add-one, arith, length-append, append-nil, append_assoc}
+use Rattle.std.proofs.Common.{◌≡◌, ◌⊎◌, inl, inr, ℕ, zero, suc, ◌+◌, ◌-◌, ◌≤◌, ◌<◌, Bool, true, false, ◌||◌, ◌&&◌, not, cond, List, [], ◌∷◌, ◌++◌, map, take, length, Option, Some, None, slice_get, refl, ap, sym, ◌∙◌, add-one, arith, length-append, append-nil, append_assoc}
 use Rattle.std.proofs.lemmas.List.{take-append-le, take_all}
 use Rattle.std.specs.List.{list_any, filter_map, flat_map}
 use Rattle.std.specs.Str.{bytes_eq}
@@ -255,3 +255,10 @@ spent us ns (n ∷ xs) within =
     let one = spent-one us ns n (within n (or-left (bytes_eq n n) _ ((bytes_decides n n).1 refl))) in
     let rest = spent us (with_name ns n) xs (λ x h. within x (or-right (bytes_eq x n) _ h)) in
     omega (arith, one, rest)
+
+-- the walk ends: what is missing and what is to be entered falls
+pub walk_ends : (table : TypeTable) (reached more : List (List ℕ)) (next : ℕ) (name : List ℕ) → more ≡ with_names reached (needed_by table name)
+    → next < length reached → (missing (all_needed table) more + length more) - (next + 1) < (missing (all_needed table) reached + length reached) - next
+walk_ends table reached more next name made inside =
+    let fewer = spent (all_needed table) reached (needed_by table name) (λ x h. needed_within table name x h) in
+    rw made (omega (arith, fewer))

@@ -115,8 +115,9 @@ fn check_member(alloc: Global, types: &Types, union_type: &Union, name: &str) ->
 fn check_union(alloc: Global, types: &Types, union_type: &Union) -> Made<Option<SchemaError>>
     ensures { IfOk result (λ found. found ≡ members_fault (types_of types.now) union_type.now) }
 {
-    for place in 0..union_type.members().len() {
-        let name = union_type.members().at(place);
+    let members = union_type.members();
+    for place in 0..members.len() {
+        let name = members.at(place);
         let found = check_member(alloc, types, union_type, name)?;
         if found.is_some() {
             return Ok(found);
