@@ -117,7 +117,7 @@ grows ns (n ∷ xs) =
     (elim (is_among n ns) as P [
       | true ↦ λ ms same. let (rest, is) = grows ms xs in (rest, is ∙ ap (λ l. l ++ rest) same)
       | false ↦ λ ms same. let (rest, is) = grows ms xs in
-        (n ∷ rest, is ∙ ap (λ l. l ++ rest) same ∙ append_assoc ns (n ∷ []) rest)
+          (n ∷ rest, is ∙ ap (λ l. l ++ rest) same ∙ append_assoc ns (n ∷ []) rest)
     ]) (with_name ns n) refl
 
 -- a walk: the names that were reached, of which the first have been entered
@@ -173,11 +173,11 @@ module _ (table : TypeTable) (start : List ℕ) where
         ];
         first = λ x h. kept_all x reached (needed_by table name) (walk.first x h);
         closed = λ y x there h.
-          let here : is_among y (take (suc next) reached) ≡ true = ap (is_among y) (sym front) ∙ there in
-          elim (among-more reached next name y at here) [
-            | inl old ↦ kept_all x reached (needed_by table name) (walk.closed y x old h)
-            | inr same ↦ added_all x reached (needed_by table name) (ap (λ n. is_among x (needed_by table n)) (sym same) ∙ h)
-          ];
+            let here : is_among y (take (suc next) reached) ≡ true = ap (is_among y) (sym front) ∙ there in
+            elim (among-more reached next name y at here) [
+              | inl old ↦ kept_all x reached (needed_by table name) (walk.closed y x old h)
+              | inr same ↦ added_all x reached (needed_by table name) (ap (λ n. is_among x (needed_by table n)) (sym same) ∙ h)
+            ];
       })
 
   reached-all : (reached : List (List ℕ)) (next : ℕ) → IsWalk table start reached next → take next reached ≡ reached → (x : List ℕ) → Reaches table start x
@@ -229,14 +229,14 @@ missing-fewer (u ∷ us) ns n there fresh =
     let P : Bool → Type 0 = λ b. (b ≡ true → n ≡ u) → (b || is_among n us) ≡ true → suc (missing (u ∷ us) (ns ++ n ∷ [])) ≤ missing (u ∷ us) ns in
     (elim (bytes_eq n u) as P [
       | true ↦ λ same h.
-        let there : is_among u (ns ++ n ∷ []) ≡ true = among-append u ns (n ∷ []) ∙ or-right (is_among u ns) _ (or-left (bytes_eq u n) _ ((bytes_decides u n).1 (sym (same refl)))) in
-        let absent : is_among u ns ≡ false = ap (λ m. is_among m ns) (sym (same refl)) ∙ fresh in
-        let rest = missing-less us ns n in
-        rw (there, absent) (omega (arith, rest))
+          let there : is_among u (ns ++ n ∷ []) ≡ true = among-append u ns (n ∷ []) ∙ or-right (is_among u ns) _ (or-left (bytes_eq u n) _ ((bytes_decides u n).1 (sym (same refl)))) in
+          let absent : is_among u ns ≡ false = ap (λ m. is_among m ns) (sym (same refl)) ∙ fresh in
+          let rest = missing-less us ns n in
+          rw (there, absent) (omega (arith, rest))
       | false ↦ λ same h.
-        let rest = missing-fewer us ns n h fresh in
-        let here : cond (is_among u (ns ++ n ∷ [])) 0 1 ≤ cond (is_among u ns) 0 1 = rw (among-append u ns (n ∷ [])) (missing-one (is_among u ns) (is_among u (n ∷ []))) in
-        omega (arith, rest, here)
+          let rest = missing-fewer us ns n h fresh in
+          let here : cond (is_among u (ns ++ n ∷ [])) 0 1 ≤ cond (is_among u ns) 0 1 = rw (among-append u ns (n ∷ [])) (missing-one (is_among u ns) (is_among u (n ∷ []))) in
+          omega (arith, rest, here)
     ]) (bytes_decides n u).0 there
 
 spent-one : (us ns : List (List ℕ)) (n : List ℕ) → is_among n us ≡ true → missing us (with_name ns n) + length (with_name ns n) ≤ missing us ns + length ns

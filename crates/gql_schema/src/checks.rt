@@ -29,7 +29,14 @@ fn check_object_fields(alloc: Global, types: &Types, object: &Object) -> Made<Op
 {
     for place in 0..object.len() {
         let (_, field) = object.at(place);
-        let found = check_field(alloc, types, object.type_name(), field.name(), field.ty(), field.arguments())?;
+        let found = check_field(
+            alloc,
+            types,
+            object.type_name(),
+            field.name(),
+            field.ty(),
+            field.arguments(),
+        )?;
         if found.is_some() {
             return Ok(found);
         }
@@ -66,7 +73,14 @@ fn check_interface(alloc: Global, types: &Types, interface: &Interface) -> Made<
 {
     for place in 0..interface.len() {
         let (_, field) = interface.at(place);
-        let found = check_field(alloc, types, interface.type_name(), field.name(), field.ty(), field.arguments())?;
+        let found = check_field(
+            alloc,
+            types,
+            interface.type_name(),
+            field.name(),
+            field.ty(),
+            field.arguments(),
+        )?;
         if found.is_some() {
             return Ok(found);
         }
@@ -75,12 +89,23 @@ fn check_interface(alloc: Global, types: &Types, interface: &Interface) -> Made<
 }
 
 /// The first fault of a subscription's fields.
-fn check_subscription(alloc: Global, types: &Types, subscription: &Subscription) -> Made<Option<SchemaError>>
+fn check_subscription(
+    alloc: Global,
+    types: &Types,
+    subscription: &Subscription,
+) -> Made<Option<SchemaError>>
     ensures { IfOk result (λ found. found ≡ event_fields_fault (types_of types.now) subscription.now) }
 {
     for place in 0..subscription.len() {
         let (_, field) = subscription.at(place);
-        let found = check_field(alloc, types, subscription.type_name(), field.name(), field.ty(), field.arguments())?;
+        let found = check_field(
+            alloc,
+            types,
+            subscription.type_name(),
+            field.name(),
+            field.ty(),
+            field.arguments(),
+        )?;
         if found.is_some() {
             return Ok(found);
         }
@@ -98,7 +123,12 @@ fn is_some_object(ty: Option<&SchemaType>) -> bool
     }
 }
 
-fn check_member(alloc: Global, types: &Types, union_type: &Union, name: &str) -> Made<Option<SchemaError>>
+fn check_member(
+    alloc: Global,
+    types: &Types,
+    union_type: &Union,
+    name: &str,
+) -> Made<Option<SchemaError>>
     ensures { IfOk result (λ found. found ≡ member_fault (types_of types.now) union_type.now name.now) }
 {
     if let Some(fault) = check_name(alloc, types, name)? {
@@ -108,7 +138,14 @@ fn check_member(alloc: Global, types: &Types, union_type: &Union, name: &str) ->
         return Ok(None);
     }
     let member = text_around(alloc, "\" has member \"", name, "\" that is no object")?;
-    fault_where(alloc, true, 6, "Union \"", union_type.type_name(), member.as_str())
+    fault_where(
+        alloc,
+        true,
+        6,
+        "Union \"",
+        union_type.type_name(),
+        member.as_str(),
+    )
 }
 
 /// The first fault of a union's members.
@@ -131,16 +168,35 @@ fn check_oneof(alloc: Global, input: &InputObject, field: &InputValue) -> Made<O
 {
     let path = join_names(alloc, input.type_name(), field.name())?;
     let required = input.is_oneof() && !field.ty().is_nullable();
-    match fault_where(alloc, required, 4, "Field \"", path.as_str(), "\" must be nullable")? {
+    match fault_where(
+        alloc,
+        required,
+        4,
+        "Field \"",
+        path.as_str(),
+        "\" must be nullable",
+    )? {
         Some(fault) => Ok(Some(fault)),
         None => {
             let given = input.is_oneof() && field.default().is_some();
-            fault_where(alloc, given, 4, "Field \"", path.as_str(), "\" must not have a default value")
+            fault_where(
+                alloc,
+                given,
+                4,
+                "Field \"",
+                path.as_str(),
+                "\" must not have a default value",
+            )
         }
     }
 }
 
-fn check_input_rest(alloc: Global, types: &Types, input: &InputObject, field: &InputValue) -> Made<Option<SchemaError>>
+fn check_input_rest(
+    alloc: Global,
+    types: &Types,
+    input: &InputObject,
+    field: &InputValue,
+) -> Made<Option<SchemaError>>
     ensures { IfOk result (λ found. found ≡ option_or (oneof_fault input.now field.now) (default_fault (types_of types.now) (input_object_name input.now) field.now)) }
 {
     match check_oneof(alloc, input, field)? {
@@ -149,7 +205,12 @@ fn check_input_rest(alloc: Global, types: &Types, input: &InputObject, field: &I
     }
 }
 
-fn check_input_field(alloc: Global, types: &Types, input: &InputObject, field: &InputValue) -> Made<Option<SchemaError>>
+fn check_input_field(
+    alloc: Global,
+    types: &Types,
+    input: &InputObject,
+    field: &InputValue,
+) -> Made<Option<SchemaError>>
     ensures { IfOk result (λ found. found ≡ input_field_fault (types_of types.now) input.now field.now) }
 {
     match check_input(alloc, types, field.ty())? {
@@ -159,7 +220,11 @@ fn check_input_field(alloc: Global, types: &Types, input: &InputObject, field: &
 }
 
 /// The first fault of an input object's fields.
-fn check_input_fields(alloc: Global, types: &Types, input: &InputObject) -> Made<Option<SchemaError>>
+fn check_input_fields(
+    alloc: Global,
+    types: &Types,
+    input: &InputObject,
+) -> Made<Option<SchemaError>>
     ensures { IfOk result (λ found. found ≡ input_fields_fault (types_of types.now) input.now) }
 {
     for place in 0..input.len() {
@@ -173,17 +238,34 @@ fn check_input_fields(alloc: Global, types: &Types, input: &InputObject) -> Made
 }
 
 /// The first fault of an input object, of which it is known whether it contains itself.
-fn check_input_object(alloc: Global, types: &Types, contains: bool, input: &InputObject) -> Made<Option<SchemaError>>
+fn check_input_object(
+    alloc: Global,
+    types: &Types,
+    contains: bool,
+    input: &InputObject,
+) -> Made<Option<SchemaError>>
     ensures { IfOk result (λ found. found ≡ option_or (self_containing_fault contains (input_object_name input.now)) (input_fields_fault (types_of types.now) input.now)) }
 {
-    match fault_where(alloc, contains, 7, "Input object \"", input.type_name(), "\" contains itself")? {
+    match fault_where(
+        alloc,
+        contains,
+        7,
+        "Input object \"",
+        input.type_name(),
+        "\" contains itself",
+    )? {
         Some(fault) => Ok(Some(fault)),
         None => check_input_fields(alloc, types, input),
     }
 }
 
 /// The first fault of the parts of a type, of which it is known whether it contains itself.
-fn check_parts(alloc: Global, types: &Types, contains: bool, ty: &SchemaType) -> Made<Option<SchemaError>>
+fn check_parts(
+    alloc: Global,
+    types: &Types,
+    contains: bool,
+    ty: &SchemaType,
+) -> Made<Option<SchemaError>>
     ensures { IfOk result (λ found. found ≡ parts_fault (types_of types.now) contains ty.now) }
 {
     match ty {
@@ -196,7 +278,12 @@ fn check_parts(alloc: Global, types: &Types, contains: bool, ty: &SchemaType) ->
     }
 }
 
-fn check_known(alloc: Global, types: &Types, contains: bool, ty: &SchemaType) -> Made<Option<SchemaError>>
+fn check_known(
+    alloc: Global,
+    types: &Types,
+    contains: bool,
+    ty: &SchemaType,
+) -> Made<Option<SchemaError>>
     ensures { IfOk result (λ found. found ≡ fault_of (types_of types.now) contains ty.now) }
 {
     match check_support(alloc, ty.name())? {

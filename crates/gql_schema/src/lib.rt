@@ -48,3 +48,6 @@ pub use subscription::Subscription;
 pub use subscription_field::SubscriptionField;
 pub use types::Types;
 pub use union::Union;
+
+#[cfg(test)]
+mod tests;

@@ -19,7 +19,14 @@ use std::alloc::Global;
 pub fn check_support(alloc: Global, name: &str) -> Made<Option<SchemaError>>
     ensures { IfOk result (λ found. found ≡ unsupported_fault name.now) }
 {
-    fault_where(alloc, has_no_support(name), 8, "Type \"", name, "\" is not supported")
+    fault_where(
+        alloc,
+        has_no_support(name),
+        8,
+        "Type \"",
+        name,
+        "\" is not supported",
+    )
 }
 
 /// The first fault of a name that is used as a type's.
@@ -28,7 +35,14 @@ pub fn check_name(alloc: Global, types: &Types, name: &str) -> Made<Option<Schem
 {
     match check_support(alloc, name)? {
         Some(fault) => Ok(Some(fault)),
-        None => fault_where(alloc, !types.get(name).is_some(), 1, "Type \"", name, "\" not found"),
+        None => fault_where(
+            alloc,
+            !types.get(name).is_some(),
+            1,
+            "Type \"",
+            name,
+            "\" not found",
+        ),
     }
 }
 
@@ -36,7 +50,14 @@ pub fn check_name(alloc: Global, types: &Types, name: &str) -> Made<Option<Schem
 pub fn check_place(alloc: Global, misplaced: bool, name: &str) -> Made<Option<SchemaError>>
     ensures { IfOk result (λ found. found ≡ misplaced_fault misplaced name.now) }
 {
-    fault_where(alloc, misplaced, 2, "Type \"", name, "\" cannot be used here")
+    fault_where(
+        alloc,
+        misplaced,
+        2,
+        "Type \"",
+        name,
+        "\" cannot be used here",
+    )
 }
 
 fn check_doubled(alloc: Global, ty: &TypeRef) -> Made<Option<SchemaError>>
@@ -46,7 +67,14 @@ fn check_doubled(alloc: Global, ty: &TypeRef) -> Made<Option<SchemaError>>
         return Ok(None);
     }
     let text = ty.text(alloc)?;
-    fault_where(alloc, true, 3, "Type \"", text.as_str(), "\" is doubly non-null")
+    fault_where(
+        alloc,
+        true,
+        3,
+        "Type \"",
+        text.as_str(),
+        "\" is doubly non-null",
+    )
 }
 
 fn check_kind(alloc: Global, misplaced: bool, ty: &TypeRef) -> Made<Option<SchemaError>>
@@ -89,7 +117,12 @@ pub fn check_input(alloc: Global, types: &Types, ty: &TypeRef) -> Made<Option<Sc
 }
 
 /// The fault of a default that doesn't fit. The owner is the path of what has the argument or the field.
-pub fn check_default(alloc: Global, types: &Types, owner: &str, input: &InputValue) -> Made<Option<SchemaError>>
+pub fn check_default(
+    alloc: Global,
+    types: &Types,
+    owner: &str,
+    input: &InputValue,
+) -> Made<Option<SchemaError>>
     ensures { IfOk result (λ found. found ≡ default_fault (types_of types.now) owner.now input.now) }
 {
     match input.default() {
@@ -99,12 +132,24 @@ pub fn check_default(alloc: Global, types: &Types, owner: &str, input: &InputVal
                 return Ok(None);
             }
             let path = join_names(alloc, owner, input.name())?;
-            fault_where(alloc, true, 9, "Default of \"", path.as_str(), "\" does not fit")
+            fault_where(
+                alloc,
+                true,
+                9,
+                "Default of \"",
+                path.as_str(),
+                "\" does not fit",
+            )
         }
     }
 }
 
-fn check_argument(alloc: Global, types: &Types, owner: &str, input: &InputValue) -> Made<Option<SchemaError>>
+fn check_argument(
+    alloc: Global,
+    types: &Types,
+    owner: &str,
+    input: &InputValue,
+) -> Made<Option<SchemaError>>
     ensures { IfOk result (λ found. found ≡ argument_fault (types_of types.now) owner.now input.now) }
 {
     match check_input(alloc, types, input.ty())? {
@@ -113,7 +158,12 @@ fn check_argument(alloc: Global, types: &Types, owner: &str, input: &InputValue)
     }
 }
 
-fn check_arguments(alloc: Global, types: &Types, owner: &str, arguments: &ByName<InputValue>) -> Made<Option<SchemaError>>
+fn check_arguments(
+    alloc: Global,
+    types: &Types,
+    owner: &str,
+    arguments: &ByName<InputValue>,
+) -> Made<Option<SchemaError>>
     ensures { IfOk result (λ found. found ≡ arguments_fault (types_of types.now) owner.now arguments.now) }
 {
     for place in 0..arguments.len() {

@@ -74,18 +74,41 @@ fn keeps_promise(types: &Types, promised: &InterfaceField, field: Option<&Field>
     }
 }
 
-fn check_promise(alloc: Global, types: &Types, object: &Object, interface: &Interface, promised: &InterfaceField) -> Made<Option<SchemaError>>
+fn check_promise(
+    alloc: Global,
+    types: &Types,
+    object: &Object,
+    interface: &Interface,
+    promised: &InterfaceField,
+) -> Made<Option<SchemaError>>
     ensures { IfOk result (λ found. found ≡ promise_fault (types_of types.now) object.now interface.now promised.now) }
 {
     if keeps_promise(types, promised, object.get(promised.name())) {
         return Ok(None);
     }
     let field = text_around(alloc, "\" at field \"", promised.name(), "\"")?;
-    let promise = text_around(alloc, "\" does not satisfy interface \"", interface.type_name(), field.as_str())?;
-    fault_where(alloc, true, 5, "Object \"", object.type_name(), promise.as_str())
+    let promise = text_around(
+        alloc,
+        "\" does not satisfy interface \"",
+        interface.type_name(),
+        field.as_str(),
+    )?;
+    fault_where(
+        alloc,
+        true,
+        5,
+        "Object \"",
+        object.type_name(),
+        promise.as_str(),
+    )
 }
 
-fn check_promises(alloc: Global, types: &Types, object: &Object, interface: &Interface) -> Made<Option<SchemaError>>
+fn check_promises(
+    alloc: Global,
+    types: &Types,
+    object: &Object,
+    interface: &Interface,
+) -> Made<Option<SchemaError>>
     ensures { IfOk result (λ found. found ≡ interface_promises_fault (types_of types.now) object.now interface.now) }
 {
     for place in 0..interface.len() {
@@ -98,7 +121,13 @@ fn check_promises(alloc: Global, types: &Types, object: &Object, interface: &Int
     Ok(None)
 }
 
-fn check_implemented_type(alloc: Global, types: &Types, object: &Object, name: &str, ty: Option<&SchemaType>) -> Made<Option<SchemaError>>
+fn check_implemented_type(
+    alloc: Global,
+    types: &Types,
+    object: &Object,
+    name: &str,
+    ty: Option<&SchemaType>,
+) -> Made<Option<SchemaError>>
     ensures { IfOk result (λ found. found ≡ promises_fault (types_of types.now) object.now name.now (option_copied ty.entry)) }
 {
     match ty {
@@ -108,7 +137,12 @@ fn check_implemented_type(alloc: Global, types: &Types, object: &Object, name: &
 }
 
 /// The first fault of an interface that an object says it implements.
-pub fn check_implemented(alloc: Global, types: &Types, object: &Object, name: &str) -> Made<Option<SchemaError>>
+pub fn check_implemented(
+    alloc: Global,
+    types: &Types,
+    object: &Object,
+    name: &str,
+) -> Made<Option<SchemaError>>
     ensures { IfOk result (λ found. found ≡ implemented_fault (types_of types.now) object.now name.now) }
 {
     match check_name(alloc, types, name)? {

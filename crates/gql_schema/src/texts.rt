@@ -25,7 +25,14 @@ pub fn join_names(alloc: Global, owner: &str, name: &str) -> Made<Text>
 }
 
 /// The fault by a rule, where it is broken, with the text of a name between two texts.
-pub fn fault_where(alloc: Global, broken: bool, rule: u8, front: &str, name: &str, back: &str) -> Made<Option<SchemaError>>
+pub fn fault_where(
+    alloc: Global,
+    broken: bool,
+    rule: u8,
+    front: &str,
+    name: &str,
+    back: &str,
+) -> Made<Option<SchemaError>>
     ensures { IfOk result (λ found. found ≡ fault_if broken rule (around front.now name.now back.now)) }
 {
     if !broken {
