@@ -10,24 +10,22 @@ pub(crate) fn one_word(alloc: Global, word: &str) -> Made<Vec<String>> {
     Ok(words)
 }
 
-/// Whether a command ends with this status and this text on an input, of which a hundred bytes are given at once. Seven are
-/// taken at once.
+/// Whether a command ends with this status and this text on a source. Seven bytes of the text are taken at once.
 pub(crate) fn ends_with(
     alloc: Global,
     command: &str,
-    input: Items<u8>,
+    mut source: SureSource,
     status: u8,
     text: &str,
 ) -> Made<bool> {
     let words = one_word(alloc, command)?;
-    let mut source = SureSource::new(input, 100);
     let mut sink = SureSink::new(alloc, 7);
     let mut tables = TableMaker::new();
     let ended = run_alone(alloc, words.as_slice(), &mut source, &mut sink, &mut tables);
     Ok(ended == status && sink.held() == text.as_bytes())
 }
 
-/// The same of a text.
+/// The same of a text, of which a hundred bytes are given at once.
 pub(crate) fn text_ends_with(
     alloc: Global,
     command: &str,
@@ -36,7 +34,7 @@ pub(crate) fn text_ends_with(
     text: &str,
 ) -> Made<bool> {
     let bytes = Items::from_slice(alloc, input.as_bytes())?;
-    ends_with(alloc, command, bytes, status, text)
+    ends_with(alloc, command, SureSource::new(bytes, 100), status, text)
 }
 
 /// A bench of an object type with these fields, and this request and turns.

@@ -1,6 +1,6 @@
 //! Whole runs, over memory and over a pipe.
 use crate::runs::{bench_text, ends_with, one_word, text_ends_with};
-use crate::{MemorySink, MemorySource, StdSink, StdSource, TableMaker, run, run_alone};
+use crate::{MemorySink, MemorySource, StdSink, StdSource, SureSource, TableMaker, run, run_alone};
 use gql_base::{Items, Made};
 use std::alloc::Global;
 use std::io::{Read, Write, pipe};
@@ -9,7 +9,8 @@ use std::test::Fail;
 /// Whether an input of this many blanks ends so.
 fn blanks_end_with(alloc: Global, count: usize, status: u8, line: &str) -> Made<bool> {
     let blanks = vec![in alloc; b' '; count]?;
-    ends_with(alloc, "execute", Items::from_vec(blanks), status, line)
+    let source = SureSource::new(Items::from_vec(blanks), 100_000);
+    ends_with(alloc, "execute", source, status, line)
 }
 
 #[test]
