@@ -30,7 +30,7 @@ module _ {O P F X : Type 0} (reading : Reading O F X) (pos : F → Pos) (outcome
       tree = filled_same (pos f) b c (outcome o p f).shape (λ inner parent at. same inner parent (is.objects_are_possible o p f inner at)) i;
     };
     joins = λ o p f g b c alike.
-      ap (λ a. join (place_with (pos f) (outcome o p f) b) (place_with (pos g) a c)) (is.outcome_of_alike o p f g alike)
-      ∙ placed_both (pos f) (pos g) (outcome o p f) b c
-      ∙ sym (λ i. place_with (is.pos_of_both f g i) (is.outcome_of_both o p f g i) (λ inner parent. unite_all join (b inner parent) (c inner parent)));
+        ap (λ a. join (place_with (pos f) (outcome o p f) b) (place_with (pos g) a c)) (is.outcome_of_alike o p f g alike)
+        ∙ placed_both (pos f) (pos g) (outcome o p f) b c
+        ∙ sym (λ i. place_with (is.pos_of_both f g i) (is.outcome_of_both o p f g i) (λ inner parent. unite_all join (b inner parent) (c inner parent)));
   }

@@ -65,7 +65,7 @@ module _ {O P : Type 0} (one other : Pos) (b c : O → P → List (List ℕ × P
   filled_both =
       ind-Shape O P (λ s. join_trees (fill one b s) (fill other c s) ≡ fill one all s)
       (λ x y is. subst (λ z. join_trees (fill one b (roll-Shape O P z)) (fill other c (roll-Shape O P z)) ≡ fill one all (roll-Shape O P z)) is
-        (layer _ (λ e. e.0) (λ e. e.1) y))
+      (layer _ (λ e. e.0) (λ e. e.1) y))
 
 module _ {O P : Type 0} (pos : Pos) (b c : O → P → List (List ℕ × Place)) where
   -- the members of each of these objects are the same
@@ -104,4 +104,4 @@ module _ {O P : Type 0} (pos : Pos) (b c : O → P → List (List ℕ × Place))
   filled_same =
       ind-Shape O P (λ s. Same (objects_in s) → fill pos b s ≡ fill pos c s)
       (λ x y is. subst (λ z. Same (objects_in (roll-Shape O P z)) → fill pos b (roll-Shape O P z) ≡ fill pos c (roll-Shape O P z)) is
-        (same_layer _ (λ e. e.0) (λ e. e.1) y))
+      (same_layer _ (λ e. e.0) (λ e. e.1) y))

@@ -43,7 +43,7 @@ module _ {P : Type 0} (known : List ℕ → Value) (setting : Setting) (declared
     pos_of_both = λ f g. refl;
     outcome_of_both = λ o p f g. asked_same o p f (both f g) (name_of_both f g) (λ declarations. ap (constants known declarations) (arguments_of_both f g));
     outcome_of_alike = λ o p f g same. let h = alike_says f g same in
-      asked_same o p f g (sym h.0) (λ declarations. constants_same known declarations (arguments_of g) (arguments_of f) (λ name. sym (h.1 name)));
+        asked_same o p f g (sym h.0) (λ declarations. constants_same known declarations (arguments_of g) (arguments_of f) (λ name. sym (h.1 name)));
     objects_are_possible = λ o p f inner at. fitting o p (name_of f) (constants known (declared o (name_of f)) (arguments_of f)) inner at;
   }
 

@@ -166,9 +166,9 @@ next_fault xs i x path old grown new at within before step =
     let long : length (map faults_at (take i xs)) ≡ i = length-map (take i xs) faults_at ∙ taken-long xs i within in
     let more : item_faults (take (i + 1) xs) path ≡ item_faults (take i xs) path ++ faults_at x (path ++ Index i ∷ [])
     = ap (λ ys. beneath_items 0 (map faults_at ys) path) (next_item xs i x at)
-      ∙ ap (λ ys. beneath_items 0 ys path) (map_end faults_at (take i xs) x)
-      ∙ items_end 0 (map faults_at (take i xs)) (faults_at x) path
-      ∙ ap (λ k. item_faults (take i xs) path ++ faults_at x (path ++ Index k ∷ [])) (let e : 0 + length (map faults_at (take i xs)) ≡ i = omega arith in e) in
+    ∙ ap (λ ys. beneath_items 0 ys path) (map_end faults_at (take i xs) x)
+    ∙ items_end 0 (map faults_at (take i xs)) (faults_at x) path
+    ∙ ap (λ k. item_faults (take i xs) path ++ faults_at x (path ++ Index k ∷ [])) (let e : 0 + length (map faults_at (take i xs)) ≡ i = omega arith in e) in
     step ∙ ap (λ g. g ++ faults_at x (path ++ Index i ∷ [])) before
     ∙ append_assoc old (item_faults (take i xs) path) (faults_at x (path ++ Index i ∷ [])) ∙ ap (λ rest. old ++ rest) (sym more)
 
@@ -180,9 +180,10 @@ pub member_preserved : (ms : List (List ℕ × Place)) (i : ℕ) (m : List ℕ �
     → MatchOption popped ((behind ≡ []) × (after ≡ [])) (λ last. behind ≡ after ++ last ∷ [])
     → (new ≡ old ++ member_faults (take (i + 1) ms) path) × (after ≡ path)
 member_preserved ms i m path now pushed behind after key old grown new popped at (before, here) named entered step stays left =
-    let there : pushed ≡ path ++ Field m.0 ∷ [] = entered ∙ (λ j. here j ++ Field (named j) ∷ []) in
-    (next_member ms i m path old grown new at before (step ∙ ap (λ p. grown ++ faults_at m.1 p) there)
-    , back path behind after (Field m.0) popped (stays ∙ there) left)
+    let there : pushed ≡ path ++ Field m.0 ∷ [] = entered ∙ (λ j. here j ++ Field (named j) ∷ []) in (
+      next_member ms i m path old grown new at before (step ∙ ap (λ p. grown ++ faults_at m.1 p) there),
+      back path behind after (Field m.0) popped (stays ∙ there) left,
+    )
 
 pub item_preserved : (xs : List Place) (i : ℕ) (x : Place) (path now pushed behind after : List PathSegment) (old grown new : List ServerError)
     (popped : Option PathSegment) → slice_get xs i ≡ Some x → i < length xs → (grown ≡ old ++ item_faults (take i xs) path) × (now ≡ path)
@@ -190,6 +191,7 @@ pub item_preserved : (xs : List Place) (i : ℕ) (x : Place) (path now pushed be
     → MatchOption popped ((behind ≡ []) × (after ≡ [])) (λ last. behind ≡ after ++ last ∷ [])
     → (new ≡ old ++ item_faults (take (i + 1) xs) path) × (after ≡ path)
 item_preserved xs i x path now pushed behind after old grown new popped at within (before, here) entered step stays left =
-    let there : pushed ≡ path ++ Index i ∷ [] = entered ∙ (λ j. here j ++ Index i ∷ []) in
-    (next_fault xs i x path old grown new at within before (step ∙ ap (λ p. grown ++ faults_at x p) there)
-    , back path behind after (Index i) popped (stays ∙ there) left)
+    let there : pushed ≡ path ++ Index i ∷ [] = entered ∙ (λ j. here j ++ Index i ∷ []) in (
+      next_fault xs i x path old grown new at within before (step ∙ ap (λ p. grown ++ faults_at x p) there),
+      back path behind after (Index i) popped (stays ∙ there) left,
+    )

@@ -17,4 +17,4 @@ module _ {O P F X : Type 0} (reading : Reading O F X) (pos : F → Pos) (outcome
     pub outcome_of_both : (object : O) (parent : P) (f g : F) → outcome object parent (reading.both f g) ≡ outcome object parent f
     pub outcome_of_alike : (object : O) (parent : P) (f g : F) → reading.alike f g ≡ true → outcome object parent g ≡ outcome object parent f
     pub objects_are_possible : (object : O) (parent : P) (f : F) (inner : O) → Contains (objects_in (outcome object parent f).shape) inner
-      → Contains (reading.objects object f) inner
+        → Contains (reading.objects object f) inner

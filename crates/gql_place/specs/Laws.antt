@@ -55,6 +55,6 @@ DocumentsApartAreMerged P E =
     (answer : List ℕ → P → List ℕ → List (List ℕ × Value) → Outcome (List ℕ) P) → AreFitting known setting declared answer
     → (told : Positioned Field → E) (n : ℕ) (o : List ℕ) (p : P) (set : List (Positioned Selection)) → conflicts (reading setting) told n o set ≡ []
     → respond (reading (kept_setting known setting)) (answered (reading (kept_setting known setting)) (λ f. f.pos) (outcome_of known setting declared answer))
-      join n o p (kept known set)
+    join n o p (kept known set)
     ≡ grouped (reading (kept_setting known setting)) (answered (reading (kept_setting known setting)) (λ f. f.pos) (outcome_of known setting declared answer))
-      n o p (kept known set)
+    n o p (kept known set)

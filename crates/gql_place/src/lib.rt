@@ -3,14 +3,14 @@
 #![tactic(auto)]
 
 pub mod laws;
-mod place_headers;
 mod place;
 mod place_faults;
+mod place_headers;
 mod raising;
 mod shape;
 
-pub use place_headers::header_ops;
 pub use place::{Place, Tree};
 pub use place_faults::faults;
+pub use place_headers::header_ops;
 pub use raising::raise;
 pub use shape::Shape;

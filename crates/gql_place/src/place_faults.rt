@@ -17,11 +17,22 @@ pub fn faults(alloc: Global, place: &Place) -> Made<Items<ServerError>>
 }
 
 #[cycle(faults)]
-fn push_place(alloc: Global, errors: &mut Items<ServerError>, path: &mut Items<PathSegment>, place: &Place) -> Made<()>
+fn push_place(
+    alloc: Global,
+    errors: &mut Items<ServerError>,
+    path: &mut Items<PathSegment>,
+    place: &Place,
+) -> Made<()>
     ensures found { OnOk result (errors.new ≡ errors.old ++ faults_at place.now path.old) }
     ensures path { OnOk result (path.new ≡ path.old) }
 {
-    push_added(alloc, errors, path.as_slice(), place.pos, place.added.as_slice())?;
+    push_added(
+        alloc,
+        errors,
+        path.as_slice(),
+        place.pos,
+        place.added.as_slice(),
+    )?;
     push_tree(alloc, errors, path, place.pos, &place.tree)
 }
 
@@ -49,7 +60,13 @@ fn copied_path(alloc: Global, path: &[PathSegment]) -> Made<Items<PathSegment>>
     Ok(copy)
 }
 
-fn push_added(alloc: Global, errors: &mut Items<ServerError>, path: &[PathSegment], pos: Pos, added: &[Error]) -> Made<()>
+fn push_added(
+    alloc: Global,
+    errors: &mut Items<ServerError>,
+    path: &[PathSegment],
+    pos: Pos,
+    added: &[Error],
+) -> Made<()>
     ensures { OnOk result (errors.new ≡ errors.old ++ map (located pos path.now) added.now) }
 {
     for error in added {
@@ -59,7 +76,13 @@ fn push_added(alloc: Global, errors: &mut Items<ServerError>, path: &[PathSegmen
 }
 
 #[cycle(faults)]
-fn push_tree(alloc: Global, errors: &mut Items<ServerError>, path: &mut Items<PathSegment>, pos: Pos, tree: &Tree) -> Made<()>
+fn push_tree(
+    alloc: Global,
+    errors: &mut Items<ServerError>,
+    path: &mut Items<PathSegment>,
+    pos: Pos,
+    tree: &Tree,
+) -> Made<()>
     ensures found { OnOk result (errors.new ≡ errors.old ++ tree_faults tree.now pos path.old) }
     ensures path { OnOk result (path.new ≡ path.old) }
 {
@@ -72,7 +95,12 @@ fn push_tree(alloc: Global, errors: &mut Items<ServerError>, path: &mut Items<Pa
 }
 
 #[cycle(faults)]
-fn push_members(alloc: Global, errors: &mut Items<ServerError>, path: &mut Items<PathSegment>, members: &Pairs<Place>) -> Made<()>
+fn push_members(
+    alloc: Global,
+    errors: &mut Items<ServerError>,
+    path: &mut Items<PathSegment>,
+    members: &Pairs<Place>,
+) -> Made<()>
     ensures found { OnOk result (errors.new ≡ errors.old ++ member_faults members.now path.old) }
     ensures path { OnOk result (path.new ≡ path.old) }
 {
@@ -86,7 +114,12 @@ fn push_members(alloc: Global, errors: &mut Items<ServerError>, path: &mut Items
 }
 
 #[cycle(faults)]
-fn push_items(alloc: Global, errors: &mut Items<ServerError>, path: &mut Items<PathSegment>, items: &[Place]) -> Made<()>
+fn push_items(
+    alloc: Global,
+    errors: &mut Items<ServerError>,
+    path: &mut Items<PathSegment>,
+    items: &[Place],
+) -> Made<()>
     ensures found { OnOk result (errors.new ≡ errors.old ++ item_faults items.now path.old) }
     ensures path { OnOk result (path.new ≡ path.old) }
 {

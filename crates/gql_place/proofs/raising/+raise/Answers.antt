@@ -47,5 +47,5 @@ member_values-returns t c =
     = take_all c.loop-place.place members (omega (arith, c.loop-place-test.false, c.len-place-end.ensures.length)) in
     let there : values_of_members members ≡ Some (zip (names_of members) c.loop-place.values.items)
     = members_there members (Some c.loop-place.values.items)
-      (ap (λ ms. all_items (map (λ (m : List ℕ × Place). value_of m.1) ms)) (sym all) ∙ c.loop-place.invariant) in
+    (ap (λ ms. all_items (map (λ (m : List ℕ × Place). value_of m.1) ms)) (sym all) ∙ c.loop-place.invariant) in
     ap Some c.in_ok-with_values.ensures ∙ sym there
