@@ -5,7 +5,6 @@ ghost use Rattle.gql_base.specs.ReadJson.{value_of};
 ghost use Rattle.gql_base.specs.Kinds.{is_null};
 ghost use Rattle.gql_base.specs.declared.value.Value.{Value};
 ghost use Rattle.gql_tokens.specs.Name.{IsName};
-ghost use Rattle.gql_tokens.specs.Characters.{is_name_start, is_name_part};
 ghost use Rattle.serde_json.specs.Data.{Data, string};
 ghost use Rattle.serde_json.specs.View.{view};
 ghost use Rattle.gql_cli.specs.FirstBench.{IsShaped, IsField, IsConstantAnswer, IsDelay, IsTurns, Takes, is_first_type, field_json, object_json, schema_json};
@@ -15,7 +14,7 @@ use crate::json_shape::{
     items_in, one_or_two_members, only_item, only_member, three_members, two_members,
     two_or_three_members,
 };
-use gql_base::{Items, Made, Name, Text, Value, from_json};
+use gql_base::{Items, Made, Name, Text, Value, from_json, is_name};
 use gql_engine::takes_value;
 use serde_json::Value as Json;
 use std::alloc::Global;
@@ -249,27 +248,4 @@ fn is_null(value: &Value) -> bool
     ensures { result ≡ is_null value.now }
 {
     matches!(value, Value::Null)
-}
-
-/// True exactly where a text is a name.
-fn is_name(text: &str) -> bool
-    ensures { IsTrue result ↔ IsName text.now }
-{
-    let bytes = text.as_bytes();
-    match bytes.first() {
-        None => false,
-        Some(first) => starts_name(*first) && bytes.iter().all(|byte| continues_name(*byte)),
-    }
-}
-
-fn starts_name(byte: u8) -> bool
-    ensures { result ≡ is_name_start byte }
-{
-    byte.is_ascii_alphabetic() || byte == b'_'
-}
-
-fn continues_name(byte: u8) -> bool
-    ensures { result ≡ is_name_part byte }
-{
-    starts_name(byte) || byte.is_ascii_digit()
 }

@@ -1,5 +1,0 @@
-pub mod AnsweredLemmas
-pub mod FillLemmas
-pub mod JoinLemmas
-pub mod LawProofs
-pub mod PartLemmas

@@ -1,7 +1,0 @@
-pub mod Answered
-pub mod Faults
-pub mod Filled
-pub mod HeaderOps
-pub mod Join
-pub mod Laws
-pub mod Raised
