@@ -1,5 +1,5 @@
 -- The members of an error that are there, and texts that are appended one after another.
-use Rattle.std.proofs.Common.{◌≡◌, ◌==◌, ℕ, ◌<◌, Bool, false, cond, Result, Ok, Err, OnOk, is_ok, List, [], ◌∷◌, ◌++◌, length, Option, Some, codes, refl, ap, sym, ◌∙◌, subst, append_assoc, arith}
+use Rattle.std.proofs.Common.{◌≡◌, ◌==◌, ℕ, ◌<◌, false, cond, Result, Ok, Err, OnOk, is_ok, List, [], ◌∷◌, ◌++◌, length, Option, Some, codes, refl, ap, sym, ◌∙◌, append_assoc, arith}
 use Rattle.gql_base.specs.Json.{json}
 use Rattle.gql_base.specs.ErrorJson.{list_json, location_json, locations_member, extensions_member}
 use Rattle.gql_base.specs.declared.pos.Pos.{Pos}

@@ -1,7 +1,8 @@
 pub mod PairLemmas
+pub mod NamesLemmas
 pub mod SeparatedLemmas
 pub mod JsonLemmas
-pub mod ReadJsonLemmas
 pub mod ErrorJsonLemmas
+pub mod ErrorExtensionsLemmas
 pub mod InOrderLemmas
 pub mod SameLemmas

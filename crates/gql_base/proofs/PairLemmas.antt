@@ -1,16 +1,16 @@
 -- Names beside their values: what look-up, `put` and distinct names come to where the pairs are made of two lists.
-use Rattle.std.proofs.Common.{◌≡◌, ℕ, zero, suc, ◌+◌, ◌<◌, ◌≤◌, Bool, true, false, cond, not, ◌&&◌, List, [], ◌∷◌, ◌++◌, map, length, take, Some, None, slice_get, slice_set, String, string_bytes, slice_index_or, Global, refl, ap, sym, ◌∙◌, arith, length-append}
-use Rattle.std.proofs.lemmas.Option.{slice_get_past, slice_get_read, slice_get_within, get_or_from_slice_get}
-use Rattle.std.proofs.lemmas.List.{take_more}
+use Rattle.std.proofs.Common.{◌≡◌, ℕ, zero, suc, ◌+◌, ◌<◌, ◌≤◌, Bool, true, false, cond, not, ◌&&◌, List, [], ◌∷◌, ◌++◌, length, take, Option, Some, None, slice_get, slice_set, slice_index_or, refl, ap, sym, ◌∙◌, subst, arith, length-append}
+use Rattle.std.proofs.lemmas.Option.{slice_get_read, slice_get_within, get_or_from_slice_get}
+use Rattle.std.proofs.lemmas.List.{take_more, map-append}
 use Rattle.std.proofs.lemmas.Bool.Decides.{nat_tests}
-use Rattle.std.specs.List.{zip, position, position_or_len, IsDistinct, AllByRecursion}
-use Rattle.std.specs.List.{list_any}
+use lib.ListN.{length-map}
+use Rattle.std.specs.List.{zip, position, position_or_len}
 use Rattle.std.specs.Str.{bytes_eq}
-use Rattle.std.specs.Option.{option_map_or}
+use Rattle.std.specs.Option.{option_map_or, option_and_then}
 use Rattle.std.specs.Cmp.Lexicographic.{bytes_decides, pointwise}
-use Rattle.std.specs.String.{string_eq}
-use Rattle.indexmap.specs.IndexSet.{insert_key}
-use Rattle.gql_base.specs.Pairs.{under, put, HasDistinctNames, same_pair}
+use Rattle.gql_base.specs.Names.{place_of, AreDistinct}
+use Rattle.gql_base.specs.Pairs.{under, put, names_of, values_of, HasDistinctNames, same_pair}
+use Rattle.gql_base.proofs.NamesLemmas.{next, place_within}
 
 -- a place that `position` answers is the first that passes, and where it answers none there is no such place
 pub position-is : {X : Type 0} (p : X → Bool) (xs : List X) (i : ℕ) → Some i ≡ position p xs → (position_or_len p xs ≡ i) × (i < length xs)
@@ -19,138 +19,158 @@ position-is p xs i e = grind (arith, nat_tests)
 pub position-none : {X : Type 0} (p : X → Bool) (xs : List X) → None ≡ position p xs → length xs ≤ position_or_len p xs
 position-none p xs e = grind (arith, nat_tests)
 
-one-more : (n : ℕ) → 1 + n ≡ suc n
-one-more n = omega arith
+-- there is an item at each place within
+there : {T : Type 0} (vs : List T) (i : ℕ) → i < length vs → slice_get vs i ≡ None → ⊥
+there [] i within none = omega arith
+there (v ∷ vs) zero within none = cc
+there (v ∷ vs) (suc i) within none = there vs i (omega arith) none
 
--- the first place of a name, or the length
-module _ {K : Type 0} (name : K → List ℕ) (sought : List ℕ) where
-  abbrev place_of : List K → ℕ
-  place_of ks = position_or_len (λ k. bytes_eq sought (name k)) ks
+-- lists of as many names as values
+module _ {T : Type 0} where
+  pub length_zipped : (ks : List (List ℕ)) (vs : List T) → length vs ≡ length ks → length (zip ks vs) ≡ length ks
+  length_zipped [] vs e = refl
+  length_zipped (k ∷ ks) [] e = absurd (omega arith)
+  length_zipped (k ∷ ks) (v ∷ vs) e = ap suc (length_zipped ks vs (omega arith))
 
-module _ {K T : Type 0} (name : K → List ℕ) where
-  pub length-zipped : (ks : List K) (vs : List T) → length vs ≡ length ks → length (zip (map name ks) vs) ≡ length ks
-  length-zipped [] vs e = refl
-  length-zipped (k ∷ ks) [] e = absurd (omega arith)
-  length-zipped (k ∷ ks) (v ∷ vs) e = ap suc (length-zipped ks vs (omega arith))
+  pub names_zipped : (ks : List (List ℕ)) (vs : List T) → length vs ≡ length ks → names_of (zip ks vs) ≡ ks
+  names_zipped [] vs e = refl
+  names_zipped (k ∷ ks) [] e = absurd (omega arith)
+  names_zipped (k ∷ ks) (v ∷ vs) e = ap (λ ns. k ∷ ns) (names_zipped ks vs (omega arith))
 
-  pub zipped-at : (ks : List K) (vs : List T) (i : ℕ) (k : K) (v : T) → slice_get ks i ≡ Some k → slice_get vs i ≡ Some v
-      → slice_get (zip (map name ks) vs) i ≡ Some (name k, v)
-  zipped-at [] vs i k v a b = cc
-  zipped-at (x ∷ ks) [] i k v a b = cc
-  zipped-at (x ∷ ks) (y ∷ vs) zero k v a b = cc
-  zipped-at (x ∷ ks) (y ∷ vs) (suc i) k v a b = zipped-at ks vs i k v a b
+  pub values_zipped : (ks : List (List ℕ)) (vs : List T) → length vs ≡ length ks → values_of (zip ks vs) ≡ vs
+  values_zipped [] [] e = refl
+  values_zipped [] (v ∷ vs) e = absurd (omega arith)
+  values_zipped (k ∷ ks) [] e = absurd (omega arith)
+  values_zipped (k ∷ ks) (v ∷ vs) e = ap (λ ns. v ∷ ns) (values_zipped ks vs (omega arith))
 
-  pub zipped-push : (ks : List K) (vs : List T) (k : K) (v : T) → length vs ≡ length ks
-      → zip (map name (ks ++ k ∷ [])) (vs ++ v ∷ []) ≡ zip (map name ks) vs ++ (name k, v) ∷ []
-  zipped-push [] [] k v e = refl
-  zipped-push [] (y ∷ vs) k v e = absurd (omega arith)
-  zipped-push (x ∷ ks) [] k v e = absurd (omega arith)
-  zipped-push (x ∷ ks) (y ∷ vs) k v e = ap (λ ps. (name x, y) ∷ ps) (zipped-push ks vs k v (omega arith))
+  pub zipped_again : (ps : List (List ℕ × T)) → zip (names_of ps) (values_of ps) ≡ ps
+  zipped_again [] = refl
+  zipped_again (p ∷ ps) = ap (λ qs. p ∷ qs) (zipped_again ps)
 
-  module _ (sought : List ℕ) where
-    -- the value under a name stands at the first place of that name, if any
-    pub under-zipped : (ks : List K) (vs : List T) → length vs ≡ length ks → under sought (zip (map name ks) vs) ≡ slice_get vs (place_of name sought ks)
-    under-zipped [] [] e = refl
-    under-zipped [] (v ∷ vs) e = absurd (omega arith)
-    under-zipped (k ∷ ks) [] e = absurd (omega arith)
-    under-zipped (k ∷ ks) (v ∷ vs) e =
-        let P : Bool → Type 0 = λ b. cond b (Some v) (under sought (zip (map name ks) vs)) ≡ slice_get (v ∷ vs) (cond (not b) (1 + place_of name sought ks) 0) in
-        let step : under sought (zip (map name ks) vs) ≡ slice_get vs (place_of name sought ks) = under-zipped ks vs (omega arith) in
-        elim (bytes_eq sought (name k)) as P [ true ↦ refl | false ↦ rw (one-more (place_of name sought ks)) step ]
+  pub zipped_at : (ks : List (List ℕ)) (vs : List T) (i : ℕ) (k : List ℕ) (v : T) → slice_get ks i ≡ Some k → slice_get vs i ≡ Some v
+      → slice_get (zip ks vs) i ≡ Some (k, v)
+  zipped_at [] vs i k v a b = cc
+  zipped_at (x ∷ ks) [] i k v a b = cc
+  zipped_at (x ∷ ks) (y ∷ vs) zero k v a b = cc
+  zipped_at (x ∷ ks) (y ∷ vs) (suc i) k v a b = zipped_at ks vs i k v a b
 
-    pub put-zipped : (ks : List K) (vs : List T) (v : T) → length vs ≡ length ks → place_of name sought ks < length ks
-        → put (zip (map name ks) vs) sought v ≡ zip (map name ks) (slice_set vs (place_of name sought ks) v)
-    put-zipped [] vs v e within = absurd (omega arith)
-    put-zipped (k ∷ ks) [] v e within = absurd (omega arith)
-    put-zipped (k ∷ ks) (y ∷ vs) v e within =
-        let P : Bool → Type 0 = λ b. cond (not b) (1 + place_of name sought ks) 0 < suc (length ks)
-        → cond b ((name k, v) ∷ zip (map name ks) vs) ((name k, y) ∷ put (zip (map name ks) vs) sought v)
-        ≡ zip (name k ∷ map name ks) (slice_set (y ∷ vs) (cond (not b) (1 + place_of name sought ks) 0) v) in
-        (elim (bytes_eq sought (name k)) as P [
-          | true ↦ λ h. refl
-          | false ↦ λ h. rw (one-more (place_of name sought ks)) (ap (λ ps. (name k, y) ∷ ps) (put-zipped ks vs v (omega arith) (omega arith)))
-        ]) within
+  pub zipped_push : (ks : List (List ℕ)) (vs : List T) (k : List ℕ) (v : T) → length vs ≡ length ks
+      → zip (ks ++ k ∷ []) (vs ++ v ∷ []) ≡ zip ks vs ++ (k, v) ∷ []
+  zipped_push [] [] k v e = refl
+  zipped_push [] (y ∷ vs) k v e = absurd (omega arith)
+  zipped_push (x ∷ ks) [] k v e = absurd (omega arith)
+  zipped_push (x ∷ ks) (y ∷ vs) k v e = ap (λ ps. (x, y) ∷ ps) (zipped_push ks vs k v (omega arith))
 
-    pub put-absent : (ks : List K) (vs : List T) (v : T) → length vs ≡ length ks → length ks ≤ place_of name sought ks
-        → put (zip (map name ks) vs) sought v ≡ zip (map name ks) vs ++ (sought, v) ∷ []
-    put-absent [] [] v e past = refl
-    put-absent [] (y ∷ vs) v e past = absurd (omega arith)
-    put-absent (k ∷ ks) [] v e past = absurd (omega arith)
-    put-absent (k ∷ ks) (y ∷ vs) v e past =
-        let P : Bool → Type 0 = λ b. suc (length ks) ≤ cond (not b) (1 + place_of name sought ks) 0
-        → cond b ((name k, v) ∷ zip (map name ks) vs) ((name k, y) ∷ put (zip (map name ks) vs) sought v)
-        ≡ (name k, y) ∷ (zip (map name ks) vs ++ (sought, v) ∷ []) in
-        (elim (bytes_eq sought (name k)) as P [
-          | true ↦ λ h. absurd (omega arith)
-          | false ↦ λ h. ap (λ ps. (name k, y) ∷ ps) (put-absent ks vs v (omega arith) (omega arith))
-        ]) past
+  under_next : (v : T) (vs : List T) (o : Option ℕ) → option_and_then (slice_get (v ∷ vs)) (next o) ≡ option_and_then (slice_get vs) o
+  under_next v vs None = refl
+  under_next v vs (Some i) = refl
 
-    pub under-other : (ks : List K) (vs : List T) → AllByRecursion (λ k. bytes_eq sought (name k) ≡ false) ks → under sought (zip (map name ks) vs) ≡ None
-    under-other [] vs others = refl
-    under-other (k ∷ ks) [] others = refl
-    under-other (k ∷ ks) (v ∷ vs) (other, others) = rw other (under-other ks vs others)
+  -- the value under a name stands at the place of that name, if any
+  pub under_zipped : (sought : List ℕ) (ks : List (List ℕ)) (vs : List T) → length vs ≡ length ks
+      → under sought (zip ks vs) ≡ option_and_then (slice_get vs) (place_of sought ks)
+  under_zipped sought [] vs e = refl
+  under_zipped sought (k ∷ ks) [] e = absurd (omega arith)
+  under_zipped sought (k ∷ ks) (v ∷ vs) e =
+      let P : Bool → Type 0 = λ b. cond b (Some v) (under sought (zip ks vs)) ≡ option_and_then (slice_get (v ∷ vs)) (cond b (Some 0) (next (place_of sought ks))) in
+      elim (bytes_eq sought k) as P [ true ↦ refl | false ↦ under_zipped sought ks vs (omega arith) ∙ sym (under_next v vs (place_of sought ks)) ]
 
-  pub distinct-zipped : (ks : List K) (vs : List T) → IsDistinct (λ a b. bytes_eq (name a) (name b)) ks → HasDistinctNames (zip (map name ks) vs)
-  unfolding IsDistinct
-  distinct-zipped [] vs distinct = tt
-  distinct-zipped (k ∷ ks) [] distinct = tt
-  distinct-zipped (k ∷ ks) (v ∷ vs) (others, distinct) = (under-other (name k) ks vs others, distinct-zipped ks vs distinct)
+  pub distinct_zipped : (ks : List (List ℕ)) (vs : List T) → length vs ≡ length ks → AreDistinct ks → HasDistinctNames (zip ks vs)
+  distinct_zipped [] vs e distinct = tt
+  distinct_zipped (k ∷ ks) [] e distinct = absurd (omega arith)
+  distinct_zipped (k ∷ ks) (v ∷ vs) e (fresh, distinct) =
+      let same : length vs ≡ length ks = omega arith in
+      (under_zipped k ks vs same ∙ ap (option_and_then (slice_get vs)) fresh, distinct_zipped ks vs same distinct)
 
--- the same at names that a set keeps as strings, by what it answers of a name's place
-module _ {T : Type 0} (sought : List ℕ) (ks : List (String Global)) (vs : List T) (ps : List (List ℕ × T)) where
-  abbrev is_sought : String Global → Bool
-  is_sought k = bytes_eq sought (string_bytes k)
+  put_next : (k : List ℕ) (y v : T) (ks : List (List ℕ)) (vs : List T) (qs : List (List ℕ × T)) (o : Option ℕ) (i : ℕ)
+      → ((j : ℕ) → o ≡ Some j → qs ≡ zip ks (slice_set vs j v)) → next o ≡ Some i → (k, y) ∷ qs ≡ zip (k ∷ ks) (slice_set (y ∷ vs) i v)
+  put_next k y v ks vs qs None i each found = cc
+  put_next k y v ks vs qs (Some j) i each found =
+      let at : suc j ≡ i = ap (λ o. option_map_or (λ n. n) o 0) found in
+      rw (sym at) (ap (λ ps. (k, y) ∷ ps) (each j refl))
 
-  pub under-found : (i : ℕ) (v : T) → Some i ≡ position is_sought ks → length vs ≡ length ks → v ≡ slice_index_or vs i v
-      → zip (map string_bytes ks) vs ≡ ps → Some v ≡ under sought ps
-  under-found i v found same read made =
-      let at = position-is is_sought ks i found in
-      sym (ap (under sought) (sym made) ∙ under-zipped string_bytes sought ks vs same ∙ ap (slice_get vs) at.0
-      ∙ slice_get_read vs (length ks) i v (sym same) at.1 read)
+  pub put_zipped : (sought : List ℕ) (ks : List (List ℕ)) (vs : List T) (v : T) (i : ℕ) → length vs ≡ length ks → place_of sought ks ≡ Some i
+      → put (zip ks vs) sought v ≡ zip ks (slice_set vs i v)
+  put_zipped sought [] vs v i e found = cc
+  put_zipped sought (k ∷ ks) [] v i e found = absurd (omega arith)
+  put_zipped sought (k ∷ ks) (y ∷ vs) v i e found =
+      let P : Bool → Type 0 = λ b. cond b (Some 0) (next (place_of sought ks)) ≡ Some i
+      → cond b ((k, v) ∷ zip ks vs) ((k, y) ∷ put (zip ks vs) sought v) ≡ zip (k ∷ ks) (slice_set (y ∷ vs) i v) in
+      (elim (bytes_eq sought k) as P [
+        | true ↦ λ h. (let at : 0 ≡ i = ap (λ o. option_map_or (λ n. n) o 0) h in rw (sym at) refl)
+        | false ↦ λ h. put_next k y v ks vs (put (zip ks vs) sought v) (place_of sought ks) i (λ j there. put_zipped sought ks vs v j (omega arith) there) h
+      ]) found
 
-  pub under-missing : None ≡ position is_sought ks → length vs ≡ length ks → zip (map string_bytes ks) vs ≡ ps → None ≡ under sought ps
-  under-missing missing same made =
-      sym (ap (under sought) (sym made) ∙ under-zipped string_bytes sought ks vs same
-      ∙ slice_get_past vs _ (rw same (position-none is_sought ks missing)))
+-- the same of pairs that are seen as one list
+module _ {T : Type 0} (ks : List (List ℕ)) (vs : List T) (ps : List (List ℕ × T)) (same : length vs ≡ length ks) (made : zip ks vs ≡ ps) where
+  pub pairs_long : length ps ≡ length ks
+  pairs_long = ap length (sym made) ∙ length_zipped ks vs same
 
-  pub put-found : (i : ℕ) (v : T) → Some i ≡ position is_sought ks → length vs ≡ length ks → zip (map string_bytes ks) vs ≡ ps
-      → zip (map string_bytes ks) (slice_set vs i v) ≡ put ps sought v
-  put-found i v found same made =
-      let at = position-is is_sought ks i found in
-      ap (λ j. zip (map string_bytes ks) (slice_set vs j v)) (sym at.0)
-      ∙ sym (put-zipped string_bytes sought ks vs v same (rw at.0 at.1)) ∙ ap (λ qs. put qs sought v) made
+  pub pairs_distinct : AreDistinct ks → HasDistinctNames ps
+  pairs_distinct distinct = subst HasDistinctNames made (distinct_zipped ks vs same distinct)
 
-  pub put-missing : (k : String Global) (v : T) → None ≡ position is_sought ks → length vs ≡ length ks → zip (map string_bytes ks) vs ≡ ps
-      → string_bytes k ≡ sought → zip (map string_bytes (ks ++ k ∷ [])) (vs ++ v ∷ []) ≡ put ps sought v
-  put-missing k v missing same made named =
-      zipped-push string_bytes ks vs k v same ∙ ap (λ n. zip (map string_bytes ks) vs ++ (n, v) ∷ []) named
-      ∙ sym (put-absent string_bytes sought ks vs v same (position-none is_sought ks missing)) ∙ ap (λ qs. put qs sought v) made
+  pub pairs_names : names_of ps ≡ ks
+  pairs_names = ap names_of (sym made) ∙ names_zipped ks vs same
 
-pub pairs-long : {T : Type 0} (ks : List (String Global)) (vs : List T) (ps : List (List ℕ × T)) → length vs ≡ length ks → zip (map string_bytes ks) vs ≡ ps
-    → length ps ≡ length ks
-pairs-long ks vs ps same made = ap length (sym made) ∙ length-zipped string_bytes ks vs same
+  pub pairs_values : values_of ps ≡ vs
+  pairs_values = ap values_of (sym made) ∙ values_zipped ks vs same
 
--- what an item of a set and a value at one place are as a pair
-pub pair-at : {T : Type 0} (ks : List (String Global)) (vs : List T) (ps : List (List ℕ × T)) (i : ℕ) (k : String Global) (n : List ℕ) (v : T)
-    → length vs ≡ length ks → zip (map string_bytes ks) vs ≡ ps → i < length ps → k ≡ slice_index_or ks i k → n ≡ string_bytes k
-    → v ≡ slice_index_or vs i v → slice_get ps i ≡ Some (n, v)
-pair-at ks vs ps i k n v same made within key named value =
-    let long : length ps ≡ length ks = pairs-long ks vs ps same made in
-    ap (λ qs. slice_get qs i) (sym made)
-    ∙ zipped-at string_bytes ks vs i k v (slice_get_read ks (length ks) i k refl (omega arith) key) (slice_get_read vs (length ks) i v (sym same) (omega arith) value)
-    ∙ ap (λ m. Some (m, v)) (sym named)
+  -- what a name and a value at one place are as a pair
+  pub pair_at : (i : ℕ) (k : List ℕ) (v : T) → i < length ps → slice_get ks i ≡ Some k → v ≡ slice_index_or vs i v → slice_get ps i ≡ Some (k, v)
+  pair_at i k v within named value =
+      let long = pairs_long in
+      ap (λ qs. slice_get qs i) (sym made) ∙ zipped_at ks vs i k v named (slice_get_read vs (length ks) i v (sym same) (omega (arith, long)) value)
 
--- a name that no key has goes to the end of a set's keys
-pub insert_key-absent : (ks : List (String Global)) (k : String Global) (n : List ℕ) → n ≡ string_bytes k
-    → false ≡ list_any (λ q. bytes_eq n (string_bytes q)) ks → insert_key string_eq ks k ≡ ks ++ k ∷ []
-insert_key-absent ks k n named absent =
-    let other : list_any (string_eq k) ks ≡ false = ap (λ m. list_any (λ q. bytes_eq m (string_bytes q)) ks) (sym named) ∙ sym absent in
-    rw other refl
+module _ {T : Type 0} (sought : List ℕ) (ks : List (List ℕ)) (vs : List T) (ps : List (List ℕ × T)) (same : length vs ≡ length ks) (made : zip ks vs ≡ ps) where
+  under_place : under sought ps ≡ option_and_then (slice_get vs) (place_of sought ks)
+  under_place = ap (under sought) (sym made) ∙ under_zipped sought ks vs same
 
-pub pushed-same : {K T : Type 0} (ks : List K) (vs : List T) (k : K) (v : T) (ks' : List K) (vs' : List T) → length vs ≡ length ks
+  pub under_missing : None ≡ place_of sought ks → None ≡ under sought ps
+  under_missing missing = sym (under_place ∙ ap (option_and_then (slice_get vs)) (sym missing))
+
+  pub under_found : (i : ℕ) (v : T) → Some i ≡ place_of sought ks → v ≡ slice_index_or vs i v → Some v ≡ under sought ps
+  under_found i v found read =
+      let within : i < length ks = place_within sought ks i (sym found) in
+      sym (under_place ∙ ap (option_and_then (slice_get vs)) (sym found) ∙ slice_get_read vs (length ks) i v (sym same) within read)
+
+  fresh_at : (o : Option ℕ) → place_of sought ks ≡ o → under sought ps ≡ None → o ≡ None
+  fresh_at None at none = refl
+  fresh_at (Some i) at none =
+      let within : i < length ks = place_within sought ks i at in
+      let v : slice_get vs i ≡ None = sym (ap (option_and_then (slice_get vs)) at) ∙ sym under_place ∙ none in
+      absurd (there vs i (omega (arith, same)) v)
+
+  -- where nothing stands under a name, it has no place
+  pub fresh_place : under sought ps ≡ None → place_of sought ks ≡ None
+  fresh_place none = fresh_at (place_of sought ks) refl none
+
+  pub put_found : (i : ℕ) (v : T) → Some i ≡ place_of sought ks → zip ks (slice_set vs i v) ≡ put ps sought v
+  put_found i v found = sym (put_zipped sought ks vs v i same (sym found)) ∙ ap (λ qs. put qs sought v) made
+
+-- the same of pairs as their names beside their values
+module _ {T : Type 0} (sought : List ℕ) (ps : List (List ℕ × T)) where
+  same_lengths : length (values_of ps) ≡ length (names_of ps)
+  same_lengths = length-map ps (λ p. p.1) ∙ sym (length-map ps (λ p. p.0))
+
+  pub put_in_place : (i : ℕ) (v : T) → Some i ≡ place_of sought (names_of ps) → zip (names_of ps) (slice_set (values_of ps) i v) ≡ put ps sought v
+  put_in_place i v found = put_found sought (names_of ps) (values_of ps) ps same_lengths (zipped_again ps) i v found
+
+  pub under_in_place : (i : ℕ) (v : T) → Some i ≡ place_of sought (names_of ps) → slice_get (values_of ps) i ≡ Some v → Some v ≡ under sought ps
+  under_in_place i v found at =
+      sym (under_place sought (names_of ps) (values_of ps) ps same_lengths (zipped_again ps) ∙ ap (option_and_then (slice_get (values_of ps))) (sym found) ∙ at)
+
+  pub under_no_place : None ≡ place_of sought (names_of ps) → None ≡ under sought ps
+  under_no_place missing = under_missing sought (names_of ps) (values_of ps) ps same_lengths (zipped_again ps) missing
+
+-- names and values that got one more each
+pub pushed_same : {K T : Type 0} (ks : List K) (vs : List T) (k : K) (v : T) (ks' : List K) (vs' : List T) → length vs ≡ length ks
     → ks' ≡ ks ++ k ∷ [] → vs' ≡ vs ++ v ∷ [] → length vs' ≡ length ks'
-pushed-same ks vs k v ks' vs' same keys values =
+pushed_same ks vs k v ks' vs' same keys values =
     omega (arith, ap length keys, ap length values, length-append ks (k ∷ []), length-append vs (v ∷ []))
+
+pub pairs_pushed : {T : Type 0} (ks : List (List ℕ)) (vs : List T) (ps : List (List ℕ × T)) (k : List ℕ) (v : T) (ks' : List (List ℕ)) (vs' : List T)
+    → length vs ≡ length ks → zip ks vs ≡ ps → ks' ≡ ks ++ k ∷ [] → vs' ≡ vs ++ v ∷ [] → zip ks' vs' ≡ ps ++ (k, v) ∷ []
+pairs_pushed ks vs ps k v ks' vs' same made keys values =
+    (λ i. zip (keys i) (values i)) ∙ zipped_push ks vs k v same ∙ ap (λ qs. qs ++ (k, v) ∷ []) made
 
 -- pairs with distinct names, added one by one
 pub put-fresh : {T : Type 0} (ps : List (List ℕ × T)) (n : List ℕ) (x : T) → under n ps ≡ None → put ps n x ≡ ps ++ (n, x) ∷ []
@@ -209,25 +229,31 @@ and-swap true false false d = refl
 and-swap false b c d = refl
 
 -- pairs are equal where their names are, and their values
-pub same-zipped : {K T : Type 0} (name : K → List ℕ) (E : T → T → Bool) (ks js : List K) (vs ws : List T) → length vs ≡ length ks → length ws ≡ length js
-    → pointwise (same_pair E) (zip (map name ks) vs) (zip (map name js) ws) ≡ (pointwise (λ k j. bytes_eq (name k) (name j)) ks js && pointwise E vs ws)
-same-zipped name E [] [] [] [] d e = refl
-same-zipped name E [] [] [] (w ∷ ws) d e = absurd (omega arith)
-same-zipped name E [] (j ∷ js) [] [] d e = absurd (omega arith)
-same-zipped name E [] (j ∷ js) [] (w ∷ ws) d e = refl
-same-zipped name E [] js (v ∷ vs) ws d e = absurd (omega arith)
-same-zipped name E (k ∷ ks) js [] ws d e = absurd (omega arith)
-same-zipped name E (k ∷ ks) [] (v ∷ vs) [] d e = refl
-same-zipped name E (k ∷ ks) [] (v ∷ vs) (w ∷ ws) d e = absurd (omega arith)
-same-zipped name E (k ∷ ks) (j ∷ js) (v ∷ vs) [] d e = absurd (omega arith)
-same-zipped name E (k ∷ ks) (j ∷ js) (v ∷ vs) (w ∷ ws) d e =
-    ap (λ rest. (bytes_eq (name k) (name j) && E v w) && rest) (same-zipped name E ks js vs ws (omega arith) (omega arith))
-    ∙ and-swap (bytes_eq (name k) (name j)) (E v w) (pointwise (λ k j. bytes_eq (name k) (name j)) ks js) (pointwise E vs ws)
+same_zipped : {T : Type 0} (E : T → T → Bool) (ks js : List (List ℕ)) (vs ws : List T) → length vs ≡ length ks → length ws ≡ length js
+    → pointwise (same_pair E) (zip ks vs) (zip js ws) ≡ (pointwise bytes_eq ks js && pointwise E vs ws)
+same_zipped E [] [] [] [] d e = refl
+same_zipped E [] [] [] (w ∷ ws) d e = absurd (omega arith)
+same_zipped E [] (j ∷ js) [] [] d e = absurd (omega arith)
+same_zipped E [] (j ∷ js) [] (w ∷ ws) d e = refl
+same_zipped E [] js (v ∷ vs) ws d e = absurd (omega arith)
+same_zipped E (k ∷ ks) js [] ws d e = absurd (omega arith)
+same_zipped E (k ∷ ks) [] (v ∷ vs) [] d e = refl
+same_zipped E (k ∷ ks) [] (v ∷ vs) (w ∷ ws) d e = absurd (omega arith)
+same_zipped E (k ∷ ks) (j ∷ js) (v ∷ vs) [] d e = absurd (omega arith)
+same_zipped E (k ∷ ks) (j ∷ js) (v ∷ vs) (w ∷ ws) d e =
+    ap (λ rest. (bytes_eq k j && E v w) && rest) (same_zipped E ks js vs ws (omega arith) (omega arith))
+    ∙ and-swap (bytes_eq k j) (E v w) (pointwise bytes_eq ks js) (pointwise E vs ws)
 
--- the same at names that a set keeps as strings, by what two tests have told
-module _ {T : Type 0} (E : T → T → Bool) (ks js : List (String Global)) (vs ws : List T) (ps qs : List (List ℕ × T)) where
-  pub same-pairs : (named valued : Bool) → named ≡ pointwise string_eq ks js → valued ≡ pointwise E vs ws → length vs ≡ length ks → length ws ≡ length js
-      → zip (map string_bytes ks) vs ≡ ps → zip (map string_bytes js) ws ≡ qs → (named && valued) ≡ pointwise (same_pair E) ps qs
-  same-pairs named valued told-names told-values one two made-one made-two =
-      (λ i. told-names i && told-values i) ∙ sym (same-zipped string_bytes E ks js vs ws one two)
+-- the same by what two tests have told
+module _ {T : Type 0} (E : T → T → Bool) (ks js : List (List ℕ)) (vs ws : List T) (ps qs : List (List ℕ × T)) where
+  pub same_pairs : (named valued : Bool) → named ≡ pointwise bytes_eq ks js → valued ≡ pointwise E vs ws → length vs ≡ length ks → length ws ≡ length js
+      → zip ks vs ≡ ps → zip js ws ≡ qs → (named && valued) ≡ pointwise (same_pair E) ps qs
+  same_pairs named valued told-names told-values one two made-one made-two =
+      (λ i. told-names i && told-values i) ∙ sym (same_zipped E ks js vs ws one two)
       ∙ (λ i. pointwise (same_pair E) (made-one i) (made-two i))
+
+pub values_taken : {T : Type 0} (ps : List (List ℕ × T)) (i : ℕ) (n : List ℕ) (x : T) → slice_get ps i ≡ Some (n, x)
+    → values_of (take (i + 1) ps) ≡ values_of (take i ps) ++ x ∷ []
+values_taken ps i n x at =
+    let more = take_more ps i (n, x) (slice_get_within ps i (n, x) at) ∙ ap (λ p. take i ps ++ p ∷ []) (get_or_from_slice_get ps i (n, x) (n, x) at) in
+    ap values_of more ∙ map-append (λ p. p.1) (take i ps) ((n, x) ∷ [])

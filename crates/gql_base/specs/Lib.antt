@@ -1,4 +1,6 @@
 pub mod ReadJson
+pub mod Readings
+pub mod Letters
 pub mod Json
 pub mod Number
 pub mod Pairs
@@ -8,5 +10,9 @@ pub mod TypeRef
 pub mod formers
 pub mod PathSegment
 pub mod Kinds
+pub mod Names
+pub mod NamesKept
+pub mod Places
 pub mod ErrorExtensionValues
+pub mod ErrorExtensions
 pub mod ErrorJson

@@ -1,6 +1,7 @@
 -- Paths into a response (GraphQL, October 2021, section 7.1.2).
-use Rattle.std.specs.Prelude.{ℕ, List}
+use Rattle.std.specs.Prelude.{ℕ, List, map, codes}
 use Rattle.std.specs.Fmt.{decimal}
+use Rattle.gql_base.specs.Separated.{separated}
 use Rattle.gql_base.specs.declared.path_segment.PathSegment.{PathSegment}
 use Rattle.gql_base.specs.declared.path_segment.PathSegment.TheVariants.{Field, Index}
 
@@ -8,3 +9,7 @@ use Rattle.gql_base.specs.declared.path_segment.PathSegment.TheVariants.{Field, 
 abbrev pub segment_text : PathSegment → List ℕ
 segment_text (Field key) = key
 segment_text (Index place) = decimal place
+
+-- the text of a path: the texts of its segments, with dots between them
+abbrev pub path_text : List PathSegment → List ℕ
+path_text segments = separated (codes ".") (map segment_text segments)

@@ -79,24 +79,19 @@ impl<T: Copied + Drop> Copied for Boxed<T> {
 
 impl<T: Copied + Drop> Copied for Items<T> {
     fn try_clone(&self, alloc: Global) -> Made<Items<T>> {
-        let mut copies = Items::new(alloc);
-        for item in self.as_slice() {
-            copies.push(item.try_clone(alloc)?)?;
-        }
-        Ok(copies)
+        Ok(Items::from_vec(copies(alloc, self.as_slice())?))
     }
 }
 
-impl<T: Copied + Drop> Copied for Pairs<T> {
-    #[tactic(auto, using(crate::proofs::PairLemmas::put_more))]
-    fn try_clone(&self, alloc: Global) -> Made<Pairs<T>> {
-        let mut copies = Pairs::new(alloc);
-        for place in 0..self.len() {
-            let (name, value) = self.at(place);
-            copies.add(Name::new(alloc, name)?, value.try_clone(alloc)?)?;
-        }
-        Ok(copies)
+/// A copy of each item.
+pub fn copies<T: Copied + Drop>(alloc: Global, items: &[T]) -> Made<Vec<T>>
+    ensures { IfOk result (λ made. made.items ≡ items.now) }
+{
+    let mut made = Vec::with_capacity(alloc, items.len())?;
+    for item in items {
+        made.push(item.try_clone(alloc)?)?;
     }
+    Ok(made)
 }
 
 impl Copied for Value {
@@ -124,7 +119,7 @@ fn copy_value(alloc: Global, value: &Value) -> Made<Value>
 fn copy_items(alloc: Global, items: &[Value]) -> Made<Items<Value>>
     ensures { IfOk result (λ copies. copies ≡ items.now) }
 {
-    let mut copies = Items::new(alloc);
+    let mut copies = Items::with_capacity(alloc, items.len())?;
     for item in items {
         copies.push(copy_value(alloc, item)?)?;
     }
@@ -132,16 +127,14 @@ fn copy_items(alloc: Global, items: &[Value]) -> Made<Items<Value>>
 }
 
 #[cycle(copy)]
-#[tactic(auto, using(crate::proofs::PairLemmas::put_more))]
 fn copy_members(alloc: Global, members: &Pairs<Value>) -> Made<Pairs<Value>>
     ensures { IfOk result (λ copies. copies ≡ members.now) }
 {
-    let mut copies = Pairs::new(alloc);
+    let mut values = Vec::with_capacity(alloc, members.len())?;
     for place in 0..members.len() {
-        let (name, value) = members.at(place);
-        copies.add(Name::new(alloc, name)?, copy_value(alloc, value)?)?;
+        values.push(copy_value(alloc, members.at(place).1)?)?;
     }
-    Ok(copies)
+    members.with_values(alloc, values)
 }
 
 impl Copied for TypeRef {

@@ -1,4 +1,5 @@
 ghost use Rattle.std.specs.Prelude.{◌≡◌, ◌↔◌, IsTrue, IfOk, [], ◌∷◌, None};
+ghost use Rattle.gql_base.specs.ErrorExtensions.{extended};
 
 use crate::copied::Copied;
 use crate::error_extension_values::ErrorExtensionValues;
@@ -28,6 +29,22 @@ impl Error {
         Ok(Error {
             message,
             extensions: None,
+        })
+    }
+
+    /// This error with these values, in place of its own of the same names.
+    pub(crate) fn with_values(self, alloc: Global, values: ErrorExtensionValues) -> Made<Error>
+        ensures { IfOk result (λ error. error ≡ extended self values) }
+    {
+        let Error {
+            message,
+            extensions,
+        } = self;
+        let mut all = extensions.unwrap_or(ErrorExtensionValues::new(alloc));
+        all.overlay(values)?;
+        Ok(Error {
+            message,
+            extensions: Some(all),
         })
     }
 

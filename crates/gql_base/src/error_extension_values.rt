@@ -1,6 +1,7 @@
 ghost use Rattle.std.specs.Prelude.{◌≡◌, [], ◌<◌, length, slice_get, MatchResult, OnOk, OnErr, Some};
 ghost use Rattle.std.specs.Option.{option_copied};
 ghost use Rattle.gql_base.specs.ErrorExtensionValues.{IsInOrder, set_in_order, unset_in, StandsAt, BelongsAt};
+ghost use Rattle.gql_base.specs.ErrorExtensions.{overlaid};
 ghost use Rattle.gql_base.specs.Pairs.{under};
 
 use crate::copied::Copied;
@@ -59,6 +60,17 @@ impl ErrorExtensionValues {
                 Ok(())
             }
         }
+    }
+
+    /// Sets each of these values under its name.
+    pub(crate) fn overlay(&mut self, values: ErrorExtensionValues) -> Made<()>
+        ensures { OnOk result (self.new ≡ overlaid self.old values) }
+    {
+        let ErrorExtensionValues { pairs } = values;
+        for (name, value) in pairs {
+            self.set(name.as_str(), value)?;
+        }
+        Ok(())
     }
 
     /// Lets go the value under a name, if there is one.

@@ -1,9 +1,10 @@
 ghost use Rattle.std.specs.Prelude.{◌≡◌, ◌++◌, ◌∷◌, map, codes, IfOk, OnOk, string_bytes, Some};
-ghost use Rattle.gql_base.specs.ErrorJson.{list_json, location_json, segment_json, locations_member, path_member, extensions_member, error_json};
+ghost use Rattle.gql_base.specs.ErrorJson.{list_json, locations_member, path_member, extensions_member, error_json};
 ghost use Rattle.gql_base.specs.Json.{json};
 
 use crate::error_extension_values::ErrorExtensionValues;
 use crate::json::{push_comma, push_json, push_name, push_quoted};
+use crate::json_list::{JsonText, push_list};
 use crate::made::Made;
 use crate::path_segment::PathSegment;
 use crate::pos::Pos;
@@ -24,17 +25,45 @@ impl ServerError {
     }
 }
 
+impl JsonText for ServerError {
+    ghost use Rattle.gql_base.specs.ErrorJson.{error_json};
+
+    ghost text = { error_json };
+
+    fn push_text(&self, out: &mut String) -> Made<()> {
+        push_error(out, self)
+    }
+}
+
+impl JsonText for Pos {
+    ghost use Rattle.gql_base.specs.ErrorJson.{location_json};
+
+    ghost text = { location_json };
+
+    fn push_text(&self, out: &mut String) -> Made<()> {
+        let Pos { line, column } = *self;
+        write!(out, "{{\"line\":{line},\"column\":{column}}}")
+    }
+}
+
+impl JsonText for PathSegment {
+    ghost use Rattle.gql_base.specs.ErrorJson.{segment_json};
+
+    ghost text = { segment_json };
+
+    fn push_text(&self, out: &mut String) -> Made<()> {
+        match self {
+            PathSegment::Field(key) => push_quoted(out, key.as_str()),
+            PathSegment::Index(place) => write!(out, "{place}"),
+        }
+    }
+}
+
 /// Appends the JSON text of a list of errors.
-#[tactic(auto, using(crate::proofs::SeparatedLemmas::separated_more))]
 pub fn push_errors(out: &mut String, errors: &[ServerError]) -> Made<()>
     ensures { OnOk result (string_bytes out.new ≡ string_bytes out.old ++ list_json error_json errors.now) }
 {
-    out.push('[')?;
-    for (place, error) in errors.iter().enumerate() {
-        push_comma(out, place)?;
-        push_error(out, error)?;
-    }
-    out.push(']')
+    push_list(out, errors)
 }
 
 /// Appends the JSON text of an error.
@@ -56,26 +85,7 @@ fn push_locations(out: &mut String, locations: &[Pos]) -> Made<()>
         return Ok(());
     }
     out.push_str(",\"locations\":")?;
-    push_location_list(out, locations)
-}
-
-#[tactic(auto, using(crate::proofs::SeparatedLemmas::separated_more))]
-fn push_location_list(out: &mut String, locations: &[Pos]) -> Made<()>
-    ensures { OnOk result (string_bytes out.new ≡ string_bytes out.old ++ list_json location_json locations.now) }
-{
-    out.push('[')?;
-    for (place, location) in locations.iter().enumerate() {
-        push_comma(out, place)?;
-        push_location(out, *location)?;
-    }
-    out.push(']')
-}
-
-fn push_location(out: &mut String, location: Pos) -> Made<()>
-    ensures { OnOk result (string_bytes out.new ≡ string_bytes out.old ++ location_json location) }
-{
-    let Pos { line, column } = location;
-    write!(out, "{{\"line\":{line},\"column\":{column}}}")
+    push_list(out, locations)
 }
 
 fn push_path(out: &mut String, path: &[PathSegment]) -> Made<()>
@@ -85,28 +95,7 @@ fn push_path(out: &mut String, path: &[PathSegment]) -> Made<()>
         return Ok(());
     }
     out.push_str(",\"path\":")?;
-    push_segments(out, path)
-}
-
-#[tactic(auto, using(crate::proofs::SeparatedLemmas::separated_more))]
-fn push_segments(out: &mut String, path: &[PathSegment]) -> Made<()>
-    ensures { OnOk result (string_bytes out.new ≡ string_bytes out.old ++ list_json segment_json path.now) }
-{
-    out.push('[')?;
-    for (place, segment) in path.iter().enumerate() {
-        push_comma(out, place)?;
-        push_segment(out, segment)?;
-    }
-    out.push(']')
-}
-
-fn push_segment(out: &mut String, segment: &PathSegment) -> Made<()>
-    ensures { OnOk result (string_bytes out.new ≡ string_bytes out.old ++ segment_json segment.now) }
-{
-    match segment {
-        PathSegment::Field(key) => push_quoted(out, key.as_str()),
-        PathSegment::Index(place) => write!(out, "{place}"),
-    }
+    push_list(out, path)
 }
 
 fn push_extensions(out: &mut String, extensions: &Option<ErrorExtensionValues>) -> Made<()>

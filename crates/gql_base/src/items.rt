@@ -1,5 +1,6 @@
-ghost use Rattle.std.specs.Prelude.{◌≡◌, [], ◌∷◌, ◌++◌, ◌<◌, ◌↔◌, IsTrue, length, slice_get, slice_set, IfOk, MatchOption, OnOk, OnErr};
+ghost use Rattle.std.specs.Prelude.{◌≡◌, [], ◌∷◌, ◌++◌, ◌<◌, ◌↔◌, IsTrue, length, slice_get, slice_set, IfOk, MatchOption, OnOk, OnErr, Some};
 ghost use Rattle.std.specs.Option.{option_copied};
+ghost use Rattle.std.specs.Borrow.{Lends, sem};
 
 use crate::made::Made;
 use std::alloc::Global;
@@ -23,6 +24,8 @@ impl<T> Model for Items<T> {
 }
 
 impl<T> Items<T> {
+    ghost use Rattle.gql_base.specs.contracts.items.Items.{the_row};
+
     /// The empty list, which takes no memory.
     pub fn new(alloc: Global) -> Items<T>
         ensures { result ≡ [] }
@@ -30,6 +33,14 @@ impl<T> Items<T> {
         Items {
             list: Vec::new(alloc),
         }
+    }
+
+    /// The empty list, with room for some items.
+    pub fn with_capacity(alloc: Global, room: usize) -> Made<Items<T>>
+        ensures { IfOk result (λ made. made ≡ []) }
+    {
+        let list = Vec::with_capacity(alloc, room)?;
+        Ok(Items { list })
     }
 
     /// The items of a vector, moved.
@@ -75,6 +86,15 @@ impl<T> Items<T> {
         self.list.get(place)
     }
 
+    /// The item at a place, counted from 0, to be changed.
+    pub fn at_mut(&mut self, place: usize) -> &mut T
+        requires { place < length self.old }
+        ensures* writes_back { sem 𝓛 (Lends (the_row T.row) T.row self.entry result (slice_set self.old place)) }
+        ensures value { slice_get self.old place ≡ Some result.now }
+    {
+        &mut self.list[place]
+    }
+
     /// Takes the last item off, or answers none where there is none.
     pub fn pop(&mut self) -> Option<T>
         ensures { MatchOption result ((self.old ≡ []) × (self.new ≡ [])) (λ last. self.old ≡ self.new ++ last ∷ []) }
@@ -91,6 +111,13 @@ impl<T: Drop> Items<T> {
     {
         self.list.push(item)?;
         Ok(())
+    }
+
+    /// Takes room for more items.
+    pub fn reserve(&mut self, more: usize) -> Made<()>
+        ensures { self.new ≡ self.old }
+    {
+        self.list.reserve(more)
     }
 
     /// Moves all items of `more` to the end.

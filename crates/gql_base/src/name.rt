@@ -1,4 +1,4 @@
-ghost use Rattle.std.specs.Prelude.{◌≡◌, ◌↔◌, IsTrue, IfOk, string_bytes};
+ghost use Rattle.std.specs.Prelude.{◌≡◌, ◌↔◌, IsTrue, IfOk};
 
 use crate::made::Made;
 use crate::text::Text;
@@ -46,14 +46,6 @@ impl Name {
         ensures { result.now ≡ self.now }
     {
         self.inner.as_str()
-    }
-
-    /// The name as a string, moved.
-    pub fn into_string(self) -> String
-        ensures { string_bytes result ≡ self }
-    {
-        let Name { inner } = self;
-        inner
     }
 }
 

@@ -1,4 +1,4 @@
-ghost use Rattle.std.specs.Prelude.{◌≡◌, pos, FitsSigned, SomeIff};
+ghost use Rattle.std.specs.Prelude.{◌≡◌, ◌↔◌, IsTrue, pos, FitsSigned, SomeIff};
 ghost use Rattle.std.specs.Int.{w64};
 ghost use Rattle.gql_base.specs.Number.{unsigned_of};
 
@@ -6,24 +6,32 @@ use std::fmt;
 use std::marker::Model;
 
 /// A whole number from -2^63 to 2^64-1. Contracts see it as that number.
-#[derive(Clone, Copy, PartialEq, Eq, Debug)]
+#[derive(Clone, Copy, Debug)]
 pub struct Number {
-    value: i128,
+    negative: bool,
+    /// How far it is from 0, or from -1 where it is negative.
+    distance: u64,
 }
 
 impl Model for Number {
     ghost use Rattle.std.specs.Prelude.{ℤ, pos, negsuc, ◌≤ℤ◌, ◌<ℤ◌, ◌^◌, ◌-◌};
     ghost use Rattle.std.specs.Coded.{coded_ℤ};
+    ghost use Rattle.gql_base.specs.Number.{signed, is_negative, distance_of, sign_back, distance_back};
 
     ghost Value = { ℤ };
 
     ghost coded = { coded_ℤ };
 
-    ghost view = { λ number. number.value };
+    ghost view = { λ number. signed number.negative number.distance };
 
-    ghost invariant = { λ number. (negsuc (2 ^ 63 - 1) ≤ℤ number.value) × (number.value <ℤ pos (2 ^ 64)) };
+    ghost invariant = { λ number. negsuc (2 ^ 63 - 1) ≤ℤ signed number.negative number.distance };
 
-    ghost inverse = { λ value. record { value = value } };
+    ghost inverse = { λ value. record { negative = is_negative value; distance = distance_of value } };
+
+    ghost inverse_ok = { λ number holds i. record {
+      negative = sign_back number.negative number.distance i;
+      distance = distance_back number.negative number.distance i;
+    } };
 }
 
 impl Number {
@@ -31,8 +39,16 @@ impl Number {
     pub fn from_i64(value: i64) -> Number
         ensures { result ≡ value }
     {
-        Number {
-            value: i128::from(value),
+        if value < 0 {
+            Number {
+                negative: true,
+                distance: (-1 - value).unsigned_abs(),
+            }
+        } else {
+            Number {
+                negative: false,
+                distance: value.unsigned_abs(),
+            }
         }
     }
 
@@ -41,7 +57,8 @@ impl Number {
         ensures { result ≡ pos value }
     {
         Number {
-            value: i128::from(value),
+            negative: false,
+            distance: value,
         }
     }
 
@@ -49,15 +66,46 @@ impl Number {
     pub fn as_i64(&self) -> Option<i64>
         ensures { SomeIff result (FitsSigned w64 self.now) self.now }
     {
-        i64::try_from(self.value).ok()
+        let distance = i64::try_from(self.distance).ok()?;
+        Some(if self.negative {
+            -1 - distance
+        } else {
+            distance
+        })
     }
 
     /// The number as an unsigned integer, exactly where it isn't negative.
     pub fn as_u64(&self) -> Option<u64>
         ensures { result ≡ unsigned_of self.now }
     {
-        u64::try_from(self.value).ok()
+        if self.negative {
+            None
+        } else {
+            Some(self.distance)
+        }
     }
+}
+
+impl PartialEq for Number {
+    ghost use Rattle.std.specs.Ordering.{int_eq};
+    ghost use Rattle.std.specs.Cmp.{int_eq_equiv, partial_equiv_from_equiv};
+
+    ghost eq = { int_eq };
+
+    ghost laws = { partial_equiv_from_equiv int_eq_equiv };
+
+    fn eq(&self, other: &Number) -> bool
+        ensures value { result ≡ int_eq self.now other.now }
+        ensures decides { IsTrue result ↔ (self.now ≡ other.now) }
+    {
+        self.negative == other.negative && self.distance == other.distance
+    }
+}
+
+impl Eq for Number {
+    ghost use Rattle.std.specs.Cmp.{int_eq_equiv};
+
+    ghost laws = { int_eq_equiv };
 }
 
 impl fmt::Display for Number {
@@ -67,7 +115,12 @@ impl fmt::Display for Number {
     ghost output = { λ number. Some (signed_decimal number) };
 
     fn fmt<W: fmt::Write>(&self, f: &mut fmt::Formatter<W>) -> fmt::Result {
-        let value = self.value;
-        write!(f, "{value}")
+        let distance = self.distance;
+        if self.negative {
+            let value = -1 - i64::try_from(distance).unwrap();
+            write!(f, "{value}")
+        } else {
+            write!(f, "{distance}")
+        }
     }
 }

@@ -1,10 +1,14 @@
-ghost use Rattle.std.specs.Prelude.{◌≡◌, [], ◌∷◌, ◌++◌, ◌<◌, length, slice_get, IfOk, OnOk, OnErr, Some, vec_len, vec_capacity};
-ghost use Rattle.std.specs.Option.{option_copied};
-ghost use Rattle.gql_base.specs.Pairs.{under, put, HasDistinctNames};
+ghost use Rattle.std.specs.Prelude.{◌≡◌, ◌↔◌, [], ◌∷◌, ◌++◌, ◌<◌, IsTrue, length, slice_get, slice_set, IfOk, IfSome, OnOk, OnErr, Some, None};
+ghost use Rattle.std.specs.Borrow.{Lends, LendsIf, sem};
+ghost use Rattle.std.specs.List.{zip};
+ghost use Rattle.std.specs.Option.{option_copied, option_copied_mut};
+ghost use Rattle.gql_base.specs.Names.{place_of};
+ghost use Rattle.gql_base.specs.Pairs.{under, put, names_of, values_of, HasDistinctNames};
 
+use crate::copied::{Copied, copies};
 use crate::made::Made;
 use crate::name::Name;
-use indexmap::IndexSet;
+use crate::names::Names;
 use std::alloc::Global;
 use std::marker::Model;
 use std::mem;
@@ -12,12 +16,12 @@ use std::mem;
 /// Values under names, in order of insertion and with no name twice. Contracts see the list of the pairs.
 #[derive(Debug, Drop)]
 pub struct Pairs<T> {
-    names: IndexSet<String>,
+    names: Names,
     values: Vec<T>,
 }
 
 impl<T> Model for Pairs<T> {
-    ghost use Rattle.std.specs.Prelude.{List, ℕ, map, length, string_bytes, ◌≡◌};
+    ghost use Rattle.std.specs.Prelude.{List, ℕ, length, ◌≡◌};
     ghost use Rattle.std.specs.List.{zip};
     ghost use Rattle.std.specs.Coded.{coded_list, coded×, coded_ℕ};
 
@@ -25,18 +29,20 @@ impl<T> Model for Pairs<T> {
 
     ghost coded = { coded_list (coded× (coded_list coded_ℕ) T.code) };
 
-    ghost view = { λ pairs. zip (map string_bytes pairs.names.keys) pairs.values.items };
+    ghost view = { λ pairs. zip pairs.names pairs.values.items };
 
-    ghost invariant = { λ pairs. length pairs.values.items ≡ length pairs.names.keys };
+    ghost invariant = { λ pairs. length pairs.values.items ≡ length pairs.names };
 }
 
 impl<T> Pairs<T> {
+    ghost use Rattle.gql_base.specs.contracts.pairs.Pairs.{the_row};
+
     /// No pair at all, which takes no memory.
     pub fn new(alloc: Global) -> Pairs<T>
         ensures { result ≡ [] }
     {
         Pairs {
-            names: IndexSet::new(alloc),
+            names: Names::new(alloc),
             values: Vec::new(alloc),
         }
     }
@@ -50,11 +56,27 @@ impl<T> Pairs<T> {
         self.names.len()
     }
 
+    /// True exactly where there is no pair.
+    pub fn is_empty(&self) -> bool
+        ensures { IsTrue result ↔ (self.now ≡ []) }
+    {
+        self.len() == 0
+    }
+
+    /// The place of a name, counted from 0, or none where the name isn't there.
+    pub fn place_of(&self, name: &str) -> Option<usize>
+        ensures place { result ≡ place_of name.now (names_of self.now) }
+        ensures within { IfSome result (λ place. place < length self.now) }
+    {
+        let _values = &self.values;
+        self.names.place_of(name)
+    }
+
     /// The value under a name, or none where the name isn't there.
     pub fn get(&self, name: &str) -> Option<&T>
         ensures { option_copied result ≡ under name.now self.now }
     {
-        match self.names.get_index_of(name) {
+        match self.names.place_of(name) {
             Some(place) => Some(&self.values[place]),
             None => None,
         }
@@ -65,11 +87,81 @@ impl<T> Pairs<T> {
         requires { place < length self.now }
         ensures { slice_get self.now place ≡ Some (result.0.now, result.1.now) }
     {
-        (self.names.as_slice()[place].as_str(), &self.values[place])
+        (self.names.at(place), &self.values[place])
+    }
+
+    /// The value at a place, counted from 0, to be changed.
+    pub fn at_mut(&mut self, place: usize) -> &mut T
+        requires { place < length self.old }
+        ensures* writes_back { sem 𝓛 (Lends (the_row T.row) T.row self.entry result
+            (λ value. zip (names_of self.old) (slice_set (values_of self.old) place value))) }
+        ensures value { slice_get (values_of self.old) place ≡ Some result.now }
+    {
+        &mut self.values[place]
+    }
+
+    /// The value under a name, to be changed, or none where the name isn't there.
+    pub fn get_mut(&mut self, name: &str) -> Option<&mut T>
+        ensures* writes_back { sem 𝓛 (LendsIf (the_row T.row) T.row self.entry result (put self.old name.now) self.old) }
+        ensures value { option_copied_mut result ≡ under name.now self.old }
+    {
+        match self.place_of(name) {
+            Some(place) => Some(self.at_mut(place)),
+            None => None,
+        }
+    }
+
+    /// The names and the values, moved.
+    pub fn into_parts(self) -> (Names, Vec<T>)
+        ensures names { result.0 ≡ names_of self }
+        ensures values { result.1.items ≡ values_of self }
+    {
+        let Pairs { names, values } = self;
+        (names, values)
+    }
+
+    /// The same names with other values, each in the place of the one it stands for. No name is looked up.
+    pub fn with_values<U: Drop>(&self, alloc: Global, values: Vec<U>) -> Made<Pairs<U>>
+        requires { length values.items ≡ length self.now }
+        ensures { IfOk result (λ made. made ≡ zip (names_of self.now) values.items) }
+    {
+        let _values = &self.values;
+        let names = self.names.try_clone(alloc)?;
+        Ok(Pairs { names, values })
     }
 }
 
 impl<T: Drop> Pairs<T> {
+    /// No pair at all, with room for some.
+    pub fn with_capacity(alloc: Global, room: usize) -> Made<Pairs<T>>
+        ensures { IfOk result (λ made. made ≡ []) }
+    {
+        let names = Names::with_capacity(alloc, room)?;
+        let values = Vec::with_capacity(alloc, room)?;
+        Ok(Pairs { names, values })
+    }
+
+    /// Takes room for more pairs.
+    pub fn reserve(&mut self, more: usize) -> Made<()>
+        ensures { self.new ≡ self.old }
+    {
+        self.names.reserve(more)?;
+        self.values.reserve(more)
+    }
+
+    /// Adds a value under a name that isn't there, at the end, and looks no name up. Where memory is wanting the pairs
+    /// stay as they were.
+    pub fn add_fresh(&mut self, name: Name, value: T) -> Made<()>
+        requires { under name self.old ≡ None }
+        ensures added { OnOk result (self.new ≡ self.old ++ (name, value) ∷ []) }
+        ensures err { OnErr result (self.new ≡ self.old) }
+    {
+        self.values.reserve(1)?;
+        self.names.add_fresh(name)?;
+        self.values.push_reserved(value);
+        Ok(())
+    }
+
     /// Sets the value under a name. A name that is there keeps its place, and its old value is answered; another goes to
     /// the end. Where memory is wanting the pairs stay as they were.
     pub fn insert(&mut self, name: Name, value: T) -> Made<Option<T>>
@@ -77,19 +169,15 @@ impl<T: Drop> Pairs<T> {
         ensures replaced { IfOk result (λ old. old ≡ under name self.old) }
         ensures err { OnErr result (self.new ≡ self.old) }
     {
-        match self.names.get_index_of(name.as_str()) {
+        match self.names.place_of(name.as_str()) {
             Some(place) => Ok(Some(mem::replace(&mut self.values[place], value))),
             None => {
-                self.values.reserve(1)?;
-                self.names.insert(name.into_string())?;
-                push_within(&mut self.values, value);
+                self.add_fresh(name, value)?;
                 Ok(None)
             }
         }
     }
-}
 
-impl<T: Drop> Pairs<T> {
     /// Sets the value under a name, as `insert` does, and lets an old value go.
     pub fn add(&mut self, name: Name, value: T) -> Made<()>
         ensures put { OnOk result (self.new ≡ put self.old name value) }
@@ -97,6 +185,14 @@ impl<T: Drop> Pairs<T> {
     {
         drop(self.insert(name, value)?);
         Ok(())
+    }
+}
+
+impl<T: Copied + Drop> Copied for Pairs<T> {
+    fn try_clone(&self, alloc: Global) -> Made<Pairs<T>> {
+        let values = copies(alloc, self.values.as_slice())?;
+        let names = self.names.try_clone(alloc)?;
+        Ok(Pairs { names, values })
     }
 }
 
@@ -112,18 +208,6 @@ impl<T: PartialEq> PartialEq for Pairs<T> {
     ghost laws = { lists_per (and_per (on_per (λ p. p.0) (partial_equiv_from_equiv nat_list_eq_equiv)) (on_per (λ p. p.1) T.laws)) };
 
     fn eq(&self, other: &Pairs<T>) -> bool {
-        self.names.as_slice() == other.names.as_slice()
-            && self.values.as_slice() == other.values.as_slice()
-    }
-}
-
-/// Adds a value for which there is room.
-fn push_within<T: Drop>(values: &mut Vec<T>, value: T)
-    requires { vec_len values.old < vec_capacity values.old }
-    ensures { values.new.items ≡ values.old.items ++ value ∷ [] }
-{
-    match values.push(value) {
-        Ok(()) => {}
-        Err(_) => unreachable!(),
+        self.names == other.names && self.values.as_slice() == other.values.as_slice()
     }
 }

@@ -1,4 +1,4 @@
-ghost use Rattle.std.specs.Prelude.{◌≡◌, ◌++◌, IfOk, OnOk, string_bytes};
+ghost use Rattle.std.specs.Prelude.{◌≡◌, ◌++◌, IfOk, OnOk, codes, string_bytes};
 ghost use Rattle.gql_base.specs.TypeRef.{type_text, innermost, is_nullable as nullable};
 
 use crate::boxed::Boxed;
@@ -23,6 +23,14 @@ impl TypeRef {
     pub const BOOLEAN: &'static str = "Boolean";
 
     pub const ID: &'static str = "ID";
+
+    /// These are the names of the built-in scalars (section 3.5).
+    pub fn names_of_scalars()
+        ensures int { TypeRef.INT.now ≡ codes "Int" }
+        ensures string { TypeRef.STRING.now ≡ codes "String" }
+        ensures boolean { TypeRef.BOOLEAN.now ≡ codes "Boolean" }
+        ensures id { TypeRef.ID.now ≡ codes "ID" }
+    {}
 
     /// The type `T`, for the name T.
     pub fn named(alloc: Global, name: &str) -> Made<TypeRef>

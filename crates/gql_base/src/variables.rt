@@ -57,11 +57,18 @@ impl Variables {
         self.members.get(name)
     }
 
+    /// The variables as pairs, borrowed.
+    pub fn as_pairs(&self) -> &Pairs<Value>
+        ensures { result.now ≡ self.now }
+    {
+        &self.members
+    }
+
     /// True exactly where there is no variable.
     pub fn is_empty(&self) -> bool
         ensures { IsTrue result ↔ (self.now ≡ []) }
     {
-        self.members.len() == 0
+        self.members.is_empty()
     }
 }
 

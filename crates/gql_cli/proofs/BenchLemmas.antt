@@ -20,7 +20,7 @@ use Rattle.gql_cli.proofs.FirstBenchLemmas.{parts-same, text-same, root-same, sc
 use Rattle.gql_cli.proofs.RecordLemmas.{first-task}
 use Rattle.gql_cli.proofs.TablesLemmas.{table-answers}
 
-some-same : {A : Type 0} {x y : A} → Some x ≡ Some y → x ≡ y
+pub some-same : {A : Type 0} {x y : A} → Some x ≡ Some y → x ≡ y
 some-same same = cc
 
 pub field-same : (json : Data) (f g : FirstField) → IsField json f → IsField json g → f ≡ g

@@ -1,14 +1,18 @@
 -- Shapes of JSON values that are told apart.
 use Rattle.std.proofs.Common.{◌≡◌, ℕ, zero, suc, ◌+◌, ◌<◌, List, [], ◌∷◌, ◌++◌, map, length, take, get_or, Option, None, Some, option_and_then, refl, ap, sym, ◌∙◌, arith}
 use Rattle.std.proofs.lemmas.List.{take_more, map-append}
-use Rattle.serde_json.specs.Data.{Data, unsigned, negative, float, null, boolean, number, string, array, object}
+use Rattle.serde_json.specs.Data.{Data, unsigned, negative, float, null, boolean, number, string, array, object, Items, no_items, item}
 use Rattle.serde_json.specs.Find.{as_u64, as_number}
 use Rattle.serde_json.specs.View.{view}
 use Rattle.serde_json.specs.declared.value.Value.{Value as Json}
 use Rattle.gql_cli.specs.FirstBench.{schema_json, IsConstantAnswer, IsTurns}
-use Rattle.gql_cli.specs.JsonShape.{items, list_of, array_of, object_of, optional, count}
+use Rattle.gql_cli.specs.JsonShape.{items, array_of, object_of, optional, count}
 
-pub list_of-items : (ds : List Data) → list_of (items ds) ≡ ds
+abbrev list_of : Items → List Data
+list_of no_items = []
+list_of (item d ds) = d ∷ list_of ds
+
+list_of-items : (ds : List Data) → list_of (items ds) ≡ ds
 list_of-items [] = refl
 list_of-items (d ∷ ds) = ap (λ es. d ∷ es) (list_of-items ds)
 

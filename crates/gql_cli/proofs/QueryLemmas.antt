@@ -2,6 +2,8 @@
 use Rattle.std.proofs.Common.{◌≡◌, ℕ, zero, suc, ◌<◌, List, [], ◌∷◌, ◌++◌, map, length, get_or, refl, ap, sym, ◌∙◌, subst, arith, take, drop, Option, None, Some, is_some, false, IsSome, ◌+◌}
 use Rattle.std.proofs.lemmas.List.{take_more, map-append}
 use Rattle.std.specs.List.{AllZip}
+use Rattle.std.specs.Option.{option_or}
+use Rattle.std.specs.Prelude.{option_and_then}
 use Rattle.gql_base.specs.Pairs.{under, put, HasDistinctNames}
 use Rattle.gql_base.proofs.PairLemmas.{put-fresh}
 use Rattle.gql_doc.specs.declared.document.ExecutableDocument.{ExecutableDocument}
@@ -9,7 +11,10 @@ use Rattle.gql_doc.specs.declared.document.Field.{Field, out-Field}
 use Rattle.gql_doc.specs.declared.document.OperationDefinition.{OperationDefinition}
 use Rattle.gql_doc.specs.declared.document.Positioned.{Positioned}
 use Rattle.gql_doc.specs.declared.document.Selection.{Selection}
-use Rattle.gql_cli.specs.Query.{IsBare, Asks, selections_of, bare}
+use Rattle.gql_doc.specs.Depth.{Fragments, deep_from, field_set, if_any, selections_of, set_beneath, set_under}
+use Rattle.gql_doc.specs.First.{first_in}
+use Rattle.gql_doc.specs.declared.document.DocumentOperations.TheVariants as operations
+use Rattle.gql_cli.specs.Query.{IsBare, IsNamesQuery, Asks, bare}
 use Rattle.gql_cli.proofs.TablesLemmas.{distinct-more, distinct-never}
 
 bare-same : (selection : Positioned Selection) (m n : List ℕ) → IsBare selection m → IsBare selection n → m ≡ n
@@ -33,6 +38,31 @@ asks-same document ms ns first second =
     let operation : first.operation ≡ second.operation = cc in
     all-same (selections_of second.operation.node.selection_set) ms ns
     (subst (λ (o : Positioned OperationDefinition). AllZip IsBare (selections_of o.node.selection_set) ms) operation first.bare.fields) second.bare.fields
+
+-- nothing lies beneath names
+beneath-bare : (fragments : Fragments) (selection : Positioned Selection) (name : List ℕ) → IsBare selection name
+    → option_and_then (deep_from fragments 0) (set_beneath fragments selection) ≡ None
+beneath-bare fragments selection name bare =
+    ap (λ o. option_and_then (deep_from fragments 0) (set_under fragments o)) bare.is
+    ∙ ap (λ xs. option_and_then (deep_from fragments 0) (if_any xs (field_set bare.field))) bare.only.set
+
+none-beneath : (fragments : Fragments) (selections : List (Positioned Selection)) (names : List (List ℕ)) → AllZip IsBare selections names
+    → first_in (λ selection. option_and_then (deep_from fragments 0) (set_beneath fragments selection)) selections ≡ None
+none-beneath fragments [] names bare = refl
+none-beneath fragments (s ∷ ss) [] bare = absurd bare
+none-beneath fragments (s ∷ ss) (n ∷ ns) (here, bare) =
+    ap (λ o. option_or o (first_in (λ selection. option_and_then (deep_from fragments 0) (set_beneath fragments selection)) ss)) (beneath-bare fragments s n here)
+    ∙ none-beneath fragments ss ns bare
+
+-- a query for names nests within one level
+pub names-nest : (document : ExecutableDocument) (operation : Positioned OperationDefinition) → document.operations ≡ operations.Single operation
+    → IsNamesQuery document → deep_from document.fragments 1 operation.node.selection_set ≡ None
+names-nest document operation single query =
+    let asks = query.asks in
+    let both = sym asks.single ∙ single in
+    let same : asks.operation ≡ operation = cc in
+    subst (λ (o : Positioned OperationDefinition). deep_from document.fragments 1 o.node.selection_set ≡ None) same
+    (none-beneath document.fragments (selections_of asks.operation.node.selection_set) query.names asks.bare.fields)
 
 -- the names that were seen
 abbrev pub Seen : Type 0

@@ -31,7 +31,8 @@ use Rattle.gql_engine.proofs.RunLemmas.{tasks_stay}
 use Rattle.gql_cli.specs.BenchAnswers.{bench_object}
 use Rattle.gql_cli.specs.BenchRecord.{BenchTask, IsRecord, AreAsked, HasTold, story, tasks_from, first_task, task_with, bench_task}
 use Rattle.gql_cli.specs.ListTurns.{list_choice, list_after}
-use Rattle.gql_cli.specs.Query.{HasOnlyName, IsBare, IsBareQuery, selections_of}
+use Rattle.gql_doc.specs.Depth.{selections_of}
+use Rattle.gql_cli.specs.Query.{HasOnlyName, IsBare, IsBareQuery}
 use Rattle.gql_cli.specs.Table.{rule_delay, table_delay}
 use Rattle.gql_cli.specs.Tables.{object_under, rule_of, entry_of, entries, IsTableOf}
 use Rattle.gql_cli.specs.declared.first_bench.FirstBench.{FirstBench}

@@ -1,6 +1,6 @@
 -- What the engine makes of a constant that its field's type takes.
-use Rattle.std.proofs.Common.{rules, ◌≡◌, inl, inr, ℕ, ℤ, pos, negsuc, ◌≤ℤ◌, ◌&&◌, true, false, cond, List, Some, refl, ap, sym, ◌∙◌, subst, codes, int_le}
-use Rattle.std.specs.Str.{bytes_eq}
+use Rattle.std.proofs.Common.{rules, ◌≡◌, ℕ, ℤ, ◌&&◌, ◌||◌, Bool, true, false, cond, List, Some, refl, ap, sym, ◌∙◌}
+use Rattle.gql_base.specs.Kinds.{is_null, null_here}
 use Rattle.gql_base.specs.declared.value.Value.{Value, the_lemmas, out-Value, roll-Value, roll-out-Value}
 use Rattle.gql_base.specs.declared.value.Value.TheOpen.{Value-F}
 use Rattle.gql_base.specs.declared.value.Value.TheVariants as value
@@ -9,11 +9,11 @@ use Rattle.gql_base.specs.declared.type_ref.TypeRef.TheVariants.{Named}
 use Rattle.gql_resolve.specs.declared.field_value.FieldValue.{the_lemmas as given_lemmas}
 use Rattle.gql_resolve.specs.declared.field_value.FieldValue.TheVariants as given
 use Rattle.gql_engine.specs.Apart.{fill}
-use Rattle.gql_engine.specs.Completion.{completed, leaf_at, is_int32, is_null, null_here, takes, takes_here, fault, no_scalar}
+use Rattle.gql_engine.specs.Completion.{completed, leaf_at, takes, fault, no_scalar}
 use Rattle.gql_engine.specs.declared.place.Tree.{Tree, the_lemmas as tree_lemmas, out-Tree}
 use Rattle.gql_engine.specs.declared.place.Tree.TheVariants as tree
 use Rattle.gql_engine.specs.declared.shape.Shape.TheVariants as shape
-use Rattle.gql_cli.specs.FirstBench.{Takes, IsIntHere, IsStringHere, IsBooleanHere}
+use Rattle.gql_cli.specs.FirstBench.{Takes, is_first_type}
 use Rattle.gql_cli.specs.Shown.{value_here}
 
 abbrev pub value_of : Tree → Value
@@ -31,12 +31,6 @@ null-is v same = sym (roll-out-Value v) ∙ ap roll-Value same ∙ search (rules
 pub scalar-is : (name : List ℕ) (v : Value) → completed {V = ℤ} (Named name) (Some (given.Value v)) ≡ leaf_at name (Some v)
 scalar-is name v = search (rules, type_lemmas, given_lemmas)
 
-below-is : (a b : ℤ) → a ≤ℤ b → int_le a b ≡ true
-below-is a b within = search (rules)
-
-in-range : (n : ℤ) → negsuc 2147483647 ≤ℤ n → n ≤ℤ pos 2147483647 → is_int32 n ≡ true
-in-range n low high = search (rules)
-
 by-null : (name : List ℕ) (v : Value) → is_null v ≡ true → v ≡ value.Null → value_of (fill (leaf_at name (Some v))) ≡ v
 by-null name v null same =
     ap (λ b. value_of (fill (cond b shape.Absent (cond (takes name v) (shape.Leaf v) (fault (no_scalar name)))))) null ∙ absent-shows ∙ sym same
@@ -45,31 +39,28 @@ by-leaf : (name : List ℕ) (v : Value) → is_null v ≡ false → takes name v
 by-leaf name v some taken =
     (λ i. value_of (fill (cond (some i) shape.Absent (cond (taken i) (shape.Leaf v) (fault (no_scalar name)))))) ∙ leaf-shows v
 
-opened : (name : List ℕ) (v : Value) (o : Value-F Value) → out-Value v ≡ o → Takes name v → value_of (fill (leaf_at name (Some v))) ≡ v
-opened name v Value-F.Null same t = by-null name v (ap null_here same) (null-is v same)
-opened name v (Value-F.Boolean b) same (inl (named, here)) = absurd (subst IsIntHere same here)
-opened name v (Value-F.Boolean b) same (inr (inl (named, here))) = absurd (subst IsStringHere same here)
-opened name v (Value-F.Boolean b) same (inr (inr (named, here))) =
-    by-leaf name v (ap null_here same) (ap (takes_here name) same ∙ ap (λ n. bytes_eq n (codes "Boolean")) named)
-opened name v (Value-F.Number n) same (inl (named, here)) =
-    let within = subst IsIntHere same here in
-    by-leaf name v (ap null_here same) (ap (takes_here name) same ∙ (λ i. bytes_eq (named i) (codes "Int") && in-range n within.0 within.1 i))
-opened name v (Value-F.Number n) same (inr (inl (named, here))) = absurd (subst IsStringHere same here)
-opened name v (Value-F.Number n) same (inr (inr (named, here))) = absurd (subst IsBooleanHere same here)
-opened name v (Value-F.String t) same (inl (named, here)) = absurd (subst IsIntHere same here)
-opened name v (Value-F.String t) same (inr (inl (named, here))) =
-    by-leaf name v (ap null_here same) (ap (takes_here name) same ∙ ap (λ n. bytes_eq n (codes "String")) named)
-opened name v (Value-F.String t) same (inr (inr (named, here))) = absurd (subst IsBooleanHere same here)
-opened name v (Value-F.Enum e) same (inl (named, here)) = absurd (subst IsIntHere same here)
-opened name v (Value-F.Enum e) same (inr (inl (named, here))) = absurd (subst IsStringHere same here)
-opened name v (Value-F.Enum e) same (inr (inr (named, here))) = absurd (subst IsBooleanHere same here)
-opened name v (Value-F.List vs) same (inl (named, here)) = absurd (subst IsIntHere same here)
-opened name v (Value-F.List vs) same (inr (inl (named, here))) = absurd (subst IsStringHere same here)
-opened name v (Value-F.List vs) same (inr (inr (named, here))) = absurd (subst IsBooleanHere same here)
-opened name v (Value-F.Object ms) same (inl (named, here)) = absurd (subst IsIntHere same here)
-opened name v (Value-F.Object ms) same (inr (inl (named, here))) = absurd (subst IsStringHere same here)
-opened name v (Value-F.Object ms) same (inr (inr (named, here))) = absurd (subst IsBooleanHere same here)
+null-opened : (o : Value-F Value) → null_here o ≡ true → o ≡ Value-F.Null
+null-opened Value-F.Null null = refl
+null-opened (Value-F.Boolean b) null = cc
+null-opened (Value-F.Number n) null = cc
+null-opened (Value-F.String t) null = cc
+null-opened (Value-F.Enum e) null = cc
+null-opened (Value-F.List vs) null = cc
+null-opened (Value-F.Object ms) null = cc
+
+-- a value that is null, or that the scalar takes
+either-shows : (name : List ℕ) (v : Value) (null taken : Bool) → is_null v ≡ null → takes name v ≡ taken → (null || taken) ≡ true
+    → value_of (fill (leaf_at name (Some v))) ≡ v
+either-shows name v true taken is takes either = by-null name v is (null-is v (null-opened (out-Value v) is))
+either-shows name v false true is takes either = by-leaf name v is takes
+either-shows name v false false is takes either = cc
+
+second-true : (a b : Bool) → (a && b) ≡ true → b ≡ true
+second-true true b both = both
+second-true false b both = cc
 
 -- a constant that its type takes is shown
 pub constant-shows : (name : List ℕ) (v : Value) → Takes name v → value_of (fill (completed {V = ℤ} (Named name) (Some (given.Value v)))) ≡ v
-constant-shows name v taken = ap (λ s. value_of (fill s)) (scalar-is name v) ∙ opened name v (out-Value v) refl taken
+constant-shows name v taken =
+    ap (λ s. value_of (fill s)) (scalar-is name v)
+    ∙ either-shows name v (is_null v) (takes name v) refl refl (second-true (is_first_type name) (is_null v || takes name v) taken)

@@ -12,7 +12,7 @@ use Rattle.gql_cli.specs.declared.bench.Written.{Written}
 use Rattle.gql_cli.specs.declared.bench.Written.TheVariants.{Answered, Refused, NotJson, NotBuilt}
 use Rattle.gql_cli.specs.declared.outcome.Outcome.{Outcome}
 use Rattle.gql_cli.specs.declared.outcome.Outcome.TheVariants.{Usage, ReadFault, TooLong, Bench}
-use Rattle.gql_cli.specs.declared.reading.TheConstants.{INPUT_LIMIT}
+use Rattle.gql_cli.specs.Limits.{input_limit}
 
 -- words are those of one command
 words-same : (c d : Command) → words_for c ≡ words_for d → c ≡ d
@@ -25,11 +25,11 @@ module _ (status : ℕ) (ReadFailed WriteFailed : Type 0) (Holds : List ℕ → 
   -- the text that the input gives to the command was written
   abbrev pub IsComplete : List ℕ → Type 0
   IsComplete input =
-      length input ≤ INPUT_LIMIT → ¬ ReadFailed → ¬ WriteFailed
+      length input ≤ input_limit → ¬ ReadFailed → ¬ WriteFailed
       → (status ≡ 6) ⊎ ((written : Written) × (entries : List RecordEntry) × Gives command input written entries
       × (status ≡ due_status (Bench written)) × Holds (due_text (Bench written)))
 
-  too-long : (input : Option (List ℕ)) → IfSome input (λ known. INPUT_LIMIT < length known) → IfSome input IsComplete
+  too-long : (input : Option (List ℕ)) → IfSome input (λ known. input_limit < length known) → IfSome input IsComplete
   too-long None long = tt
   too-long (Some known) long = λ within. absurd (omega arith)
 
@@ -106,7 +106,7 @@ module _ {I : Type 0} (left : I → Option (List ℕ)) (given faults : I → ℕ
 
   -- an input past its limit has the status of that, unless the run ended before
   long-due : (due : Outcome) → IsDue left given faults old new Told words due → (status ≡ due_status due) × Holds (due_text due) → IsListed words
-      → IfSome (left old) (λ input. INPUT_LIMIT < length input → (status ≡ 7) ⊎ (status ≡ 4) ⊎ IsCutOff status)
+      → IfSome (left old) (λ input. input_limit < length input → (status ≡ 7) ⊎ (status ≡ 4) ⊎ IsCutOff status)
   long-due Usage due (same, holds) listed = absurd (due listed)
   long-due ReadFault due (same, holds) listed = some-each (left old) _ (λ input long. inr (inl same))
   long-due TooLong due (same, holds) listed = some-each (left old) _ (λ input long. inl same)
@@ -114,7 +114,7 @@ module _ {I : Type 0} (left : I → Option (List ℕ)) (given faults : I → ℕ
       some-through (left old) _ _ due.input.told (λ input (is, rest) long. let sizes = ap length is in let within = due.input.within in absurd (omega arith))
 
   pub too-many : (due : Outcome) → IsDue left given faults old new Told words due → IsCutOff status ⊎ ((status ≡ due_status due) × Holds (due_text due))
-      → IsListed words → IfSome (left old) (λ input. INPUT_LIMIT < length input → (status ≡ 7) ⊎ (status ≡ 4) ⊎ IsCutOff status)
+      → IsListed words → IfSome (left old) (λ input. input_limit < length input → (status ≡ 7) ⊎ (status ≡ 4) ⊎ IsCutOff status)
   too-many due is (inl cut) listed = some-each (left old) _ (λ input long. inr (inr cut))
   too-many due is (inr delivered) listed = long-due due is delivered listed
 

@@ -12,14 +12,15 @@ use Rattle.gql_resolve.specs.Call.{Call}
 use Rattle.gql_resolve.specs.declared.answer.Answer.{Answer}
 use Rattle.gql_schema.specs.Object.{fields_of}
 use Rattle.gql_schema.specs.declared.field.Field.{Field as SchemaField}
-use Rattle.gql_engine.specs.Apart.{asked_of, asked_at, asked, field_here, name_of, fill, place_of, placed, join, unite_all, respond}
+use Rattle.gql_engine.specs.Apart.{asked_of, asked_at, asked, field_here, name_of, fill, place_of, placed, join, respond}
 use Rattle.gql_engine.specs.Completion.{shape_of}
 use Rattle.gql_engine.specs.Path.{key_text}
 use Rattle.gql_engine.specs.declared.place.Tree.{the_lemmas as tree_lemmas}
 use Rattle.gql_engine.specs.declared.scene.Scene.{Scene}
 use Rattle.gql_cli.specs.Answer.{Chooses}
 use Rattle.gql_cli.specs.BenchAnswers.{bench_answers, bench_object, IsSuited, AnswersBy}
-use Rattle.gql_cli.specs.Query.{HasOnlyName, IsBare, IsBareQuery, AreDistinct, bare, selections_of}
+use Rattle.gql_doc.specs.Depth.{selections_of}
+use Rattle.gql_cli.specs.Query.{HasOnlyName, IsBare, IsBareQuery, AreDistinct, bare}
 use Rattle.gql_cli.specs.Shown.{data_of, shown_value}
 use Rattle.gql_cli.specs.Table.{rule_answer}
 use Rattle.gql_cli.specs.Tables.{rule_of}

@@ -1,16 +1,15 @@
 -- Keys that differ are united as they come.
 use Rattle.std.proofs.Common.{◌≡◌, ℕ, Bool, true, false, cond, List, [], ◌∷◌, ◌++◌, map, Option, Some, None, IsSome, is_some, refl, ap, sym, ◌∙◌, subst, append_assoc, append-nil}
 use Rattle.std.specs.Str.{bytes_eq}
-use Rattle.gql_base.specs.Pairs.{under, names_of, HasDistinctNames}
-use Rattle.gql_engine.specs.Apart.{unite, unite_all}
+use Rattle.gql_base.specs.Pairs.{under, unite, unite_all, names_of, HasDistinctNames}
 use Rattle.gql_cli.specs.Query.{bare}
 use Rattle.gql_cli.proofs.TablesLemmas.{distinct-never}
 
 unite-fresh : {T : Type 0} (both : T → T → T) (key : List ℕ) (value : T) (ps : List (List ℕ × T)) → under key ps ≡ None
-    → unite both key value ps ≡ ps ++ (key, value) ∷ []
+    → unite both ps key value ≡ ps ++ (key, value) ∷ []
 unite-fresh both key value [] none = refl
 unite-fresh both key value (p ∷ ps) none =
-    let P : Bool → Type 0 = λ b. cond b (Some p.1) (under key ps) ≡ None → cond b ((p.0, both p.1 value) ∷ ps) (p ∷ unite both key value ps) ≡ p ∷ (ps ++ (key, value) ∷ []) in
+    let P : Bool → Type 0 = λ b. cond b (Some p.1) (under key ps) ≡ None → cond b ((p.0, both p.1 value) ∷ ps) (p ∷ unite both ps key value) ≡ p ∷ (ps ++ (key, value) ∷ []) in
     (elim (bytes_eq key p.0) as P [ true ↦ λ h. cc | false ↦ λ h. ap (λ qs. p ∷ qs) (unite-fresh both key value ps h) ]) none
 
 fresh-of : {T : Type 0} (key : List ℕ) (ps : List (List ℕ × T)) → (IsSome (under key ps) → ⊥) → under key ps ≡ None

@@ -1,43 +1,31 @@
 -- A first bench: one object type of constant fields with delays, a query for some of them, and the turns.
-use Rattle.std.specs.Prelude.{◌≡◌, ◌⊎◌, ℕ, ◌≤◌, pos, negsuc, ◌≤ℤ◌, List, [], ◌∷◌, map, Option, None, Some, codes}
+use Rattle.std.specs.Prelude.{◌≡◌, ◌&&◌, ◌||◌, ℕ, ◌≤◌, Bool, IsTrue, List, [], ◌∷◌, map, Option, None, Some, codes}
 use Rattle.std.specs.List.{AllZip}
+use Rattle.std.specs.Str.{bytes_eq}
 use Rattle.serde_json.specs.Data.{Data, string}
-use Rattle.gql_base.specs.declared.value.Value.{Value, out-Value}
-use Rattle.gql_base.specs.declared.value.Value.TheOpen.{Value-F}
+use Rattle.gql_base.specs.declared.value.Value.{Value}
+use Rattle.gql_base.specs.Kinds.{is_null}
 use Rattle.gql_base.specs.Pairs.{HasDistinctNames}
 use Rattle.gql_base.specs.ReadJson.{value_of}
+use Rattle.gql_engine.specs.Completion.{takes}
 use Rattle.gql_tokens.specs.Name.{IsName}
 use Rattle.gql_cli.specs.JsonShape.{object_of, array_of, optional, count}
+use Rattle.gql_cli.specs.Limits.{delay_limit}
 use Rattle.gql_cli.specs.declared.first_bench.FirstField.{FirstField}
 use Rattle.gql_cli.specs.declared.first_bench.FirstBench.{FirstBench}
 
--- null or a whole number of 32 bits with a sign (GraphQL, October 2021, section 3.5.1)
-abbrev pub IsIntHere : Value-F Value → Type 0
-IsIntHere Value-F.Null = Unit {0}
-IsIntHere (Value-F.Number number) = (negsuc 2147483647 ≤ℤ number) × (number ≤ℤ pos 2147483647)
-IsIntHere _ = ⊥
+-- the types that a field of a first bench may have
+abbrev pub is_first_type : List ℕ → Bool
+is_first_type name = (bytes_eq name (codes "Int") || bytes_eq name (codes "String")) || bytes_eq name (codes "Boolean")
 
-abbrev pub IsStringHere : Value-F Value → Type 0
-IsStringHere Value-F.Null = Unit {0}
-IsStringHere (Value-F.String text) = Unit {0}
-IsStringHere _ = ⊥
-
-abbrev pub IsBooleanHere : Value-F Value → Type 0
-IsBooleanHere Value-F.Null = Unit {0}
-IsBooleanHere (Value-F.Boolean truth) = Unit {0}
-IsBooleanHere _ = ⊥
-
--- null, or a value that the type of this name takes
+-- null, or a value that the scalar type of this name takes
 abbrev pub Takes : List ℕ → Value → Type 0
-Takes type_name value =
-    ((type_name ≡ codes "Int") × IsIntHere (out-Value value))
-    ⊎ ((type_name ≡ codes "String") × IsStringHere (out-Value value))
-    ⊎ ((type_name ≡ codes "Boolean") × IsBooleanHere (out-Value value))
+Takes type_name value = IsTrue (is_first_type type_name && (is_null value || takes type_name value))
 
 -- the member that tells how many polls are pending before the answer: none where it is missing
 abbrev pub IsDelay : Option Data → ℕ → Type 0
 IsDelay None delay = delay ≡ 0
-IsDelay (Some json) delay = (json ≡ count delay) × (delay ≤ 1000000)
+IsDelay (Some json) delay = (json ≡ count delay) × (delay ≤ delay_limit)
 
 -- the JSON of an answer with this constant, whose value is the JSON's own, after so many pending polls
 abbrev pub IsConstantAnswer : Data → Data → ℕ → Type 0

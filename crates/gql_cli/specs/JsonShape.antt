@@ -1,7 +1,6 @@
 -- JSON values by their shape.
-use Rattle.std.specs.Prelude.{ℕ, List, [], ◌∷◌, Option, Some, None, if◌then◌else◌}
-use Rattle.std.specs.Str.{bytes_eq}
-use Rattle.serde_json.specs.Data.{Data, unsigned, number, string, array, object, Items, no_items, item, Members, no_members, member}
+use Rattle.std.specs.Prelude.{ℕ, List, [], ◌∷◌, Option, Some, None}
+use Rattle.serde_json.specs.Data.{Data, unsigned, number, array, object, Items, no_items, item, Members, no_members, member}
 
 abbrev pub members : List (List ℕ × Data) → Members
 members [] = no_members
@@ -30,21 +29,3 @@ count n = number (unsigned n)
 abbrev pub members_of : Data → Option Members
 members_of (object ms) = Some ms
 members_of _ = None
-
-abbrev pub list_of : Items → List Data
-list_of no_items = []
-list_of (item d ds) = d ∷ list_of ds
-
--- the items of a list
-abbrev pub items_of : Data → Option (List Data)
-items_of (array ds) = Some (list_of ds)
-items_of _ = None
-
-abbrev pub text_of : Data → Option (List ℕ)
-text_of (string text) = Some text
-text_of _ = None
-
--- the first member, where it has this name, and the others
-abbrev pub first_member : List ℕ → Members → Option (Data × Members)
-first_member name no_members = None
-first_member name (member other d ms) = if bytes_eq name other then Some (d, ms) else None

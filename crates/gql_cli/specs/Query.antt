@@ -2,6 +2,7 @@
 use Rattle.std.specs.Prelude.{◌≡◌, ◌≢◌, ℕ, List, [], All, None, map, codes}
 use Rattle.std.specs.List.{AllZip}
 use Rattle.gql_base.specs.Pairs.{HasDistinctNames}
+use Rattle.gql_doc.specs.Depth.{selections_of}
 use Rattle.gql_doc.specs.declared.document.DocumentOperations.TheVariants as operations
 use Rattle.gql_doc.specs.declared.document.ExecutableDocument.{ExecutableDocument}
 use Rattle.gql_doc.specs.declared.document.Field.{Field, out-Field}
@@ -10,11 +11,6 @@ use Rattle.gql_doc.specs.declared.document.OperationType.TheVariants as kinds
 use Rattle.gql_doc.specs.declared.document.Positioned.{Positioned}
 use Rattle.gql_doc.specs.declared.document.Selection.{Selection, out-Selection}
 use Rattle.gql_doc.specs.declared.document.Selection.TheOpen.{Selection-F}
-use Rattle.gql_doc.specs.declared.document.SelectionSet.{SelectionSet, out-SelectionSet}
-
--- the selections of a set
-abbrev pub selections_of : Positioned SelectionSet → List (Positioned Selection)
-selections_of set = (out-SelectionSet set.node).items
 
 -- the field has this name and nothing else
 pub record HasOnlyName (field : Field) (name : List ℕ) : Type 0 where

@@ -39,7 +39,7 @@ pub(crate) fn run_query<S: ResolverSet<Own = i64>>(
     run_env(alloc, bench, &env, set)
 }
 
-/// What the execution of a document with one operation without a name knows of its request.
+/// What the execution of a document with one operation without a name knows of its request. Beneath names there are no sets.
 fn env_of(alloc: Global, document: ExecutableDocument) -> QueryEnv
     requires { IsNamesQuery document }
     ensures { document.operations ≡ operations.Single result.operation }
@@ -51,13 +51,14 @@ fn env_of(alloc: Global, document: ExecutableDocument) -> QueryEnv
     let DocumentOperations::Single(operation) = operations else {
         unreachable!()
     };
-    QueryEnv {
-        variables: Variables::from_value(alloc, Value::Null),
-        operation_name: None,
+    QueryEnv::new(
+        Variables::from_value(alloc, Value::Null),
+        None,
         operation,
         fragments,
-        introspection_mode: IntrospectionMode::Enabled,
-    }
+        IntrospectionMode::Enabled,
+        1,
+    )
 }
 
 /// Runs an operation over a set, with the turns of the bench.

@@ -2,19 +2,21 @@
 ghost use Rattle.std.specs.Prelude.{◌≡◌, ◌↔◌, ℕ, List, [], ◌∷◌, Some, map, option_map, IfSome, IfNone, IsTrue, IfOk, MatchOption};
 ghost use Rattle.std.specs.List.{AllZip};
 ghost use Rattle.gql_base.specs.ReadJson.{value_of};
-ghost use Rattle.gql_base.specs.declared.value.Value.{Value, out-Value};
+ghost use Rattle.gql_base.specs.Kinds.{is_null};
+ghost use Rattle.gql_base.specs.declared.value.Value.{Value};
 ghost use Rattle.gql_tokens.specs.Name.{IsName};
-ghost use Rattle.gql_tokens.specs.Characters.{is_name_start, is_name_part};
 ghost use Rattle.serde_json.specs.Data.{Data, string};
 ghost use Rattle.serde_json.specs.View.{view};
-ghost use Rattle.gql_cli.specs.FirstBench.{IsShaped, IsField, IsConstantAnswer, IsDelay, IsTurns, Takes, IsIntHere, field_json, object_json, schema_json};
+ghost use Rattle.gql_cli.specs.FirstBench.{IsShaped, IsField, IsConstantAnswer, IsDelay, IsTurns, Takes, is_first_type, field_json, object_json, schema_json};
 ghost use Rattle.gql_cli.specs.JsonShape.{object_of, count};
 
 use crate::json_shape::{
     items_in, one_or_two_members, only_item, only_member, three_members, two_members,
     two_or_three_members,
 };
-use gql_base::{Items, Made, Name, Text, Value, from_json};
+use gql_base::{Items, Made, Name, Text, Value, from_json, is_name};
+use gql_engine::takes_value;
+use gql_tokens::is_name;
 use serde_json::Value as Json;
 use std::alloc::Global;
 
@@ -230,51 +232,21 @@ fn read_constant(alloc: Global, type_name: &str, json: &Json) -> Made<Option<Val
     }
 }
 
-/// True exactly where the type of this name takes a value. Null is taken by each.
+/// True exactly where the type of this name takes a value. Null is taken by each that a field may have.
 fn takes(type_name: &str, value: &Value) -> bool
     ensures { IsTrue result ↔ Takes type_name.now value.now }
 {
-    match type_name {
-        "Int" => is_int(value),
-        "String" => matches!(value, Value::Null | Value::String(_)),
-        "Boolean" => matches!(value, Value::Null | Value::Boolean(_)),
-        _ => false,
-    }
+    is_first_type(type_name) && (is_null(value) || takes_value(type_name, value))
 }
 
-/// True exactly for null and the whole numbers of 32 bits with a sign.
-fn is_int(value: &Value) -> bool
-    ensures { IsTrue result ↔ IsIntHere (out-Value value.now) }
+fn is_first_type(name: &str) -> bool
+    ensures { result ≡ is_first_type name.now }
 {
-    match value {
-        Value::Null => true,
-        Value::Number(number) => match number.as_i64() {
-            Some(whole) => i32::try_from(whole).is_ok(),
-            None => false,
-        },
-        _ => false,
-    }
+    name == "Int" || name == "String" || name == "Boolean"
 }
 
-/// True exactly where a text is a name.
-fn is_name(text: &str) -> bool
-    ensures { IsTrue result ↔ IsName text.now }
+fn is_null(value: &Value) -> bool
+    ensures { result ≡ is_null value.now }
 {
-    let bytes = text.as_bytes();
-    match bytes.first() {
-        None => false,
-        Some(first) => starts_name(*first) && bytes.iter().all(|byte| continues_name(*byte)),
-    }
-}
-
-fn starts_name(byte: u8) -> bool
-    ensures { result ≡ is_name_start byte }
-{
-    byte.is_ascii_alphabetic() || byte == b'_'
-}
-
-fn continues_name(byte: u8) -> bool
-    ensures { result ≡ is_name_part byte }
-{
-    starts_name(byte) || byte.is_ascii_digit()
+    matches!(value, Value::Null)
 }

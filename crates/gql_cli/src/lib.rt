@@ -6,6 +6,7 @@ mod bench;
 mod execution;
 mod first_bench;
 mod json_shape;
+mod laws;
 mod list_turns;
 mod memory;
 mod outcome;
@@ -16,6 +17,8 @@ mod reading;
 mod record_tests;
 mod record_text;
 mod rule;
+#[cfg(test)]
+mod runs;
 mod shared;
 mod sink;
 mod source;
@@ -33,6 +36,7 @@ mod writing;
 
 pub use bench::{Command, Written, bench_of};
 pub use first_bench::LONGEST_DELAY;
+pub use laws::{limits_of_a_bench, one_record_of_a_query, one_result_of_a_bench};
 pub use list_turns::ListTurns;
 pub use memory::{MemorySink, MemorySource};
 pub use outcome::Outcome;

@@ -3,6 +3,7 @@ ghost use Rattle.std.specs.Prelude.{◌≡◌, ◌⊎◌, ◌+◌, ◌<◌, ◌�
 ghost use Rattle.std.specs.Io.KnownBytes.{Keeps, Appends};
 ghost use Rattle.gql_cli.specs.Bench.{Gives, HoldsTold};
 ghost use Rattle.gql_cli.specs.Counts.{IsFull, HasRisen};
+ghost use Rattle.gql_cli.specs.Limits.{input_limit};
 ghost use Rattle.gql_cli.specs.Reading.{IsInput, IsTooLong};
 ghost use Rattle.gql_cli.specs.Run.{IsListed, IsCutOff, IsDue, due_status, due_text, words_for};
 ghost use Rattle.gql_cli.specs.Status.{code_of};
@@ -12,7 +13,6 @@ ghost use Rattle.gql_cli.specs.declared.bench.Written.{Written};
 ghost use Rattle.gql_resolve.specs.declared.record_entry.RecordEntry.{RecordEntry as OneEntry};
 
 use crate::outcome::{Outcome, decide};
-use crate::reading::INPUT_LIMIT;
 use crate::sink::{Sink, SinkFault};
 use crate::source::Source;
 use crate::status::Status;
@@ -40,10 +40,10 @@ pub fn run<R, I: Source, O: Sink, M: Tables>(
 
     // 7 comes exactly where more than the limit was read.
     ensures too_long { result ≡ 7 → IsTooLong I.left I.given source.old source.new }
-    ensures too_many_given { I.given source.old + INPUT_LIMIT < I.given source.new
+    ensures too_many_given { I.given source.old + input_limit < I.given source.new
         → (result ≡ 7) ⊎ IsCutOff result ⊎ IsFull (I.given source.new) }
     ensures too_many_left { IsListed (map string_bytes words.now)
-        → IfSome (I.left source.old) (λ input. INPUT_LIMIT < length input
+        → IfSome (I.left source.old) (λ input. input_limit < length input
         → (result ≡ 7) ⊎ (result ≡ 4) ⊎ IsCutOff result) }
 
     // 0, 1 and 3 come after the whole input was read, by what it gives as a bench.
@@ -83,7 +83,7 @@ pub fn run<R, I: Source, O: Sink, M: Tables>(
 
     // An input that is told and within the limit gives its text, unless a read or a write fails or memory is wanting.
     ensures complete { (command : Command) → map string_bytes words.now ≡ words_for command
-        → IfSome (I.left source.old) (λ input. length input ≤ INPUT_LIMIT
+        → IfSome (I.left source.old) (λ input. length input ≤ input_limit
         → ¬ HasRisen (I.faults source.old) (I.faults source.new)
         → ¬ HasRisen (O.faults sink.old) (O.faults sink.new)
         → (result ≡ 6) ⊎ ((written : Written) × (entries : List OneEntry) × Gives command input written entries
@@ -111,10 +111,10 @@ pub fn run_alone<I: Source, O: Sink, M: Tables>(
 
     // 7 comes exactly where more than the limit was read.
     ensures too_long { result ≡ 7 → IsTooLong I.left I.given source.old source.new }
-    ensures too_many_given { I.given source.old + INPUT_LIMIT < I.given source.new
+    ensures too_many_given { I.given source.old + input_limit < I.given source.new
         → (result ≡ 7) ⊎ IsCutOff result ⊎ IsFull (I.given source.new) }
     ensures too_many_left { IsListed (map string_bytes words.now)
-        → IfSome (I.left source.old) (λ input. INPUT_LIMIT < length input
+        → IfSome (I.left source.old) (λ input. input_limit < length input
         → (result ≡ 7) ⊎ (result ≡ 4) ⊎ IsCutOff result) }
 
     // 0, 1 and 3 come after the whole input was read, by what it gives as a bench.
@@ -154,7 +154,7 @@ pub fn run_alone<I: Source, O: Sink, M: Tables>(
 
     // An input that is told and within the limit gives its text, unless a read or a write fails or memory is wanting.
     ensures complete { (command : Command) → map string_bytes words.now ≡ words_for command
-        → IfSome (I.left source.old) (λ input. length input ≤ INPUT_LIMIT
+        → IfSome (I.left source.old) (λ input. length input ≤ input_limit
         → ¬ HasRisen (I.faults source.old) (I.faults source.new)
         → ¬ HasRisen (O.faults sink.old) (O.faults sink.new)
         → (result ≡ 6) ⊎ ((written : Written) × (entries : List OneEntry) × Gives command input written entries

@@ -1,7 +1,8 @@
 //! The public types can be moved to threads and shared between them, where what they are made of can.
 use crate::{
-    Bench, Command, Failed, ListTurns, MemorySink, MemorySource, Outcome, SinkFault, Status,
-    StdSink, StdSource, SureSink, SureSource, Table, TableFuture, TableMaker, Written,
+    Bench, Command, Failed, ListTurns, MemorySink, MemorySource, Outcome, Rule, RuleKind,
+    SinkFault, Status, StdSink, StdSource, SureSink, SureSource, Table, TableFuture, TableMaker,
+    Written,
 };
 use std::io::{Read, Write};
 
@@ -15,6 +16,8 @@ fn public_types<I: Read + Send + Sync, O: Write + Send + Sync>() {
     shared::<MemorySink>();
     shared::<MemorySource>();
     shared::<Outcome>();
+    shared::<Rule>();
+    shared::<RuleKind>();
     shared::<SinkFault>();
     shared::<Status>();
     shared::<StdSink<O>>();

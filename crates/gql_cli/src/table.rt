@@ -1,7 +1,4 @@
 //! The program's resolver set: the rules of a bench, over its cells.
-ghost use Rattle.std.specs.Prelude.{◌≡◌, ◌++◌, ◌∷◌, ◌<◌, [], IfOk, vec_len, vec_capacity};
-ghost use Rattle.gql_resolve.specs.Record.{entry_of};
-
 use crate::rule::{Rule, RuleKind};
 use crate::tables::Bench;
 use gql_base::{Copied, Items, Made};
@@ -85,21 +82,8 @@ impl Table {
         ensures entry { OnOk result (self.new.told ≡ self.old.told ++ entry_of call.now ready ∷ []) }
         ensures err { OnErr result (self.new ≡ self.old) }
     {
-        let entry = entry(alloc, call, ready)?;
-        self.told.push(entry)
+        self.told.push(RecordEntry::of(alloc, call, ready)?)
     }
-}
-
-/// The entry of a task's turn.
-fn entry(alloc: Global, call: &ResolverContext<'_, i64>, ready: bool) -> Made<RecordEntry>
-    ensures { IfOk result (λ entry. entry ≡ entry_of call.now ready) }
-{
-    Ok(RecordEntry {
-        task: call.task,
-        resolver: call.resolver,
-        path: call.path_node.text(alloc)?,
-        ready,
-    })
 }
 
 impl ResolverSet for Table {
@@ -153,7 +137,7 @@ impl ResolverSet for Table {
         let value = self.value_of(alloc, call.resolver)?;
         self.begun.reserve(1)?;
         self.tell(alloc, call, true)?;
-        push_within(&mut self.begun, call.task);
+        self.begun.push_reserved(call.task);
         Ok(FieldFuture::Value(value))
     }
 
@@ -188,16 +172,5 @@ impl ResolverSet for Table {
 
     fn snapshot(&self, alloc: Global) -> Made<Items<i64>> {
         self.cells.try_clone(alloc)
-    }
-}
-
-/// Adds a number for which there is room.
-fn push_within(numbers: &mut Vec<u64>, number: u64)
-    requires { vec_len numbers.old < vec_capacity numbers.old }
-    ensures { numbers.new.items ≡ numbers.old.items ++ number ∷ [] }
-{
-    match numbers.push(number) {
-        Ok(()) => {}
-        Err(_) => unreachable!(),
     }
 }

@@ -2,8 +2,9 @@
 use Rattle.std.proofs.Common.{◌≡◌, ℕ, true, false, cond, ◌||◌, List, [], ◌∷◌, ◌++◌, map, Option, Some, None, is_some, Ok, Err, refl, sym, ap, ◌∙◌, append_assoc, append-nil}
 use Rattle.std.proofs.lemmas.List.{map-append}
 use Rattle.std.specs.Str.{bytes_eq}
-use Rattle.gql_base.specs.Pairs.{under, put, names_of}
-use Rattle.gql_base.proofs.PairLemmas.{put-fresh}
+use Rattle.gql_base.specs.Pairs.{under, names_of}
+use Rattle.std.specs.Option.{option_or}
+use Rattle.gql_doc.specs.First.{first_in}
 use Rattle.gql_doc.specs.declared.trouble.BuildError.{BuildError}
 use Rattle.gql_doc.specs.declared.trouble.BuildError.TheVariants.{Memory, Doubled}
 use mathlib.Core.Former.{Count}
@@ -13,18 +14,18 @@ use Rattle.gql_doc.specs.declared.document.DocValue.TheVariants as doc
 use Rattle.gql_doc.specs.declared.tree.ValueTree.{ValueTree, List as ListTree, Object as ObjectTree, Row_of-ValueTree, end_of-ValueTree, more_of-ValueTree, items-the_row-ValueTree, items_hidden-the_row-ValueTree-0, Row_of-MemberTree, end_of-MemberTree, more_of-MemberTree, items-the_row-MemberTree, items_hidden-the_row-MemberTree-1}
 use Rattle.gql_doc.specs.declared.tree.ValueTree.TheBlock.{hidden-the_row-ValueTree-0, hidden-the_row-MemberTree-1}
 use Rattle.gql_doc.specs.declared.tree.MemberTree.{MemberTree}
-use Rattle.gql_doc.specs.NameRules.{first_of, first_in, is_among, if_among, if_doubled, doubled_in_value, doubled_in_values, doubled_in_members}
+use Rattle.gql_doc.specs.NameRules.{is_among, if_among, if_doubled, doubled_in_value, doubled_in_values, doubled_in_members}
 use Rattle.gql_doc.specs.Building.{value_of, values_of, members_of, constant_of, constants_of, constant_members_of}
 use Rattle.gql_doc.specs.Builds.{Builds, Refuses, member_of, constant_member_of, doubled_in_member, doubled_among_members}
 
 doubled_row : (m : Count) (row : Row_of-ValueTree m) → doubled_in_values row ≡ first_in doubled_in_value (items-the_row-ValueTree m row)
 doubled_row _ end_of-ValueTree = refl
-doubled_row _ (more_of-ValueTree v row) = ap (first_of (doubled_in_value v)) (doubled_row _ row)
+doubled_row _ (more_of-ValueTree v row) = ap (option_or (doubled_in_value v)) (doubled_row _ row)
 
 doubled_members_row : (names : List (List ℕ)) (m : Count) (row : Row_of-MemberTree m) → doubled_in_members names row ≡ doubled_among_members names (items-the_row-MemberTree m row)
 doubled_members_row names _ end_of-MemberTree = refl
 doubled_members_row names _ (more_of-MemberTree name v row) =
-    ap (first_of (first_of (if_doubled names name) (doubled_in_value v))) (doubled_members_row (names ++ name.node ∷ []) _ row)
+    ap (option_or (option_or (if_doubled names name) (doubled_in_value v))) (doubled_members_row (names ++ name.node ∷ []) _ row)
 
 values_row : (m : Count) (row : Row_of-ValueTree m) → values_of row ≡ map value_of (items-the_row-ValueTree m row)
 values_row _ end_of-ValueTree = refl
@@ -79,11 +80,8 @@ not_taken name ps pos none = ap (λ b. cond b (Some pos) None) (taken_names name
 pub taken : {T : Type 0} → (name : List ℕ) (ps : List (List ℕ × T)) (pos : Pos) (x : T) → under name ps ≡ Some x → if_among (names_of ps) name pos ≡ Some pos
 taken name ps pos x some = ap (λ b. cond b (Some pos) None) (taken_names name ps ∙ ap is_some some)
 
-pub put_fresh : {T : Type 0} → (ps : List (List ℕ × T)) (name : List ℕ) (x : T) → under name ps ≡ None → put ps name x ≡ ps ++ (name, x) ∷ []
-put_fresh ps name x none = put-fresh ps name x none
-
-pub first_of_both : (a b : Option Pos) → a ≡ None → first_of a b ≡ b
-first_of_both a b none = ap (λ o. first_of o b) none
+pub first_of_both : (a b : Option Pos) → a ≡ None → option_or a b ≡ b
+first_of_both a b none = ap (λ o. option_or o b) none
 
 -- Loops that build one part after the other.
 
@@ -94,14 +92,14 @@ module _ {A B : Type 0} (f : A → Option Pos) (g : A → B) where
 
   pub goes : (all : List A) (built more : List B) (x : A) (left rest : List A) (y : B) → left ≡ x ∷ rest → f x ≡ None → y ≡ g x → more ≡ built ++ y ∷ [] → IsBuilding all built left → IsBuilding all more rest
   goes all built more x left rest y next none same added (first, whole) = (
-    first ∙ ap (first_in f) next ∙ ap (λ o. first_of o (first_in f rest)) none,
+    first ∙ ap (first_in f) next ∙ ap (λ o. option_or o (first_in f rest)) none,
     whole ∙ ap (λ xs. built ++ map g xs) next ∙ sym (append_assoc built (g x ∷ []) (map g rest)) ∙ ap (λ z. (built ++ z ∷ []) ++ map g rest) (sym same) ∙ ap (λ bs. bs ++ map g rest) (sym added),
   )
 
   pub stops : {C : Type 0} → (error : BuildError) (all : List A) (built : List B) (x : A) (left rest : List A) (part : C) → left ≡ x ∷ rest → Refuses {A = B} (Err error) (f x) → IsBuilding all built left → Builds {A = C} (Err error) (first_in f all) part
   stops Memory all built x left rest part next refused (first, whole) = tt
   stops (Doubled pos) all built x left rest part next refused (first, whole) =
-      first ∙ ap (first_in f) next ∙ ap (λ o. first_of o (first_in f rest)) refused
+      first ∙ ap (first_in f) next ∙ ap (λ o. option_or o (first_in f rest)) refused
 
   pub ends : (all : List A) (built : List B) (left : List A) → left ≡ [] → IsBuilding all built left → Builds (Ok built) (first_in f all) (map g all)
   ends all built left none (first, whole) =
@@ -119,7 +117,7 @@ module _ {B : Type 0} (v : ValueTree → B) where
   pub members_go : (all : List MemberTree) (built more : List (List ℕ × B)) (x : MemberTree) (left rest : List MemberTree) → left ≡ x ∷ rest → doubled_in_member (names_of built) x ≡ None → more ≡ built ++ member x ∷ [] → AreBuilding all built left → AreBuilding all more rest
   members_go all built more x left rest next none added (first, whole) = (
     first ∙ ap (doubled_among_members (names_of built)) next
-        ∙ ap (λ o. first_of o (doubled_among_members (names_of built ++ x.name.node ∷ []) rest)) none
+        ∙ ap (λ o. option_or o (doubled_among_members (names_of built ++ x.name.node ∷ []) rest)) none
         ∙ ap (λ ns. doubled_among_members ns rest) (sym (map-append (λ p. p.0) built (member x ∷ [])))
         ∙ ap (λ ps. doubled_among_members (names_of ps) rest) (sym added),
     whole ∙ ap (λ xs. built ++ map member xs) next ∙ sym (append_assoc built (member x ∷ []) (map member rest)) ∙ ap (λ bs. bs ++ map member rest) (sym added),
@@ -128,7 +126,7 @@ module _ {B : Type 0} (v : ValueTree → B) where
   pub members_stop : {C : Type 0} → (error : BuildError) (all : List MemberTree) (built : List (List ℕ × B)) (x : MemberTree) (left rest : List MemberTree) (part : C) → left ≡ x ∷ rest → Refuses {A = B} (Err error) (doubled_in_member (names_of built) x) → AreBuilding all built left → Builds {A = C} (Err error) (doubled_among_members [] all) part
   members_stop Memory all built x left rest part next refused (first, whole) = tt
   members_stop (Doubled pos) all built x left rest part next refused (first, whole) =
-      first ∙ ap (doubled_among_members (names_of built)) next ∙ ap (λ o. first_of o (doubled_among_members (names_of built ++ x.name.node ∷ []) rest)) refused
+      first ∙ ap (doubled_among_members (names_of built)) next ∙ ap (λ o. option_or o (doubled_among_members (names_of built ++ x.name.node ∷ []) rest)) refused
 
   pub members_end : (all : List MemberTree) (built : List (List ℕ × B)) (left : List MemberTree) → left ≡ [] → AreBuilding all built left → Builds (Ok built) (doubled_among_members [] all) (map member all)
   members_end all built left none (first, whole) =

@@ -11,7 +11,8 @@ use Rattle.gql_doc.specs.declared.trouble.Trouble.TheVariants.{Unexpected, TooDe
 use Rattle.gql_doc.specs.declared.fault.ParseKind.{ParseKind}
 use Rattle.gql_doc.specs.declared.fault.ParseKind.TheVariants as kind
 use Rattle.gql_doc.specs.declared.fault.ParseFault.{ParseFault}
-use Rattle.gql_doc.specs.Words.{Tokens, AreTokens, AreTokensFrom, Word, Language, tokens_of, NoneDeep, plain}
+use Rattle.gql_tokens.specs.Lexer.{EndFinally, EndFinallyFrom}
+use Rattle.gql_doc.specs.Words.{Tokens, Word, Language, tokens_of, NoneDeep, plain}
 use Rattle.gql_doc.specs.Spelling.{Spells, Begins, OpensTooDeep, kind_of, IsWrong, IsFault, Settles}
 use Rattle.gql_doc.specs.Readers.{Reading, Reader, place_of}
 use Rattle.gql_doc.specs.Reading.{kind_at, parsed, parsed_by}
@@ -20,16 +21,16 @@ use Rattle.gql_doc.proofs.TextLaws.{ReadsText}
 
 -- Lists of tokens.
 
-ends_behind : (t : Token) (ts : Tokens) → AreTokensFrom t ts → EndsBehind t ts
+ends_behind : (t : Token) (ts : Tokens) → EndFinallyFrom t ts → EndsBehind t ts
 ends_behind t [] final = final
 ends_behind t (u ∷ us) (other, more) = ends_behind u us more
 
-pub are_end : (ts : Tokens) → AreTokens ts → Ends ts
+pub are_end : (ts : Tokens) → EndFinally ts → Ends ts
 are_end [] none = absurd none
 are_end (t ∷ ts) more = ends_behind t ts more
 
 -- nothing stands behind a final token
-pub final_last : (front : Tokens) (t : Token) (rest : Tokens) → AreTokens (front ++ t ∷ rest) → is_final t.lexeme ≡ true → rest ≡ []
+pub final_last : (front : Tokens) (t : Token) (rest : Tokens) → EndFinally (front ++ t ∷ rest) → is_final t.lexeme ≡ true → rest ≡ []
 final_last [] t [] are final = refl
 final_last [] t (u ∷ us) (other, more) final = absurd (cc (other, final))
 final_last (s ∷ []) t rest (other, more) final = final_last [] t rest more final
@@ -124,26 +125,26 @@ module _ {A : Type 0} (f : Reader A) (D : A → Language) (reads : ReadsText f D
   explained : (tokens : Tokens) (o : Result A Trouble) (rest : Tokens) → f tokens ≡ (o, rest) → Explains D tokens o rest
   explained tokens o rest e = subst (λ reading. Explains D tokens reading.0 reading.1) e (reads.sound tokens)
 
-  fault_of : (tokens : Tokens) (trouble : Trouble) (rest : Tokens) → AreTokens tokens → f tokens ≡ (Err trouble, rest) → IsFault D tokens (record { kind = kind_at trouble rest; pos = place_of rest })
+  fault_of : (tokens : Tokens) (trouble : Trouble) (rest : Tokens) → EndFinally tokens → f tokens ≡ (Err trouble, rest) → IsFault D tokens (record { kind = kind_at trouble rest; pos = place_of rest })
   fault_of tokens trouble [] are e =
       absurd (subst Ends (ap (λ reading. reading.1) e) (reads.stops tokens trouble (are_end tokens are) (ap (λ reading. reading.0) e)))
   fault_of tokens trouble (t ∷ r) are e = fault_here tokens trouble t r e (explained tokens (Err trouble) (t ∷ r) e)
 
   -- a value has all the tokens for its word
-  all_read : (tokens : Tokens) (v : A) (rest : Tokens) → AreTokens tokens → Explains D tokens (Ok v) rest → Spells D tokens v
+  all_read : (tokens : Tokens) (v : A) (rest : Tokens) → EndFinally tokens → Explains D tokens (Ok v) rest → Spells D tokens v
   all_read tokens v rest are (c, same, n, d) =
       let last = reads.ends v c d in
       let end : Token = record { lexeme = lexeme.End; pos = last.1 } in
       let whole : tokens ≡ tokens_of last.0 ++ end ∷ rest = same ∙ ap (λ w. tokens_of w ++ rest) last.2 ∙ ap (λ ts. ts ++ rest) (tokens_of-append last.0 (plain end ∷ [])) ∙ append_assoc (tokens_of last.0) (end ∷ []) rest in
-      let none : rest ≡ [] = final_last (tokens_of last.0) end rest (subst AreTokens whole are) refl in
+      let none : rest ≡ [] = final_last (tokens_of last.0) end rest (subst EndFinally whole are) refl in
       record { word = c; derived = d; same = sym (same ∙ ap (λ ts. tokens_of c ++ ts) none ∙ append-nil (tokens_of c)); within = n }
 
-  settled_at : (tokens : Tokens) → AreTokens tokens → (o : Result A Trouble) (rest : Tokens) → f tokens ≡ (o, rest) → Settles D tokens (parsed o rest)
+  settled_at : (tokens : Tokens) → EndFinally tokens → (o : Result A Trouble) (rest : Tokens) → f tokens ≡ (o, rest) → Settles D tokens (parsed o rest)
   settled_at tokens are (Ok v) rest e = all_read tokens v rest are (explained tokens (Ok v) rest e)
   settled_at tokens are (Err trouble) rest e = fault_of tokens trouble rest are e
 
   -- what is answered is the tree that the tokens spell, or their first fault
-  pub settled : (tokens : Tokens) → AreTokens tokens → Settles D tokens (parsed_by f tokens)
+  pub settled : (tokens : Tokens) → EndFinally tokens → Settles D tokens (parsed_by f tokens)
   settled tokens are = settled_at tokens are (f tokens).0 (f tokens).1 refl
 
   -- the tree that the tokens spell is answered
@@ -151,10 +152,6 @@ module _ {A : Type 0} (f : Reader A) (D : A → Language) (reads : ReadsText f D
   spelled tokens v s =
       let one : f tokens ≡ (Ok v, []) = ap f (sym s.same ∙ sym (append-nil (tokens_of s.word))) ∙ reads.complete v s.word [] s.derived tt ∙ outcome-none_deep v s.word [] s.within in
       ap (λ reading. parsed reading.0 reading.1) one
-
-  -- tokens spell one tree at most
-  pub one_tree : (tokens : Tokens) (v w : A) → Spells D tokens v → Spells D tokens w → v ≡ w
-  one_tree tokens v w s t = cc (spelled tokens v s, spelled tokens w t)
 
   -- The first fault is answered.
 
@@ -176,12 +173,12 @@ module _ {A : Type 0} (f : Reader A) (D : A → Language) (reads : ReadsText f D
         absurd (none (begins_longer front t (tokens_of more) (tokens_of (c ++ deep_token u ∷ more)) (record { tree = v; word = c ++ deep_token u ∷ more; more = []; derived = d; same = sym (append-nil (tokens_of (c ++ deep_token u ∷ more))) }) (tokens_of-append c (deep_token u ∷ more) ∙ (λ i. sym h i ++ sym l i ∷ tokens_of more))))
     at_deep c more v u r n d (inr (inr (y, h))) = absurd (shallow (tokens_of c) u y h (record { tree = v; before = c; after = more; derived = d; same = refl; within = n }))
 
-    at_value : (tokens : Tokens) (v : A) (rest : Tokens) → tokens ≡ front ++ t ∷ left → AreTokens tokens → Explains D tokens (Ok v) rest → parsed (Ok v) rest ≡ Err fault
+    at_value : (tokens : Tokens) (v : A) (rest : Tokens) → tokens ≡ front ++ t ∷ left → EndFinally tokens → Explains D tokens (Ok v) rest → parsed (Ok v) rest ≡ Err fault
     at_value tokens v rest here are x =
         let s = all_read tokens v rest are x in
         absurd (none (record { tree = v; word = s.word; more = left; derived = s.derived; same = s.same ∙ here ∙ sym (append_assoc front (t ∷ []) left) }))
 
-    stopped : (tokens : Tokens) → tokens ≡ front ++ t ∷ left → AreTokens tokens → (o : Result A Trouble) (rest : Tokens) → f tokens ≡ (o, rest) → Explains D tokens o rest → parsed o rest ≡ Err fault
+    stopped : (tokens : Tokens) → tokens ≡ front ++ t ∷ left → EndFinally tokens → (o : Result A Trouble) (rest : Tokens) → f tokens ≡ (o, rest) → Explains D tokens o rest → parsed o rest ≡ Err fault
     stopped tokens here are (Ok v) rest e x = at_value tokens v rest here are x
     stopped tokens here are (Err trouble) [] e x =
         absurd (subst Ends (ap (λ reading. reading.1) e) (reads.stops tokens trouble (are_end tokens are) (ap (λ reading. reading.0) e)))
@@ -191,7 +188,7 @@ module _ {A : Type 0} (f : Reader A) (D : A → Language) (reads : ReadsText f D
         let l : w ≡ u = ap (λ ts. get_or ts 0 w) (sym h) in
         at_deep c more v u r n (subst (λ (z : Token). D v (c ++ deep_token z ∷ more)) l d) (ordered front t left (tokens_of c) u r (sym here ∙ same))
 
-  answered : (tokens : Tokens) → AreTokens tokens → (k : ParseKind) (p : Pos) → IsFault D tokens (record { kind = k; pos = p }) → parsed_by f tokens ≡ Err (record { kind = k; pos = p })
+  answered : (tokens : Tokens) → EndFinally tokens → (k : ParseKind) (p : Pos) → IsFault D tokens (record { kind = k; pos = p }) → parsed_by f tokens ≡ Err (record { kind = k; pos = p })
   answered tokens are kind.Nesting p h =
       let one : f tokens ≡ (Err TooDeep, h.token ∷ h.rest) = ap f h.here ∙ deep_here h.front h.token h.rest h.wrong in
       ap (λ reading. parsed reading.0 reading.1) one ∙ (λ i. Err (record { kind = kind.Nesting; pos = sym h.place i }))
@@ -201,12 +198,8 @@ module _ {A : Type 0} (f : Reader A) (D : A → Language) (reads : ReadsText f D
       stopped h.front h.token h.rest (record { kind = k; pos = p }) h.wrong.0 h.place h.wrong.1 h.begun h.shallow tokens h.here are (f tokens).0 (f tokens).1 refl (reads.sound tokens)
 
   -- a fault that is the first of the tokens is answered
-  pub first_fault : (tokens : Tokens) (fault : ParseFault) → AreTokens tokens → IsFault D tokens fault → parsed_by f tokens ≡ Err fault
+  pub first_fault : (tokens : Tokens) (fault : ParseFault) → EndFinally tokens → IsFault D tokens fault → parsed_by f tokens ≡ Err fault
   first_fault tokens fault are h = answered tokens are fault.kind fault.pos h
-
-  -- tokens have one first fault at most
-  pub one_fault : (tokens : Tokens) (a b : ParseFault) → AreTokens tokens → IsFault D tokens a → IsFault D tokens b → a ≡ b
-  one_fault tokens a b are h k = cc (first_fault tokens a are h, first_fault tokens b are k)
 
 -- what holds of the one value that a call can give
 pub if_ok_is : {X E : Type 0} → (r : Result X E) (x : X) (Q : X → Type 0) → IfOk r (λ y. y ≡ x) → Q x → IfOk r Q

@@ -4,6 +4,8 @@ pub mod Classify
 pub mod CursorLaws
 pub mod Deep
 pub mod DefinitionLaws
+pub mod DepthLaws
+pub mod DepthRows
 pub mod DraftLaws
 pub mod Follows
 pub mod LevelLaws

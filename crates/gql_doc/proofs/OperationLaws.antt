@@ -1,14 +1,16 @@
 -- The rule on operations, by how many there are.
 use Rattle.std.proofs.Common.{◌≡◌, List, [], ◌∷◌, length, None, refl, sym, ap, ◌∙◌, arith}
+use Rattle.std.specs.Option.{option_or}
+use Rattle.gql_doc.specs.First.{first_in}
 use Rattle.gql_doc.specs.declared.tree.OperationTree.{OperationTree}
 use Rattle.gql_doc.specs.declared.tree.DefinitionTree.{DefinitionTree}
 use Rattle.gql_doc.specs.declared.tree.DefinitionTree.TheVariants.{Operation, Fragment}
-use Rattle.gql_doc.specs.NameRules.{first_of, first_in, operations, anonymous, wrong_among, wrong_operations}
+use Rattle.gql_doc.specs.NameRules.{operations, anonymous, wrong_among, wrong_operations}
 use Rattle.gql_doc.specs.Builds.{anonymous_in, first_pos}
 
 all_anonymous : (ds : List DefinitionTree) → first_in anonymous (operations ds) ≡ first_in anonymous_in ds
 all_anonymous [] = refl
-all_anonymous (Operation operation ∷ ds) = ap (first_of (anonymous operation)) (all_anonymous ds)
+all_anonymous (Operation operation ∷ ds) = ap (option_or (anonymous operation)) (all_anonymous ds)
 all_anonymous (Fragment fragment ∷ ds) = all_anonymous ds
 
 without : (os : List OperationTree) (ds : List DefinitionTree) → length os ≡ 0 → first_pos ds ≡ wrong_among os ds

@@ -8,7 +8,7 @@ use Rattle.gql_tokens.proofs.StepLaws.{lexes_end}
 use Rattle.gql_doc.specs.declared.document.ExecutableDocument.{ExecutableDocument}
 use Rattle.gql_doc.specs.declared.fault.ParseFault.{ParseFault}
 use Rattle.gql_doc.specs.declared.tree.DefinitionTree.{DefinitionTree}
-use Rattle.gql_doc.specs.Words.{Tokens, AreTokens}
+use Rattle.gql_doc.specs.Words.{Tokens}
 use Rattle.gql_doc.specs.Grammar.{IsDocument, IsTypeText}
 use Rattle.gql_doc.specs.Spelling.{Spells, Settles}
 use Rattle.gql_doc.specs.Reading.{parsed_by, document, type_text}
@@ -18,16 +18,11 @@ use Rattle.gql_doc.specs.Ruled.{ruled_by, then_ruled, query_of}
 use Rattle.gql_doc.proofs.TextLaws.{document_reads, type_text_reads}
 use Rattle.gql_doc.proofs.Classify.{settled, spelled, first_fault}
 
-pub are_tokens : (tokens : Tokens) → EndFinally tokens → AreTokens tokens
-are_tokens [] none = none
-are_tokens (t ∷ []) final = final
-are_tokens (t ∷ u ∷ ts) (other, more) = (other, are_tokens (u ∷ ts) more)
-
 one_list : (text : List ℕ) (ts us : Tokens) → AreTokensOf text ts → AreTokensOf text us → us ≡ ts
 one_list text ts us h k = lexes_unique text_start text us ts k h
 
-lexed_are : (text : List ℕ) (tokens : Tokens) → AreTokensOf text tokens → AreTokens tokens
-lexed_are text tokens lexed = are_tokens tokens (lexes_end text_start text tokens lexed)
+lexed_are : (text : List ℕ) (tokens : Tokens) → AreTokensOf text tokens → EndFinally tokens
+lexed_are text tokens lexed = lexes_end text_start text tokens lexed
 
 module _ (text : List ℕ) (tokens : Tokens) (lexed : AreTokensOf text tokens) where
   -- Documents.

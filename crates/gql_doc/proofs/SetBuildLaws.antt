@@ -2,6 +2,8 @@
 use Rattle.std.proofs.Common.{◌≡◌, List, ◌∷◌, map, Option, None, Err, refl, sym, ap, ◌∙◌}
 use mathlib.Core.Former.{Count}
 use Rattle.gql_base.specs.declared.pos.Pos.{Pos}
+use Rattle.std.specs.Option.{option_or}
+use Rattle.gql_doc.specs.First.{first_in}
 use Rattle.gql_doc.specs.declared.document.Selection.TheVariants as selection
 use Rattle.gql_doc.specs.declared.document.Field.{roll-Field}
 use Rattle.gql_doc.specs.declared.document.InlineFragment.{roll-InlineFragment}
@@ -17,13 +19,13 @@ use Rattle.gql_doc.specs.declared.tree.DirectiveTree.{DirectiveTree}
 use Rattle.gql_doc.specs.declared.tree.SelectionTree.{SelectionTree, Field, Inline, Row_of-SelectionTree, end_of-SelectionTree, more_of-SelectionTree, items-the_row-SelectionTree, items_hidden-the_row-SelectionTree-0}
 use Rattle.gql_doc.specs.declared.tree.SelectionTree.TheBlock.{hidden-the_row-SelectionTree-0}
 use Rattle.gql_doc.specs.Grammar.{head_pos}
-use Rattle.gql_doc.specs.NameRules.{first_of, first_in, doubled_in_arguments, doubled_in_directives, doubled_in_selection, doubled_in_selections}
+use Rattle.gql_doc.specs.NameRules.{doubled_in_arguments, doubled_in_directives, doubled_in_selection, doubled_in_selections}
 use Rattle.gql_doc.specs.Building.{placed, argument_of, directive_of, set_of, selection_of, selections_of}
 use Rattle.gql_doc.specs.Words.{PlacedName}
 
 doubled_row : (m : Count) (row : Row_of-SelectionTree m) → doubled_in_selections row ≡ first_in doubled_in_selection (items-the_row-SelectionTree m row)
 doubled_row _ end_of-SelectionTree = refl
-doubled_row _ (more_of-SelectionTree s row) = ap (first_of (doubled_in_selection s)) (doubled_row _ row)
+doubled_row _ (more_of-SelectionTree s row) = ap (option_or (doubled_in_selection s)) (doubled_row _ row)
 
 selections_row : (m : Count) (row : Row_of-SelectionTree m) → selections_of row ≡ map selection_of (items-the_row-SelectionTree m row)
 selections_row _ end_of-SelectionTree = refl
@@ -39,15 +41,15 @@ hidden_built ss =
 
 module _ (alias : Option PlacedName) (name : PlacedName) (arguments : List ArgumentTree) (directives : List DirectiveTree) (set : Pos) (selections : List SelectionTree) where
   pub doubled_field : doubled_in_selection (Field alias name arguments directives set selections)
-      ≡ first_of (doubled_in_arguments arguments) (first_of (doubled_in_directives directives) (first_in doubled_in_selection selections))
+      ≡ option_or (doubled_in_arguments arguments) (option_or (doubled_in_directives directives) (first_in doubled_in_selection selections))
   doubled_field =
-      ap (λ o. first_of (doubled_in_arguments arguments) (first_of (doubled_in_directives directives) o)) (doubled_hidden selections)
+      ap (λ o. option_or (doubled_in_arguments arguments) (option_or (doubled_in_directives directives) o)) (doubled_hidden selections)
 
   pub doubled_field_last : doubled_in_arguments arguments ≡ None → doubled_in_directives directives ≡ None
       → doubled_in_selection (Field alias name arguments directives set selections) ≡ first_in doubled_in_selection selections
   doubled_field_last none nothing =
-      doubled_field ∙ ap (λ o. first_of o (first_of (doubled_in_directives directives) (first_in doubled_in_selection selections))) none
-      ∙ ap (λ o. first_of o (first_in doubled_in_selection selections)) nothing
+      doubled_field ∙ ap (λ o. option_or o (option_or (doubled_in_directives directives) (first_in doubled_in_selection selections))) none
+      ∙ ap (λ o. option_or o (first_in doubled_in_selection selections)) nothing
 
   pub field_built : selection_of (Field alias name arguments directives set selections)
       ≡ placed (head_pos alias name) (selection.Field (placed (head_pos alias name)
@@ -74,12 +76,12 @@ module _ (alias : Option PlacedName) (name : PlacedName) (arguments : List Argum
 
 module _ (pos : Pos) (condition : Option PlacedName) (directives : List DirectiveTree) (set : Pos) (selections : List SelectionTree) where
   pub doubled_inline : doubled_in_selection (Inline pos condition directives set selections)
-      ≡ first_of (doubled_in_directives directives) (first_in doubled_in_selection selections)
-  doubled_inline = ap (λ o. first_of (doubled_in_directives directives) o) (doubled_hidden selections)
+      ≡ option_or (doubled_in_directives directives) (first_in doubled_in_selection selections)
+  doubled_inline = ap (λ o. option_or (doubled_in_directives directives) o) (doubled_hidden selections)
 
   pub doubled_inline_last : doubled_in_directives directives ≡ None
       → doubled_in_selection (Inline pos condition directives set selections) ≡ first_in doubled_in_selection selections
-  doubled_inline_last none = doubled_inline ∙ ap (λ o. first_of o (first_in doubled_in_selection selections)) none
+  doubled_inline_last none = doubled_inline ∙ ap (λ o. option_or o (first_in doubled_in_selection selections)) none
 
   pub inline_built : selection_of (Inline pos condition directives set selections)
       ≡ placed pos (selection.InlineFragment (placed pos

@@ -6,6 +6,7 @@ use mathlib.Core.Former.{Count}
 use Rattle.gql_base.specs.declared.pos.Pos.{Pos}
 use Rattle.gql_base.specs.declared.value.Value.{Value}
 use Rattle.gql_base.specs.declared.value.Value.TheVariants as constant
+use Rattle.gql_doc.specs.First.{first_in}
 use Rattle.gql_doc.specs.declared.document.Positioned.{Positioned}
 use Rattle.gql_doc.specs.declared.document.DocValue.{DocValue}
 use Rattle.gql_doc.specs.declared.document.DocValue.TheVariants as value
@@ -134,16 +135,6 @@ fragment_of fragment =
     placed fragment.pos
     (record { type_condition = fragment.condition; directives = map directive_of fragment.directives; selection_set = whole_set_of fragment.set })
 
--- the one, or else the other
-abbrev pub or_else : {A : Type 0} → Option A → Option A → Option A
-or_else (Some a) other = Some a
-or_else None other = other
-
--- the first that one of these gives
-abbrev pub first_given : {A B : Type 0} → (A → Option B) → List A → Option B
-first_given f [] = None
-first_given f (x ∷ xs) = or_else (f x) (first_given f xs)
-
 abbrev pub if_without_name : {A : Type 0} → Option PlacedName → A → Option A
 if_without_name None definition = Some definition
 if_without_name (Some name) definition = None
@@ -175,4 +166,4 @@ operations_of None named = Multiple named
 -- Document (section 2.2)
 abbrev pub document_of : List DefinitionTree → ExecutableDocument
 document_of definitions =
-    record { operations = operations_of (first_given anonymous_of definitions) (flat_map named_of definitions); fragments = flat_map fragments_of definitions }
+    record { operations = operations_of (first_in anonymous_of definitions) (flat_map named_of definitions); fragments = flat_map fragments_of definitions }

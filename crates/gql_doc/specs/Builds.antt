@@ -2,7 +2,8 @@
 use Rattle.std.specs.Prelude.{◌≡◌, ℕ, List, [], ◌∷◌, ◌++◌, Option, Some, None, Result, Ok, Err}
 use Rattle.gql_base.specs.declared.pos.Pos.{Pos}
 use Rattle.gql_base.specs.declared.value.Value.{Value}
-use Rattle.gql_base.specs.Pairs.{under, put}
+use Rattle.gql_base.specs.Pairs.{under}
+use Rattle.std.specs.Option.{option_or}
 use Rattle.gql_doc.specs.declared.document.DocValue.{DocValue}
 use Rattle.gql_doc.specs.declared.trouble.BuildError.{BuildError}
 use Rattle.gql_doc.specs.declared.trouble.BuildError.TheVariants.{Memory, Doubled}
@@ -10,7 +11,7 @@ use Rattle.gql_doc.specs.declared.tree.MemberTree.{MemberTree}
 use Rattle.gql_doc.specs.declared.tree.DefinitionTree.{DefinitionTree}
 use Rattle.gql_doc.specs.declared.tree.DefinitionTree.TheVariants.{Operation, Fragment}
 use Rattle.gql_doc.specs.Words.{PlacedName}
-use Rattle.gql_doc.specs.NameRules.{first_of, if_doubled, doubled_in_value, anonymous, definition_pos}
+use Rattle.gql_doc.specs.NameRules.{if_doubled, doubled_in_value, anonymous, definition_pos}
 use Rattle.gql_doc.specs.Building.{value_of, constant_of}
 
 -- want of memory says nothing
@@ -39,12 +40,12 @@ constant_member_of member = (member.name.node, constant_of member.value)
 
 -- the second name in an object, or in the value of a member
 abbrev pub doubled_in_member : List (List ℕ) → MemberTree → Option Pos
-doubled_in_member names member = first_of (if_doubled names member.name) (doubled_in_value member.value)
+doubled_in_member names member = option_or (if_doubled names member.name) (doubled_in_value member.value)
 
 -- the first fault of parts that have names, behind those of these names
 abbrev pub first_behind : {A : Type 0} → (A → List (List ℕ)) → (List (List ℕ) → A → Option Pos) → List (List ℕ) → List A → Option Pos
 first_behind names_in f names [] = None
-first_behind names_in f names (x ∷ xs) = first_of (f names x) (first_behind names_in f (names ++ names_in x) xs)
+first_behind names_in f names (x ∷ xs) = option_or (f names x) (first_behind names_in f (names ++ names_in x) xs)
 
 abbrev pub doubled_among_members : List (List ℕ) → List MemberTree → Option Pos
 doubled_among_members = first_behind (λ member. member.name.node ∷ []) doubled_in_member
@@ -53,11 +54,6 @@ doubled_among_members = first_behind (λ member. member.name.node ∷ []) double
 abbrev pub IsFresh : {A : Type 0} → Option PlacedName → List (List ℕ × A) → Type 0
 IsFresh None pairs = Unit {0}
 IsFresh (Some name) pairs = under name.node pairs ≡ None
-
--- the pairs once the name, if there is one, has this value
-abbrev pub put_named : {A : Type 0} → List (List ℕ × A) → Option PlacedName → A → List (List ℕ × A)
-put_named pairs None part = pairs
-put_named pairs (Some name) part = put pairs name.node part
 
 -- the place of a definition that is an operation without a name
 abbrev pub anonymous_in : DefinitionTree → Option Pos

@@ -1,7 +1,9 @@
 pub mod Building
 pub mod Builds
+pub mod Depth
 pub mod Document
 pub mod Faults
+pub mod First
 pub mod Grammar
 pub mod NameRules
 pub mod Readers

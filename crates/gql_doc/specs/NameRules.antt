@@ -5,6 +5,8 @@ use Rattle.std.specs.List.{list_any}
 use Rattle.std.specs.Str.{bytes_eq}
 use mathlib.Core.Former.{Count}
 use Rattle.gql_base.specs.declared.pos.Pos.{Pos}
+use Rattle.std.specs.Option.{option_or}
+use Rattle.gql_doc.specs.First.{first_in}
 use Rattle.gql_doc.specs.declared.tree.SetTree.{SetTree}
 use Rattle.gql_doc.specs.declared.tree.ValueTree.{ValueTree, List', Object', Row_of-ValueTree, end_of-ValueTree, more_of-ValueTree, Row_of-MemberTree, end_of-MemberTree, more_of-MemberTree}
 use Rattle.gql_doc.specs.declared.tree.ArgumentTree.{ArgumentTree}
@@ -16,16 +18,6 @@ use Rattle.gql_doc.specs.declared.tree.FragmentTree.{FragmentTree}
 use Rattle.gql_doc.specs.declared.tree.DefinitionTree.{DefinitionTree}
 use Rattle.gql_doc.specs.declared.tree.DefinitionTree.TheVariants.{Operation, Fragment}
 use Rattle.gql_doc.specs.Words.{PlacedName, PlacedValue}
-
--- the one, or else the other
-abbrev pub first_of : Option Pos → Option Pos → Option Pos
-first_of (Some pos) other = Some pos
-first_of None other = other
-
--- the first that one of these has
-abbrev pub first_in : {A : Type 0} → (A → Option Pos) → List A → Option Pos
-first_in f [] = None
-first_in f (x ∷ xs) = first_of (f x) (first_in f xs)
 
 abbrev pub definition_pos : DefinitionTree → Pos
 definition_pos (Operation operation) = operation.pos
@@ -74,12 +66,12 @@ abbrev mutual
 
   pub doubled_in_values : {m : Count} → Row_of-ValueTree m → Option Pos
   doubled_in_values end_of-ValueTree = None
-  doubled_in_values (more_of-ValueTree value values) = first_of (doubled_in_value value) (doubled_in_values values)
+  doubled_in_values (more_of-ValueTree value values) = option_or (doubled_in_value value) (doubled_in_values values)
 
   pub doubled_in_members : List (List ℕ) → {m : Count} → Row_of-MemberTree m → Option Pos
   doubled_in_members names end_of-MemberTree = None
   doubled_in_members names (more_of-MemberTree name value members) =
-      first_of (first_of (if_doubled names name) (doubled_in_value value)) (doubled_in_members (names ++ name.node ∷ []) members)
+      option_or (option_or (if_doubled names name) (doubled_in_value value)) (doubled_in_members (names ++ name.node ∷ []) members)
 
 abbrev pub doubled_in_argument : ArgumentTree → Option Pos
 doubled_in_argument argument = doubled_in_value argument.value.node
@@ -98,31 +90,31 @@ doubled_in_default None = None
 doubled_in_default (Some default) = doubled_in_value default.node
 
 abbrev pub doubled_in_variable : VariableTree → Option Pos
-doubled_in_variable variable = first_of (doubled_in_default variable.default) (doubled_in_directives variable.directives)
+doubled_in_variable variable = option_or (doubled_in_default variable.default) (doubled_in_directives variable.directives)
 
 abbrev mutual
   pub doubled_in_selection : SelectionTree → Option Pos
   doubled_in_selection (Field' alias name arguments directives set _ selections) =
-      first_of (doubled_in_arguments arguments) (first_of (doubled_in_directives directives) (doubled_in_selections selections))
+      option_or (doubled_in_arguments arguments) (option_or (doubled_in_directives directives) (doubled_in_selections selections))
   doubled_in_selection (Spread pos name directives) = doubled_in_directives directives
   doubled_in_selection (Inline' pos condition directives set _ selections) =
-      first_of (doubled_in_directives directives) (doubled_in_selections selections)
+      option_or (doubled_in_directives directives) (doubled_in_selections selections)
 
   pub doubled_in_selections : {m : Count} → Row_of-SelectionTree m → Option Pos
   doubled_in_selections end_of-SelectionTree = None
   doubled_in_selections (more_of-SelectionTree selection selections) =
-      first_of (doubled_in_selection selection) (doubled_in_selections selections)
+      option_or (doubled_in_selection selection) (doubled_in_selections selections)
 
 abbrev pub doubled_in_set : SetTree → Option Pos
 doubled_in_set set = first_in doubled_in_selection set.selections
 
 abbrev pub doubled_in_operation : OperationTree → Option Pos
 doubled_in_operation operation =
-    first_of (first_in doubled_in_variable operation.variables)
-    (first_of (doubled_in_directives operation.directives) (doubled_in_set operation.set))
+    option_or (first_in doubled_in_variable operation.variables)
+    (option_or (doubled_in_directives operation.directives) (doubled_in_set operation.set))
 
 abbrev pub doubled_in_fragment : FragmentTree → Option Pos
-doubled_in_fragment fragment = first_of (doubled_in_directives fragment.directives) (doubled_in_set fragment.set)
+doubled_in_fragment fragment = option_or (doubled_in_directives fragment.directives) (doubled_in_set fragment.set)
 
 -- the place of an operation whose name is among those before
 abbrev pub if_named_among : List (List ℕ) → Option PlacedName → Pos → Option Pos
@@ -147,15 +139,15 @@ fragment_names (Fragment fragment) = fragment.name.node ∷ []
 -- the names of the operations before, and `fragments` those of the fragments before.
 abbrev pub doubled_in_definition : List (List ℕ) → List (List ℕ) → DefinitionTree → Option Pos
 doubled_in_definition queries fragments (Operation operation) =
-    first_of (if_named_among queries operation.name operation.pos) (doubled_in_operation operation)
+    option_or (if_named_among queries operation.name operation.pos) (doubled_in_operation operation)
 doubled_in_definition queries fragments (Fragment fragment) =
-    first_of (if_among fragments fragment.name.node fragment.pos) (doubled_in_fragment fragment)
+    option_or (if_among fragments fragment.name.node fragment.pos) (doubled_in_fragment fragment)
 
 -- the same in definitions
 abbrev pub doubled_among : List (List ℕ) → List (List ℕ) → List DefinitionTree → Option Pos
 doubled_among queries fragments [] = None
 doubled_among queries fragments (definition ∷ definitions) =
-    first_of (doubled_in_definition queries fragments definition)
+    option_or (doubled_in_definition queries fragments definition)
     (doubled_among (queries ++ operation_names definition) (fragments ++ fragment_names definition) definitions)
 
 abbrev pub doubled_name : List DefinitionTree → Option Pos

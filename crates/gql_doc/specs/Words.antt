@@ -11,7 +11,6 @@ use Rattle.gql_tokens.specs.declared.token.Token.{Token}
 use Rattle.gql_tokens.specs.declared.token.Lexeme.{Lexeme}
 use Rattle.gql_tokens.specs.declared.token.Lexeme.TheVariants as lexeme
 use Rattle.gql_tokens.specs.declared.token.Punctuator.{Punctuator}
-use Rattle.gql_tokens.specs.Token.{is_final}
 
 infixr 6 ◌▸◌
 abbrev pub Tokens : Type 0
@@ -26,16 +25,6 @@ PlacedValue = Positioned ValueTree
 
 abbrev pub PlacedType : Type 0
 PlacedType = Positioned TypeRef
-
--- from this token on, the last is a final one, and no other is
-abbrev pub AreTokensFrom : Token → Tokens → Type 0
-AreTokensFrom token [] = is_final token.lexeme ≡ true
-AreTokensFrom token (next ∷ tokens) = (is_final token.lexeme ≡ false) × AreTokensFrom next tokens
-
--- the last token is a final one, and no other is
-abbrev pub AreTokens : Tokens → Type 0
-AreTokens [] = ⊥
-AreTokens (token ∷ tokens) = AreTokensFrom token tokens
 
 -- a token, and whether it opens what is nested too deep
 pub record Marked : Type 0 where

@@ -4,9 +4,11 @@
 mod argument_building;
 mod arguments;
 mod constant_building;
+mod copied;
 mod cursor;
 mod definition_building;
 mod definitions;
+mod depth;
 mod document;
 #[cfg(test)]
 mod example_tests;
@@ -29,6 +31,7 @@ mod values;
 mod variable_building;
 mod variables;
 
+pub use depth::more_levels_find_no_more;
 pub use document::{
     Argument, Directive, DocValue, DocumentOperations, ExecutableDocument, Field,
     FragmentDefinition, FragmentSpread, InlineFragment, OperationDefinition, OperationType,

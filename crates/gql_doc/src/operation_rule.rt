@@ -1,6 +1,7 @@
 //! The rule on the operations of a document: one without a name, or some with names.
 ghost use Rattle.std.specs.Prelude.{◌≡◌, length};
-ghost use Rattle.gql_doc.specs.NameRules.{first_in, operations, definition_pos, wrong_operations};
+ghost use Rattle.gql_doc.specs.First.{first_in};
+ghost use Rattle.gql_doc.specs.NameRules.{operations, definition_pos, wrong_operations};
 ghost use Rattle.gql_doc.specs.Builds.{anonymous_in, first_pos};
 
 use crate::tree::DefinitionTree;

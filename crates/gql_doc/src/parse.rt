@@ -5,7 +5,7 @@ ghost use Rattle.gql_base.specs.declared.type_ref.TypeRef.{TypeRef};
 ghost use Rattle.gql_doc.specs.declared.document.ExecutableDocument.{ExecutableDocument};
 ghost use Rattle.gql_doc.specs.declared.fault.ParseFault.{ParseFault};
 ghost use Rattle.gql_doc.specs.Spelled.{SpellsDocument, IsDocumentFault, GivesDocument, SpellsType, IsTypeFault, GivesType};
-ghost use Rattle.gql_doc.specs.Words.{AreTokens};
+ghost use Rattle.gql_tokens.specs.Lexer.{EndFinally};
 ghost use Rattle.gql_doc.specs.Ruled.{ruled, query_of};
 
 use crate::definition_building::build_document;
@@ -20,7 +20,6 @@ use gql_tokens::{Token, tokens_of};
 use std::alloc::{AllocError, Global};
 
 /// The document that a text spells, or the text's first fault.
-#[tactic(auto, using(crate::proofs::ParseLaws::are_tokens))]
 pub fn parse_query(alloc: Global, text: &str) -> Made<Result<ExecutableDocument, ParseFault>>
     ensures given { IfOk result (λ outcome. GivesDocument (chars text.now) outcome) }
     ensures spelled { (document : ExecutableDocument) → SpellsDocument (chars text.now) document → IfOk result (λ outcome. outcome ≡ Ok document) }
@@ -31,7 +30,6 @@ pub fn parse_query(alloc: Global, text: &str) -> Made<Result<ExecutableDocument,
 }
 
 /// The type that a text spells, or the text's first fault.
-#[tactic(auto, using(crate::proofs::ParseLaws::are_tokens))]
 pub fn parse_type(alloc: Global, text: &str) -> Made<Result<TypeRef, ParseFault>>
     ensures given { IfOk result (λ outcome. GivesType (chars text.now) outcome) }
     ensures spelled { (ty : TypeRef) → SpellsType (chars text.now) ty → IfOk result (λ outcome. outcome ≡ Ok ty) }
@@ -46,7 +44,7 @@ fn document_of_tokens(
     alloc: Global,
     tokens: Items<Token>,
 ) -> Made<Result<ExecutableDocument, ParseFault>>
-    requires { AreTokens tokens }
+    requires { EndFinally tokens }
     ensures { IfOk result (λ outcome. outcome ≡ query_of tokens) }
 {
     match document_tree(alloc, tokens)? {

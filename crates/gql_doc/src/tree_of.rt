@@ -3,7 +3,8 @@ ghost use Rattle.std.specs.Prelude.{◌≡◌, List, IfOk};
 ghost use Rattle.gql_base.specs.declared.type_ref.TypeRef.{TypeRef};
 ghost use Rattle.gql_doc.specs.declared.fault.ParseFault.{ParseFault};
 ghost use Rattle.gql_doc.specs.declared.tree.DefinitionTree.{DefinitionTree};
-ghost use Rattle.gql_doc.specs.Words.{Tokens, AreTokens};
+ghost use Rattle.gql_tokens.specs.Lexer.{EndFinally};
+ghost use Rattle.gql_doc.specs.Words.{Tokens};
 ghost use Rattle.gql_doc.specs.Grammar.{IsDocument, IsTypeText};
 ghost use Rattle.gql_doc.specs.Spelling.{Spells, IsFault, Settles, kind_of as kind_said};
 ghost use Rattle.gql_doc.specs.Reading.{kind_at, parsed_by, IsFaultAt, document, type_text};
@@ -22,7 +23,7 @@ pub fn document_tree(
     alloc: Global,
     tokens: Items<Token>,
 ) -> Made<Result<Items<DefinitionTree>, ParseFault>>
-    requires { AreTokens tokens }
+    requires { EndFinally tokens }
     ensures settled { IfOk result (λ outcome. Settles IsDocument tokens outcome) }
     ensures spelled { (tree : List DefinitionTree) → Spells IsDocument tokens tree → IfOk result (λ outcome. outcome ≡ Ok tree) }
     ensures faulty { (fault : ParseFault) → IsFault IsDocument tokens fault → IfOk result (λ outcome. outcome ≡ Err fault) }
@@ -33,7 +34,7 @@ pub fn document_tree(
 
 /// The type that the tokens of a text spell, or the tokens' first fault.
 pub fn type_tree(alloc: Global, tokens: Items<Token>) -> Made<Result<TypeRef, ParseFault>>
-    requires { AreTokens tokens }
+    requires { EndFinally tokens }
     ensures settled { IfOk result (λ outcome. Settles IsTypeText tokens outcome) }
     ensures spelled { (ty : TypeRef) → Spells IsTypeText tokens ty → IfOk result (λ outcome. outcome ≡ Ok ty) }
     ensures faulty { (fault : ParseFault) → IsFault IsTypeText tokens fault → IfOk result (λ outcome. outcome ≡ Err fault) }

@@ -4,10 +4,10 @@ use Rattle.std.proofs.lemmas.List.{drop_more}
 use Rattle.std.specs.Prelude.{Option, Some, None, is_some}
 use Rattle.std.specs.List.{flat_map}
 use Rattle.std.specs.Str.{bytes_eq}
-use Rattle.gql_base.specs.Pairs.{under, put}
+use Rattle.gql_base.specs.Pairs.{under, put, unite, unite_all}
 use Rattle.gql_doc.specs.declared.document.Positioned.{Positioned}
 use Rattle.gql_doc.specs.declared.document.Selection.{Selection, out-Selection}
-use Rattle.gql_engine.specs.Apart.{Asked, asked, field_here, unite, unite_all, join}
+use Rattle.gql_engine.specs.Apart.{Asked, asked, field_here, join}
 use Rattle.gql_engine.specs.ApartPlan.{place_here, places_here}
 use Rattle.gql_engine.specs.declared.occurrence.Occurrence.{Occurrence}
 use Rattle.gql_engine.specs.declared.place.Place.{Place}
@@ -34,7 +34,7 @@ gathered V scene xs i x old new all within read added before =
 
 pub unite_all-append : {T : Type 0} (both : T → T → T) (ps one other : List (List ℕ × T)) → unite_all both ps (one ++ other) ≡ unite_all both (unite_all both ps one) other
 unite_all-append both ps [] other = refl
-unite_all-append both ps (q ∷ one) other = unite_all-append both (unite both q.0 q.1 ps) one other
+unite_all-append both ps (q ∷ one) other = unite_all-append both (unite both ps q.0 q.1) one other
 
 -- one more occurrence is placed
 pub united : (members members' : List (List ℕ × Place)) (os rest : List Occurrence) (o : Occurrence) (all : List (List ℕ × Place))
@@ -47,14 +47,14 @@ united members members' os rest o all is added before =
     ∙ before
 
 -- a key that is there keeps its first place
-pub unite_there : (key : List ℕ) (place : Place) (ps : List (List ℕ × Place)) → is_some (under key ps) ≡ true → ps ≡ unite join key place ps
+pub unite_there : (key : List ℕ) (place : Place) (ps : List (List ℕ × Place)) → is_some (under key ps) ≡ true → ps ≡ unite join ps key place
 unite_there key place [] is = absurd (cc)
 unite_there key place (p ∷ ps) is =
-    let P : Bool → Type 0 = λ b. is_some (cond b (Some p.1) (under key ps)) ≡ true → p ∷ ps ≡ cond b ((p.0, join p.1 place) ∷ ps) (p ∷ unite join key place ps) in
+    let P : Bool → Type 0 = λ b. is_some (cond b (Some p.1) (under key ps)) ≡ true → p ∷ ps ≡ cond b ((p.0, join p.1 place) ∷ ps) (p ∷ unite join ps key place) in
     (elim (bytes_eq key p.0) as P [ true ↦ λ e. refl | false ↦ λ e. ap (λ qs. p ∷ qs) (unite_there key place ps e) ]) is
 
-pub unite_new : (key : List ℕ) (place : Place) (ps : List (List ℕ × Place)) → is_some (under key ps) ≡ false → put ps key place ≡ unite join key place ps
+pub unite_new : (key : List ℕ) (place : Place) (ps : List (List ℕ × Place)) → is_some (under key ps) ≡ false → put ps key place ≡ unite join ps key place
 unite_new key place [] is = refl
 unite_new key place (p ∷ ps) is =
-    let P : Bool → Type 0 = λ b. is_some (cond b (Some p.1) (under key ps)) ≡ false → cond b ((p.0, place) ∷ ps) (p ∷ put ps key place) ≡ cond b ((p.0, join p.1 place) ∷ ps) (p ∷ unite join key place ps) in
+    let P : Bool → Type 0 = λ b. is_some (cond b (Some p.1) (under key ps)) ≡ false → cond b ((p.0, place) ∷ ps) (p ∷ put ps key place) ≡ cond b ((p.0, join p.1 place) ∷ ps) (p ∷ unite join ps key place) in
     (elim (bytes_eq key p.0) as P [ true ↦ λ e. absurd (cc) | false ↦ λ e. ap (λ qs. p ∷ qs) (unite_new key place ps e) ]) is

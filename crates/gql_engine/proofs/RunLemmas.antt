@@ -10,7 +10,8 @@ use Rattle.gql_engine.specs.declared.arena.State.{State}
 use Rattle.gql_engine.specs.declared.arena.State.TheVariants as state
 use Rattle.gql_engine.specs.declared.occurrence.Occurrence.{Occurrence}
 use Rattle.gql_engine.specs.declared.scene.Scene.{Scene}
-use Rattle.gql_engine.specs.Apart.{Asked, asked_in, subject_in, placed, place_of, respond, root_of, unite_all, join}
+use Rattle.gql_engine.specs.Apart.{Asked, asked_in, subject_in, placed, place_of, respond, root_of, join}
+use Rattle.gql_base.specs.Pairs.{unite_all}
 use Rattle.gql_engine.specs.ApartPlan.{seen, all_seen, Keeps, place_here, places_here}
 use Rattle.gql_engine.specs.Arena.{mark_of, marks_of, made_of, fresh_states, Subject, IsSound, IsRight}
 use Rattle.gql_engine.specs.Pace.{Pacing}

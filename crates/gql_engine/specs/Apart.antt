@@ -1,11 +1,9 @@
 -- The response of a flat object, where each occurrence of a field asks an answer of its own, and places under one key are joined
 -- (GraphQL, October 2021, section 6.3).
-use Rattle.std.specs.Prelude.{ℕ, ◌++◌, ◌&&◌, not, Bool, false, List, [], ◌∷◌, Option, Some, None, if◌then◌else◌, map, codes, length}
+use Rattle.std.specs.Prelude.{ℕ, ◌++◌, ◌&&◌, not, Bool, false, List, [], ◌∷◌, Option, Some, None, map, codes, length}
 use Rattle.std.specs.List.{flat_map}
-use Rattle.std.specs.Str.{bytes_eq}
-use Rattle.gql_base.specs.Pairs.{under}
-use Rattle.gql_base.specs.PathSegment.{segment_text}
-use Rattle.gql_base.specs.Separated.{separated}
+use Rattle.gql_base.specs.Pairs.{under, unite_all}
+use Rattle.gql_base.specs.PathSegment.{path_text}
 use Rattle.gql_base.specs.TypeRef.{is_nullable}
 use Rattle.gql_base.specs.declared.pos.Pos.{Pos}
 use Rattle.gql_base.specs.declared.type_ref.TypeRef.{TypeRef}
@@ -60,7 +58,7 @@ asked_of scene occurrence declared = record {
     arguments = [];
     layers = layers_of scene.layers;
   };
-  path = separated (codes ".") (map segment_text (path_of occurrence));
+  path = path_text (path_of occurrence);
   key = key_text occurrence;
   place = occurrence.pos;
   ty = field_type declared;
@@ -98,15 +96,6 @@ place_with place ty answer = record {
 
 abbrev pub place_of : {V : Type 0} → Asked V → Answer V → Place
 place_of task answer = place_with task.place task.ty answer
-
--- a key that is there keeps its place, and its value is united with the new one; another goes to the end
-abbrev pub unite : {T : Type 0} → (T → T → T) → List ℕ → T → List (List ℕ × T) → List (List ℕ × T)
-unite both key value [] = (key, value) ∷ []
-unite both key value (p ∷ ps) = if bytes_eq key p.0 then (p.0, both p.1 value) ∷ ps else p ∷ unite both key value ps
-
-abbrev pub unite_all : {T : Type 0} → (T → T → T) → List (List ℕ × T) → List (List ℕ × T) → List (List ℕ × T)
-unite_all both ps [] = ps
-unite_all both ps (q ∷ qs) = unite_all both (unite both q.0 q.1 ps) qs
 
 -- two places of one key: of leaves, faults and absences the first stays
 abbrev pub join : Place → Place → Place

@@ -1,6 +1,7 @@
 -- What an answer comes to by the type of its field (GraphQL, October 2021, sections 6.4.3 and 3.5). Lists and objects are to come.
-use Rattle.std.specs.Prelude.{ℕ, ℤ, pos, negsuc, ◌^◌, ◌-◌, ◌≤◌, ◌&&◌, ◌++◌, Bool, true, false, List, Option, Some, None, Result, Ok, Err, if◌then◌else◌, codes, int_le}
+use Rattle.std.specs.Prelude.{ℕ, ℤ, pos, negsuc, ◌^◌, ◌-◌, ◌≤◌, ◌&&◌, ◌++◌, Bool, false, List, Option, Some, None, Result, Ok, Err, if◌then◌else◌, codes, int_le}
 use Rattle.std.specs.Str.{bytes_eq}
+use Rattle.gql_base.specs.Kinds.{is_null}
 use Rattle.gql_base.specs.declared.error.Error.{Error}
 use Rattle.gql_base.specs.declared.type_ref.TypeRef.{TypeRef}
 use Rattle.gql_base.specs.declared.type_ref.TypeRef.TheOpen.{TypeRef-F}
@@ -41,18 +42,6 @@ takes_here name (Value-F.Object members) = false
 
 abbrev pub takes : List ℕ → Value → Bool
 takes name value = takes_here name (out-Value value)
-
-abbrev pub null_here : Value-F Value → Bool
-null_here Value-F.Null = true
-null_here (Value-F.Boolean truth) = false
-null_here (Value-F.Number number) = false
-null_here (Value-F.String text) = false
-null_here (Value-F.Enum item) = false
-null_here (Value-F.List items) = false
-null_here (Value-F.Object members) = false
-
-abbrev pub is_null : Value → Bool
-is_null value = null_here (out-Value value)
 
 abbrev pub leaf_at : List ℕ → Option Value → Shape
 leaf_at name None = fault (no_scalar name)

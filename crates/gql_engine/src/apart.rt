@@ -1,6 +1,7 @@
 ghost use Rattle.std.specs.Prelude.{◌≡◌, [], false, IfOk, IfErr, OnOk, OnErr};
+ghost use Rattle.gql_base.specs.Pairs.{unite_all};
 ghost use Rattle.gql_resolve.specs.Call.{is_mutation};
-ghost use Rattle.gql_engine.specs.Apart.{respond, asked_in, subject_in, root_of, unite_all, join};
+ghost use Rattle.gql_engine.specs.Apart.{respond, asked_in, subject_in, root_of, join};
 ghost use Rattle.gql_engine.specs.ApartPlan.{places_here};
 ghost use Rattle.gql_engine.specs.Progress.{RunsWhole, RunStopped};
 

@@ -50,7 +50,7 @@ impl<'a, V: Drop> Plan<V> for ApartPlan<'a, V> {
                 segments: occurrence.path.as_slice(),
             },
             item: &occurrence.item.node,
-            env: self.scene.env,
+            env: occurrence.env,
             layers: self.scene.layers,
         }
     }

@@ -1,6 +1,6 @@
 ghost use Rattle.std.specs.Prelude.{◌≡◌, [], IfOk, OnOk, is_some};
-ghost use Rattle.gql_base.specs.Pairs.{under};
-ghost use Rattle.gql_engine.specs.Apart.{unite, unite_all, join};
+ghost use Rattle.gql_base.specs.Pairs.{under, unite, unite_all};
+ghost use Rattle.gql_engine.specs.Apart.{join};
 ghost use Rattle.gql_engine.specs.ApartPlan.{place_here, places_here};
 
 use crate::occurrence::Occurrence;
@@ -25,6 +25,7 @@ fn add_place(alloc: Global, members: &mut Pairs<Place>, occurrence: Occurrence<'
     let Occurrence {
         item,
         declared: _,
+        env: _,
         path: _,
         place,
     } = occurrence;
@@ -41,7 +42,7 @@ fn add_place(alloc: Global, members: &mut Pairs<Place>, occurrence: Occurrence<'
 
 /// Adds a place under its key. A key that is there keeps its first place.
 fn unite_place(alloc: Global, members: &mut Pairs<Place>, key: &str, place: Place) -> Made<()>
-    ensures { OnOk result (members.new ≡ unite join key.now place members.old) }
+    ensures { OnOk result (members.new ≡ unite join members.old key.now place) }
 {
     if has_key(members, key) {
         return Ok(());

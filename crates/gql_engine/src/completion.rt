@@ -1,5 +1,6 @@
 ghost use Rattle.std.specs.Prelude.{◌≡◌, IfOk, Some};
-ghost use Rattle.gql_engine.specs.Completion.{fault, takes, is_null, is_int32, scalar_at, leaf_at, list_at, items_at, required, completed, shape_of, no_value, no_array, no_scalar};
+ghost use Rattle.gql_base.specs.Kinds.{is_null};
+ghost use Rattle.gql_engine.specs.Completion.{fault, takes, is_int32, scalar_at, leaf_at, list_at, items_at, required, completed, shape_of, no_value, no_array, no_scalar};
 
 use crate::shape::Shape;
 use gql_base::{Error, Made, Number, Text, TypeRef, Value};
@@ -90,7 +91,7 @@ fn is_null_value(value: &Value) -> bool
 }
 
 /// True exactly where the rule of the scalar of this name takes a value.
-fn takes_value(name: &str, value: &Value) -> bool
+pub fn takes_value(name: &str, value: &Value) -> bool
     ensures { result ≡ takes name.now value.now }
 {
     match value {

@@ -1,7 +1,9 @@
-ghost use Rattle.std.specs.Prelude.{◌≡◌, ◌++◌, IfOk, OnOk, Some};
+ghost use Rattle.std.specs.Prelude.{◌≡◌, ◌++◌, IfOk, OnOk, Contains};
 ghost use Rattle.gql_schema.specs.Object.{fields_of};
 ghost use Rattle.gql_base.specs.Pairs.{under};
 ghost use Rattle.gql_doc.specs.declared.document.Selection.{out-Selection};
+ghost use Rattle.gql_doc.specs.Depth.{field_set, selections_of};
+ghost use Rattle.gql_request.specs.QueryEnv.{NestsIn};
 ghost use Rattle.gql_engine.specs.Apart.{asked, asked_at, asked_in, field_here, name_of};
 ghost use Rattle.gql_engine.specs.ApartPlan.{all_seen};
 
@@ -35,6 +37,7 @@ fn add_selection<'a, V: Drop>(
     selection: &'a Positioned<Selection>,
     occurrences: &mut Vec<Occurrence<'a>>,
 ) -> Made<()>
+    requires { Contains (selections_of scene.now.env.now.operation.node.selection_set) selection.now }
     ensures { OnOk result (all_seen scene.entry.now occurrences.new.items ≡ all_seen scene.entry.now occurrences.old.items
         ++ asked scene.entry.now (field_here (out-Selection selection.entry.now.node))) }
 {
@@ -52,6 +55,7 @@ fn add_occurrence<'a, V: Drop>(
     item: &'a Positioned<Field>,
     occurrences: &mut Vec<Occurrence<'a>>,
 ) -> Made<()>
+    requires { NestsIn scene.now.env.now (field_set item.now) }
     ensures { OnOk result (all_seen scene.entry.now occurrences.new.items ≡ all_seen scene.entry.now occurrences.old.items
         ++ asked_at scene.entry.now item.entry.now (under (name_of item.entry.now) (fields_of scene.entry.now.object.now))) }
 {
@@ -64,6 +68,7 @@ fn add_occurrence<'a, V: Drop>(
             occurrences.push(Occurrence {
                 item,
                 declared,
+                env: scene.env,
                 path,
                 place: None,
             })?;

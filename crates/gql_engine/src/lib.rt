@@ -19,12 +19,14 @@ mod scene;
 mod scheduler;
 mod settling;
 mod shape;
+mod shared;
 #[cfg(test)]
 mod tests;
 mod turning;
 
 pub use apart::run_apart;
 pub use arena::{Arena, State, Turn};
+pub use completion::takes_value;
 pub use place::{Place, Tree};
 pub use plan::Plan;
 pub use rounds::{Entered, Rounds};

@@ -33,13 +33,7 @@ impl Meeting {
         ensures ok { OnOk result (self.new ≡ record self.old { entries = self.old.entries ++ entry_of call.now ready ∷ [] }) }
         ensures err { OnErr result (self.new ≡ self.old) }
     {
-        let path = call.path_node.text(alloc)?;
-        self.entries.push(RecordEntry {
-            task: call.task,
-            resolver: call.resolver,
-            path,
-            ready,
-        })
+        self.entries.push(RecordEntry::of(alloc, call, ready)?)
     }
 }
 

@@ -1,5 +1,6 @@
 //! The engine on sets that no law speaks of. What a test looks at is made by small functions beside it.
-ghost use Rattle.std.specs.Prelude.{◌≡◌, ◌<◌, false, IfOk, length};
+ghost use Rattle.std.specs.Prelude.{◌≡◌, ◌<◌, [], false, IfOk, length};
+ghost use Rattle.gql_doc.specs.Depth.{deep_from, field_set, selections_of};
 ghost use Rattle.gql_resolve.specs.Call.{is_mutation};
 ghost use Rattle.gql_schema.specs.Field.{field_name};
 
@@ -13,63 +14,70 @@ use gql_schema::{Object, Types};
 use std::alloc::Global;
 use std::test::Fail;
 
-fn at<T>(node: T) -> Positioned<T> {
+fn at<T>(node: T) -> Positioned<T>
+    ensures { result.node ≡ node }
+{
     Positioned {
         pos: Pos { line: 1, column: 1 },
         node,
     }
 }
 
-fn empty_set(alloc: Global) -> SelectionSet {
-    SelectionSet {
+fn no_selections(alloc: Global) -> Positioned<SelectionSet>
+    ensures { selections_of result ≡ [] }
+{
+    at(SelectionSet {
         items: Items::new(alloc),
-    }
+    })
 }
 
-fn selection(alloc: Global, name: &str) -> Made<Positioned<Selection>> {
-    let field = Field {
+fn field(alloc: Global, name: &str) -> Made<Positioned<Field>>
+    ensures { IfOk result (λ field. selections_of (field_set field) ≡ []) }
+{
+    Ok(at(Field {
         alias: None,
         name: at(Name::new(alloc, name)?),
         arguments: Items::new(alloc),
         directives: Items::new(alloc),
-        selection_set: at(empty_set(alloc)),
-    };
-    Ok(at(Selection::Field(at(field))))
+        selection_set: no_selections(alloc),
+    }))
 }
 
 /// The set of the fields `a` and `b`.
-fn pair_set(alloc: Global) -> Made<SelectionSet> {
+fn pair_set(alloc: Global) -> Made<Positioned<SelectionSet>>
+    ensures { IfOk result (λ set. deep_from [] 1 set ≡ None) }
+{
     let mut items = Items::new(alloc);
-    items.push(selection(alloc, "a")?)?;
-    items.push(selection(alloc, "b")?)?;
-    Ok(SelectionSet { items })
+    items.push(at(Selection::Field(field(alloc, "a")?)))?;
+    items.push(at(Selection::Field(field(alloc, "b")?)))?;
+    Ok(at(SelectionSet { items }))
 }
 
 /// A query of a set.
-fn environment(alloc: Global, set: SelectionSet) -> QueryEnv
+fn environment(alloc: Global, set: Positioned<SelectionSet>) -> QueryEnv
+    requires { deep_from [] 1 set ≡ None }
     ensures { is_mutation result.operation.node.ty ≡ false }
 {
-    QueryEnv {
-        variables: Variables::from_value(alloc, Value::Null),
-        operation_name: None,
-        operation: at_operation(alloc, set),
-        fragments: Pairs::new(alloc),
-        introspection_mode: IntrospectionMode::default(),
-    }
+    QueryEnv::new(
+        Variables::from_value(alloc, Value::Null),
+        None,
+        operation(alloc, set),
+        Pairs::new(alloc),
+        IntrospectionMode::default(),
+        1,
+    )
 }
 
-fn at_operation(alloc: Global, set: SelectionSet) -> Positioned<OperationDefinition>
-    ensures { is_mutation result.node.ty ≡ false }
+fn operation(alloc: Global, set: Positioned<SelectionSet>) -> Positioned<OperationDefinition>
+    ensures query { is_mutation result.node.ty ≡ false }
+    ensures set { result.node.selection_set ≡ set }
 {
-    Positioned {
-        pos: Pos { line: 1, column: 1 },
-        node: OperationDefinition {
-            ty: OperationType::Query,
-            variable_definitions: Items::new(alloc),
-            directives: Items::new(alloc),
-            selection_set: at(set),
-        },
-    }
+    at(OperationDefinition {
+        ty: OperationType::Query,
+        variable_definitions: Items::new(alloc),
+        directives: Items::new(alloc),
+        selection_set: set,
+    })
 }
 
 fn object_field(alloc: Global, name: &str, resolver: u32) -> Made<gql_schema::Field>
@@ -180,7 +188,7 @@ fn record_text(alloc: Global, set: &Meeting) -> Made<String> {
     Ok(out)
 }
 
-/// The members that two resolvers give that need each other's turns, and their record.
+/// The members that two resolvers give that need each other's turns.
 fn met(alloc: Global, set: &mut Meeting) -> Result<String, NoMemory> {
     let selected = pair_set(alloc)?;
     let env = environment(alloc, selected);
@@ -194,15 +202,8 @@ fn met(alloc: Global, set: &mut Meeting) -> Result<String, NoMemory> {
 fn a_field_may_wait_for_another(rt: HostRuntime) -> Result<(), Fail> {
     let mut set = Meeting::new(rt.alloc());
     let members = met(rt.alloc(), &mut set)?;
-    assert_eq!(rt; members.as_str(), "a=0;b=1;");
-    Ok(())
-}
-
-#[test]
-fn the_record_follows_the_turns(rt: HostRuntime) -> Result<(), Fail> {
-    let mut set = Meeting::new(rt.alloc());
-    let _members = met(rt.alloc(), &mut set)?;
     let record = record_text(rt.alloc(), &set)?;
+    assert_eq!(rt; members.as_str(), "a=0;b=1;");
     assert_eq!(rt; record.as_str(), "0 0 a false;1 1 b true;0 0 a true;");
     Ok(())
 }

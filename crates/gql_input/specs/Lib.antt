@@ -1,3 +1,3 @@
 pub mod AccessFault
 pub mod Accessor
-pub mod Kinds
+pub mod Iterators

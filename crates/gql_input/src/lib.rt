@@ -2,6 +2,7 @@
 #![tactic(auto)]
 
 mod access_fault;
+mod iterators;
 mod list_accessor;
 mod object_accessor;
 #[cfg(test)]
@@ -9,6 +10,7 @@ mod tests;
 mod value_accessor;
 
 pub use access_fault::AccessFault;
+pub use iterators::{Keys, ListItems, Members, Values};
 pub use list_accessor::ListAccessor;
 pub use object_accessor::ObjectAccessor;
 pub use value_accessor::ValueAccessor;

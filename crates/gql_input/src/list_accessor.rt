@@ -1,7 +1,9 @@
 ghost use Rattle.std.specs.Prelude.{◌≡◌, ◌↔◌, ◌≤◌, ◌<◌, ◌⊎◌, IsTrue, MatchOption, MatchResult, None, Some, [], length, slice_get, slice_range};
 ghost use Rattle.gql_input.specs.Accessor.{value_behind, items_behind};
+ghost use Rattle.gql_input.specs.Iterators.{items_left};
 
 use crate::access_fault::AccessFault;
+use crate::iterators::ListItems;
 use crate::value_accessor::ValueAccessor;
 use gql_base::Value;
 
@@ -38,6 +40,13 @@ impl<'a> ListAccessor<'a> {
         ensures { IsTrue result ↔ (items_behind self.now ≡ []) }
     {
         self.items.is_empty()
+    }
+
+    /// The items, one after another.
+    pub fn iter(&self) -> ListItems<'a>
+        ensures { items_left result ≡ items_behind self.now }
+    {
+        ListItems::new(self.items)
     }
 
     /// The item at a place, counted from 0, or none past the end.

@@ -1,8 +1,10 @@
 ghost use Rattle.std.specs.Prelude.{◌≡◌, ◌↔◌, IsTrue, MatchOption, MatchResult, None, Some, [], length};
-ghost use Rattle.gql_base.specs.Pairs.{under};
+ghost use Rattle.gql_base.specs.Pairs.{names_of, under, values_of};
 ghost use Rattle.gql_input.specs.Accessor.{value_behind, members_behind};
+ghost use Rattle.gql_input.specs.Iterators.{keys_left, members_left, values_left};
 
 use crate::access_fault::AccessFault;
+use crate::iterators::{Keys, Members, Values};
 use crate::value_accessor::ValueAccessor;
 use gql_base::{Pairs, Value};
 
@@ -45,6 +47,27 @@ impl<'a> ObjectAccessor<'a> {
             Some(found) => Ok(found),
             None => Err(AccessFault::NoKey(name)),
         }
+    }
+
+    /// The members in their order, each its name and its value.
+    pub fn iter(&self) -> Members<'a>
+        ensures { members_left result ≡ members_behind self.now }
+    {
+        Members::new(self.members)
+    }
+
+    /// The names of the members, in their order.
+    pub fn keys(&self) -> Keys<'a>
+        ensures { keys_left result ≡ names_of (members_behind self.now) }
+    {
+        Keys::new(self.members)
+    }
+
+    /// The values of the members, in their order.
+    pub fn values(&self) -> Values<'a>
+        ensures { values_left result ≡ values_of (members_behind self.now) }
+    {
+        Values::new(self.members)
     }
 
     /// The number of members.

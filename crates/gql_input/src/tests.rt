@@ -1,5 +1,7 @@
 //! Each public call once, over values that are made by small functions, since a test is proved too.
-use crate::{AccessFault, ListAccessor, ObjectAccessor, ValueAccessor};
+use crate::{
+    AccessFault, Keys, ListAccessor, ListItems, Members, ObjectAccessor, ValueAccessor, Values,
+};
 use gql_base::{Items, Made, Name, Number, Pairs, Text, Value};
 use std::alloc::Global;
 use std::test::Fail;
@@ -43,10 +45,30 @@ fn reads_members(value: &Value) -> Result<bool, AccessFault<'static>> {
     )
 }
 
+/// Whether the iterators over an object give these members in their order.
+fn gives_members(object: ObjectAccessor<'_>) -> bool {
+    let mut members = object.iter();
+    let first = match members.next() {
+        Some((name, value)) => name == "a" && value.i64().is_ok(),
+        None => false,
+    };
+    let mut keys = object.keys();
+    let both = keys.next() == Some("a") && keys.next() == Some("b") && keys.next().is_none();
+    first && both && object.values().count() == 2
+}
+
+fn reads_object(value: &Value) -> bool {
+    match ValueAccessor::new(value).object() {
+        Ok(object) => gives_members(object),
+        Err(_) => false,
+    }
+}
+
 #[test]
 fn objects(rt: HostRuntime) -> Result<(), Fail> {
     let value = Value::Object(members(rt.alloc())?);
     assert!(rt; matches!(reads_members(&value), Ok(true)));
+    assert!(rt; reads_object(&value));
     Ok(())
 }
 
@@ -63,7 +85,8 @@ fn reads_items(value: &Value) -> Result<bool, AccessFault<'static>> {
             && truth.boolean()?
             && null.is_null()
             && list.get(2).is_none()
-            && list.as_slice(2, 1).is_err(),
+            && list.as_slice(2, 1).is_err()
+            && list.iter().count() == 2,
     )
 }
 
@@ -133,4 +156,18 @@ fn accessors_of_parts(rt: HostRuntime) -> Result<(), Fail> {
     assert!(rt; ObjectAccessor::new(&members).is_empty());
     assert!(rt; ListAccessor::new(&[]).is_empty());
     Ok(())
+}
+
+fn is_send_sync<T: Send + Sync>() {}
+
+#[test]
+fn types_can_be_shared() {
+    is_send_sync::<AccessFault<'static>>();
+    is_send_sync::<Keys<'static>>();
+    is_send_sync::<ListAccessor<'static>>();
+    is_send_sync::<ListItems<'static>>();
+    is_send_sync::<Members<'static>>();
+    is_send_sync::<ObjectAccessor<'static>>();
+    is_send_sync::<ValueAccessor<'static>>();
+    is_send_sync::<Values<'static>>();
 }

@@ -2,7 +2,7 @@ ghost use Rattle.std.specs.Prelude.{◌≡◌, ◌↔◌, ℤ, IsTrue, MatchResu
 ghost use Rattle.std.specs.Int.{w64};
 ghost use Rattle.std.specs.Option.{ok_or};
 ghost use Rattle.gql_input.specs.Accessor.{value_behind, members_behind, items_behind};
-ghost use Rattle.gql_input.specs.Kinds.{boolean_of, enum_name_of, number_of, unsigned_number_of, string_of, object_of, list_of};
+ghost use Rattle.gql_base.specs.Kinds.{boolean_of, enum_name_of, number_of, unsigned_number_of, string_of, object_of, list_of};
 
 use crate::access_fault::AccessFault;
 use crate::list_accessor::ListAccessor;

@@ -2,17 +2,12 @@
 use Rattle.std.proofs.Common.{◌≡◌, ℕ, suc, ◌+◌, ◌<◌, ◌≤◌, ◌==◌, Bool, true, false, cond, not, List, [], ◌∷◌, ◌++◌, length, Some, None, slice_get, slice_set, slice_index_or, drop, map, refl, ap, sym, ◌∙◌, arith, ◌↔◌, nat_eq}
 use Rattle.std.proofs.lemmas.Option.{slice_get_past, slice_get_read}
 use Rattle.std.proofs.lemmas.List.{drop_more}
-use Rattle.std.specs.List.{zip, position, position_or_len, list_any}
-use Rattle.indexmap.specs.IndexSet.{insert_key}
-use Rattle.gql_base.proofs.PairLemmas.{position-is, position-none}
+use Rattle.std.specs.List.{zip}
 use Rattle.gql_request.specs.Data.{under_key, put_key, put_keys}
+use Rattle.gql_request.specs.KeyTree.{first_place}
 
 one-more : (n : ℕ) → 1 + n ≡ suc n
 one-more n = omega arith
-
--- the first place of a key, or the length
-abbrev first_place : ℕ → List ℕ → ℕ
-first_place sought ks = position_or_len (λ k. sought == k) ks
 
 -- there are no pairs exactly where there are no values
 none-zipped : {T : Type 0} (ks : List ℕ) (vs : List T) → length vs ≡ length ks → (length vs ≡ 0) ↔ (zip ks vs ≡ [])
@@ -70,66 +65,26 @@ module _ {T : Type 0} (sought : ℕ) where
         | false ↦ λ h. ap (λ ps. (k, y) ∷ ps) (put-absent ks vs v (omega arith) (omega arith))
       ]) past
 
-  -- by what a set of keys answers of a key's place
-  module _ (ks : List ℕ) (vs : List T) (ps : List (ℕ × T)) where
-    pub under_found : (i : ℕ) (v : T) → Some i ≡ position (λ k. sought == k) ks → length vs ≡ length ks → v ≡ slice_index_or vs i v
-        → zip ks vs ≡ ps → Some v ≡ under_key sought ps
-    under_found i v found same read made =
-        let at = position-is (λ k. sought == k) ks i found in
-        sym (ap (under_key sought) (sym made) ∙ under-zipped ks vs same ∙ ap (slice_get vs) at.0
-        ∙ slice_get_read vs (length ks) i v (sym same) at.1 read)
+-- in the form in which the search finds them: what the lists make comes first
+pub finds : {T : Type 0} (sought : ℕ) (ks : List ℕ) (vs : List T) (ps : List (ℕ × T)) (i : ℕ) (v : T) → zip ks vs ≡ ps → first_place sought ks ≡ i
+    → length vs ≡ length ks → i < length ks → v ≡ slice_index_or vs i v → Some v ≡ under_key sought ps
+finds sought ks vs ps i v made at same within read =
+    sym (ap (under_key sought) (sym made) ∙ under-zipped sought ks vs same ∙ ap (slice_get vs) at ∙ slice_get_read vs (length ks) i v (sym same) within read)
 
-    pub under_missing : None ≡ position (λ k. sought == k) ks → length vs ≡ length ks → zip ks vs ≡ ps → None ≡ under_key sought ps
-    under_missing missing same made =
-        sym (ap (under_key sought) (sym made) ∙ under-zipped ks vs same
-        ∙ slice_get_past vs _ (rw same (position-none (λ k. sought == k) ks missing)))
+pub misses : {T : Type 0} (sought : ℕ) (ks : List ℕ) (vs : List T) (ps : List (ℕ × T)) → zip ks vs ≡ ps → length ks ≤ first_place sought ks
+    → length vs ≡ length ks → None ≡ under_key sought ps
+misses sought ks vs ps made past same =
+    sym (ap (under_key sought) (sym made) ∙ under-zipped sought ks vs same ∙ slice_get_past vs _ (omega arith))
 
-    pub put_found : (i : ℕ) (v : T) → Some i ≡ position (λ k. sought == k) ks → length vs ≡ length ks → zip ks vs ≡ ps
-        → zip ks (slice_set vs i v) ≡ put_key ps sought v
-    put_found i v found same made =
-        let at = position-is (λ k. sought == k) ks i found in
-        ap (λ j. zip ks (slice_set vs j v)) (sym at.0)
-        ∙ sym (put-zipped ks vs v same (rw at.0 at.1)) ∙ ap (λ qs. put_key qs sought v) made
+pub put_found : {T : Type 0} (sought : ℕ) (ks : List ℕ) (vs : List T) (ps : List (ℕ × T)) (i : ℕ) (v : T) → zip ks vs ≡ ps → first_place sought ks ≡ i
+    → length vs ≡ length ks → i < length ks → zip ks (slice_set vs i v) ≡ put_key ps sought v
+put_found sought ks vs ps i v made at same within =
+    ap (λ j. zip ks (slice_set vs j v)) (sym at) ∙ sym (put-zipped sought ks vs v same (omega arith)) ∙ ap (λ qs. put_key qs sought v) made
 
-    pub put_missing : (v : T) → None ≡ position (λ k. sought == k) ks → length vs ≡ length ks → zip ks vs ≡ ps
-        → zip (ks ++ sought ∷ []) (vs ++ v ∷ []) ≡ put_key ps sought v
-    put_missing v missing same made =
-        zipped-push ks vs sought v same
-        ∙ sym (put-absent ks vs v same (position-none (λ k. sought == k) ks missing)) ∙ ap (λ qs. put_key qs sought v) made
-
--- a key that isn't there goes to the end of a set's keys
-pub insert_key_absent : (ks : List ℕ) (k : ℕ) → false ≡ list_any (λ q. k == q) ks → insert_key nat_eq ks k ≡ ks ++ k ∷ []
-insert_key_absent ks k absent =
-    let other : list_any (nat_eq k) ks ≡ false = sym absent in
-    rw other refl
-
--- the same in the form in which the search finds them: what the lists make comes first
-pub finds : {T : Type 0} (sought : ℕ) (ks : List ℕ) (vs : List T) (ps : List (ℕ × T)) (i : ℕ) (v : T) → zip ks vs ≡ ps
-    → Some i ≡ position (λ k. sought == k) ks → length vs ≡ length ks → v ≡ slice_index_or vs i v → Some v ≡ under_key sought ps
-finds sought ks vs ps i v made found same read = under_found sought ks vs ps i v found same read made
-
-pub misses : {T : Type 0} (sought : ℕ) (ks : List ℕ) (vs : List T) (ps : List (ℕ × T)) → zip ks vs ≡ ps
-    → None ≡ position (λ k. sought == k) ks → length vs ≡ length ks → None ≡ under_key sought ps
-misses sought ks vs ps made missing same = under_missing sought ks vs ps missing same made
-
--- a key that isn't there, inserted among the keys of a set, with its value behind the values
-pub inserts : {T : Type 0} (sought : ℕ) (ks ks' : List ℕ) (vs vs' : List T) (ps : List (ℕ × T)) (v : T) → zip ks vs ≡ ps
-    → None ≡ position (λ k. sought == k) ks → false ≡ list_any (λ k. sought == k) ks → length vs ≡ length ks
-    → ks' ≡ insert_key nat_eq ks sought → vs' ≡ vs ++ v ∷ [] → zip ks' vs' ≡ put_key ps sought v
-inserts sought ks ks' vs vs' ps v made missing absent same keys values =
-    let one = keys ∙ insert_key_absent ks sought absent in
-    (λ i. zip (one i) (values i)) ∙ put_missing sought ks vs ps v missing same made
-
--- the same at the pairs that the lists make
-pub puts_found : {T : Type 0} (sought : ℕ) (ks : List ℕ) (vs : List T) (i : ℕ) (v : T) → Some i ≡ position (λ k. sought == k) ks
-    → length vs ≡ length ks → zip ks (slice_set vs i v) ≡ put_key (zip ks vs) sought v
-puts_found sought ks vs i v found same = put_found sought ks vs (zip ks vs) i v found same refl
-
-pub puts_missing : {T : Type 0} (sought : ℕ) (ks ks' : List ℕ) (vs vs' : List T) (v : T) → None ≡ position (λ k. sought == k) ks
-    → false ≡ list_any (λ k. sought == k) ks → length vs ≡ length ks → ks' ≡ insert_key nat_eq ks sought → vs' ≡ vs ++ v ∷ []
-    → zip ks' vs' ≡ put_key (zip ks vs) sought v
-puts_missing sought ks ks' vs vs' v missing absent same keys values =
-    inserts sought ks ks' vs vs' (zip ks vs) v refl missing absent same keys values
+pub inserts : {T : Type 0} (sought : ℕ) (ks ks' : List ℕ) (vs vs' : List T) (ps : List (ℕ × T)) (v : T) → zip ks vs ≡ ps → length ks ≤ first_place sought ks
+    → length vs ≡ length ks → ks' ≡ ks ++ sought ∷ [] → vs' ≡ vs ++ v ∷ [] → zip ks' vs' ≡ put_key ps sought v
+inserts sought ks ks' vs vs' ps v made past same keys values =
+    (λ i. zip (keys i) (values i)) ∙ zipped-push sought ks vs sought v same ∙ sym (put-absent sought ks vs v same past) ∙ ap (λ qs. put_key qs sought v) made
 
 -- one pair of the others is put, and those behind it are left
 pub puts_more : {T : Type 0} (ks : List ℕ) (place : ℕ) (k : ℕ) (v : T) (rest rest' : List T) (ps ps' whole : List (ℕ × T)) → place < length ks

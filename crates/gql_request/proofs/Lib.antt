@@ -1,2 +1,4 @@
 pub mod PathLemmas
+pub mod KeyTreeLemmas
 pub mod DataLemmas
+pub mod NestLemmas

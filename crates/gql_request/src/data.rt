@@ -1,11 +1,11 @@
-ghost use Rattle.std.specs.Prelude.{◌≡◌, [], ◌∷◌, ◌++◌, ◌+◌, ◌↔◌, ◌<◌, ◌≤◌, IsTrue, OnOk, OnErr, IfOk, length, nat_eq, vec_len, vec_capacity};
+ghost use Rattle.std.specs.Prelude.{◌≡◌, [], ◌+◌, ◌*◌, ◌↔◌, ◌<◌, ◌≤◌, IsTrue, OnOk, OnErr, IfOk, length, vec_len, vec_capacity};
 ghost use Rattle.std.specs.List.{zip};
 ghost use Rattle.std.specs.Option.{option_copied};
-ghost use Rattle.indexmap.specs.IndexSet.{insert_key, spare};
+ghost use Rattle.gql_request.specs.KeyTree.{IsKeyTree};
 ghost use Rattle.gql_request.specs.Data.{under_key, put_key, put_keys};
 
+use crate::key_tree::{KeyTree, Sought};
 use gql_base::{Copied, Made, Value};
-use indexmap::IndexSet;
 use std::alloc::Global;
 use std::marker::Model;
 use thiserror::Error;
@@ -22,7 +22,7 @@ pub struct NoData(pub DataKey);
 /// Values under keys. Contracts see the list of the pairs of a key's number and its value, in order of insertion.
 #[derive(Debug, Drop)]
 pub struct Data {
-    keys: IndexSet<u32>,
+    tree: KeyTree,
     values: Vec<Value>,
 }
 
@@ -37,9 +37,11 @@ impl Model for Data {
 
     ghost coded = { coded_list (coded× coded_ℕ the_row.coded) };
 
-    ghost view = { λ held. zip held.keys.keys held.values.items };
+    ghost use Rattle.gql_request.specs.KeyTree.{IsKeyTree};
 
-    ghost invariant = { λ held. length held.values.items ≡ length held.keys.keys };
+    ghost view = { λ held. zip held.tree.keys.items held.values.items };
+
+    ghost invariant = { λ held. IsKeyTree held.tree.keys.items held.tree.links.items × (length held.values.items ≡ length held.tree.keys.items) };
 }
 
 impl Data {
@@ -48,7 +50,7 @@ impl Data {
         ensures { result ≡ [] }
     {
         Data {
-            keys: IndexSet::new(alloc),
+            tree: KeyTree::new(alloc),
             values: Vec::new(alloc),
         }
     }
@@ -60,29 +62,29 @@ impl Data {
         ensures ok { OnOk result (self.new ≡ put_key self.old key.0 value) }
         ensures err { OnErr result (self.new ≡ self.old) }
     {
-        match self.keys.get_index_of(&key.0) {
-            Some(place) => {
+        match self.tree.sought(key.0) {
+            Sought::At(place) => {
                 self.values[place] = value;
                 Ok(())
             }
-            None => {
+            Sought::Missing(end) => {
                 self.values.reserve(1)?;
-                self.keys.insert(key.0)?;
-                push_within(&mut self.values, value);
+                self.tree.reserve(1, 2)?;
+                self.tree.grow(end, key.0);
+                self.values.push_reserved(value);
                 Ok(())
             }
         }
     }
 
-    /// The value under a key, or none where the key isn't there. The key is hashed, so that it takes the same time
-    /// however many keys there are.
+    /// The value under a key, or none where the key isn't there.
     #[tactic(auto, using(crate::proofs::DataLemmas::finds, crate::proofs::DataLemmas::misses))]
     pub fn get(&self, key: DataKey) -> Option<&Value>
         ensures { option_copied result ≡ under_key key.0 self.now }
     {
-        match self.keys.get_index_of(&key.0) {
-            Some(place) => Some(&self.values[place]),
-            None => None,
+        match self.tree.sought(key.0) {
+            Sought::At(place) => Some(&self.values[place]),
+            Sought::Missing(_) => None,
         }
     }
 
@@ -99,10 +101,15 @@ impl Data {
         ensures ok { OnOk result (self.new ≡ put_keys self.old other) }
         ensures err { OnErr result (self.new ≡ self.old) }
     {
-        let Data { keys, values } = other;
+        let Data { tree, values } = other;
         self.values.reserve(values.len())?;
-        self.keys.reserve(values.len())?;
-        put_all(&mut self.keys, &mut self.values, keys.as_slice(), values);
+        self.tree.reserve(tree.keys.len(), tree.links.len())?;
+        put_all(
+            &mut self.tree,
+            &mut self.values,
+            tree.keys.as_slice(),
+            values,
+        );
         Ok(())
     }
 
@@ -111,7 +118,7 @@ impl Data {
     pub fn equals(&self, other: &Data) -> bool
         ensures { IsTrue result ↔ (self.now ≡ other.now) }
     {
-        same_keys(self.keys.as_slice(), other.keys.as_slice())
+        same_keys(self.tree.keys.as_slice(), other.tree.keys.as_slice())
             && same_values(self.values.as_slice(), other.values.as_slice())
     }
 }
@@ -140,8 +147,8 @@ impl Eq for Data {
 impl Copied for Data {
     fn try_clone(&self, alloc: Global) -> Made<Data> {
         let values = copy_values(alloc, self.values.as_slice())?;
-        let keys = self.keys.clone()?;
-        Ok(Data { keys, values })
+        let tree = self.tree.copy(alloc)?;
+        Ok(Data { tree, values })
     }
 }
 
@@ -170,67 +177,51 @@ fn same_values(a: &[Value], b: &[Value]) -> bool
 /// Sets each of some values under the key at its place, where there is room for all of them.
 #[tactic(auto, using(crate::proofs::DataLemmas::puts_more, crate::proofs::DataLemmas::puts_none))]
 fn put_all(
-    keys: &mut IndexSet<u32>,
+    tree: &mut KeyTree,
     values: &mut Vec<Value>,
     other_keys: &[u32],
     other_values: Vec<Value>,
 )
-    requires same { length values.old.items ≡ length keys.old.keys }
+    requires tree { IsKeyTree tree.old.keys.items tree.old.links.items }
+    requires same { length values.old.items ≡ length tree.old.keys.items }
     requires others { length other_values.items ≡ length other_keys.now }
     requires room { vec_len values.old + length other_values.items ≤ vec_capacity values.old }
-    requires key_room { length other_values.items ≤ spare keys.old }
-    ensures same { length values.new.items ≡ length keys.new.keys }
-    ensures pairs { zip keys.new.keys values.new.items ≡ put_keys (zip keys.old.keys values.old.items) (zip other_keys.now other_values.items) }
+    requires key_room { vec_len tree.old.keys + length other_values.items ≤ vec_capacity tree.old.keys }
+    requires link_room { vec_len tree.old.links + 2 * length other_values.items ≤ vec_capacity tree.old.links }
+    ensures tree { IsKeyTree tree.new.keys.items tree.new.links.items }
+    ensures same { length values.new.items ≡ length tree.new.keys.items }
+    ensures pairs { zip tree.new.keys.items values.new.items ≡ put_keys (zip tree.old.keys.items values.old.items) (zip other_keys.now other_values.items) }
 {
     let mut place = 0;
     for value in other_values {
-        put_within(keys, values, other_keys[place], value);
+        put_within(tree, values, other_keys[place], value);
         place += 1;
     }
 }
 
 /// Sets the value under a key, where there is room for one more.
-#[tactic(auto, using(crate::proofs::DataLemmas::puts_found, crate::proofs::DataLemmas::puts_missing))]
-fn put_within(keys: &mut IndexSet<u32>, values: &mut Vec<Value>, key: u32, value: Value)
-    requires same { length values.old.items ≡ length keys.old.keys }
+#[tactic(auto, using(crate::proofs::DataLemmas::put_found, crate::proofs::DataLemmas::inserts))]
+fn put_within(tree: &mut KeyTree, values: &mut Vec<Value>, key: u32, value: Value)
+    requires tree { IsKeyTree tree.old.keys.items tree.old.links.items }
+    requires same { length values.old.items ≡ length tree.old.keys.items }
     requires room { vec_len values.old < vec_capacity values.old }
-    requires key_room { 0 < spare keys.old }
-    ensures same { length values.new.items ≡ length keys.new.keys }
-    ensures pairs { zip keys.new.keys values.new.items ≡ put_key (zip keys.old.keys values.old.items) key value }
+    requires key_room { vec_len tree.old.keys < vec_capacity tree.old.keys }
+    requires link_room { vec_len tree.old.links + 2 ≤ vec_capacity tree.old.links }
+    ensures tree { IsKeyTree tree.new.keys.items tree.new.links.items }
+    ensures same { length values.new.items ≡ length tree.new.keys.items }
+    ensures pairs { zip tree.new.keys.items values.new.items ≡ put_key (zip tree.old.keys.items values.old.items) key value }
     ensures room { vec_len values.new ≤ vec_len values.old + 1 }
     ensures capacity { vec_capacity values.old ≤ vec_capacity values.new }
-    ensures key_room { spare keys.old ≤ spare keys.new + 1 }
+    ensures key_room { vec_len tree.new.keys ≤ vec_len tree.old.keys + 1 }
+    ensures key_capacity { vec_capacity tree.old.keys ≤ vec_capacity tree.new.keys }
+    ensures link_room { vec_len tree.new.links ≤ vec_len tree.old.links + 2 }
+    ensures link_capacity { vec_capacity tree.old.links ≤ vec_capacity tree.new.links }
 {
-    match keys.get_index_of(&key) {
-        Some(place) => values[place] = value,
-        None => {
-            insert_within(keys, key);
-            push_within(values, value);
+    match tree.sought(key) {
+        Sought::At(place) => values[place] = value,
+        Sought::Missing(end) => {
+            tree.grow(end, key);
+            values.push_reserved(value);
         }
-    }
-}
-
-/// Adds a key for which there is room.
-fn insert_within(keys: &mut IndexSet<u32>, key: u32)
-    requires { 0 < spare keys.old }
-    ensures keys { keys.new.keys ≡ insert_key nat_eq keys.old.keys key }
-    ensures room { spare keys.old ≤ spare keys.new + 1 }
-{
-    match keys.insert(key) {
-        Ok(_) => {}
-        Err(_) => unreachable!(),
-    }
-}
-
-/// Adds a value for which there is room.
-fn push_within(values: &mut Vec<Value>, value: Value)
-    requires { vec_len values.old < vec_capacity values.old }
-    ensures items { values.new.items ≡ values.old.items ++ value ∷ [] }
-    ensures len { vec_len values.new ≡ vec_len values.old + 1 }
-    ensures capacity { vec_capacity values.old ≤ vec_capacity values.new }
-{
-    match values.push(value) {
-        Ok(()) => {}
-        Err(_) => unreachable!(),
     }
 }

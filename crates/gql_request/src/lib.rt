@@ -5,6 +5,7 @@ mod data;
 mod data_context;
 mod header_op;
 mod hooks;
+mod key_tree;
 mod query_env;
 mod query_path_node;
 #[cfg(test)]

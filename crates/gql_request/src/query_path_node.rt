@@ -1,6 +1,6 @@
 ghost use Rattle.std.specs.Prelude.{◌≡◌, ◌<◌, ◌++◌, IsSome, Some, IfOk, OnOk, length, map, codes, string_bytes};
-ghost use Rattle.gql_base.specs.PathSegment.{segment_text};
-ghost use Rattle.gql_base.specs.Separated.{separated, before};
+ghost use Rattle.gql_base.specs.PathSegment.{path_text, segment_text};
+ghost use Rattle.gql_base.specs.Separated.{before};
 ghost use Rattle.gql_request.specs.Path.{last_field};
 
 use gql_base::{Items, Made, PathSegment, Text};
@@ -51,7 +51,7 @@ impl<'a> QueryPathNode<'a> {
     /// The texts of the segments, joined by dots.
     #[tactic(auto, using(gql_base::proofs::SeparatedLemmas::separated_more))]
     pub fn text(&self, alloc: Global) -> Made<Text>
-        ensures { IfOk result (λ text. text ≡ separated (codes ".") (map segment_text self.now.segments.now)) }
+        ensures { IfOk result (λ text. text ≡ path_text self.now.segments.now) }
     {
         let mut out = String::new(alloc);
         for (place, segment) in self.segments.iter().enumerate() {

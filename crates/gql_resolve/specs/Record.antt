@@ -1,8 +1,6 @@
 -- The record of an execution, and the tasks that began. A set may tell them.
-use Rattle.std.specs.Prelude.{ℕ, Bool, true, false, List, [], ◌∷◌, ◌++◌, Option, Result, Ok, Err, codes, map, option_map}
-use Rattle.gql_base.specs.declared.path_segment.PathSegment.{PathSegment}
-use Rattle.gql_base.specs.PathSegment.{segment_text}
-use Rattle.gql_base.specs.Separated.{separated}
+use Rattle.std.specs.Prelude.{ℕ, Bool, true, false, List, [], ◌∷◌, ◌++◌, Option, Result, Ok, Err, option_map}
+use Rattle.gql_base.specs.PathSegment.{path_text}
 use Rattle.gql_resolve.specs.declared.field_future.FieldFuture.{FieldFuture}
 use Rattle.gql_resolve.specs.declared.field_future.FieldFuture.TheVariants.{Value, Future}
 use Rattle.gql_resolve.specs.declared.answer.Polled.{Polled}
@@ -21,7 +19,7 @@ module _ {V : Type 0} where
       record {
         task = context.task;
         resolver = context.resolver;
-        path = separated (codes ".") (map segment_text context.path_node.segments.now);
+        path = path_text context.path_node.segments.now;
         ready = ready;
       }
 

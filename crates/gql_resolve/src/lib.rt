@@ -3,11 +3,11 @@
 
 mod answer;
 mod copied;
-#[cfg(test)]
-mod data_tests;
 mod field_future;
 mod field_value;
 mod layers;
+#[cfg(test)]
+mod parts;
 mod record_entry;
 mod resolver_context;
 mod resolver_set;

@@ -36,17 +36,11 @@ impl Echo {
         }
     }
 
-    fn note(&mut self, alloc: Global, call: &ResolverContext<'_, u32>, ready: bool) -> Made<()>
+    fn note(&mut self, alloc: Global, call: &ResolverContext<'_, u64>, ready: bool) -> Made<()>
         ensures ok { OnOk result (self.new ≡ record self.old { entries = self.old.entries ++ entry_of call.now ready ∷ [] }) }
         ensures err { OnErr result (self.new ≡ self.old) }
     {
-        let path = call.path_node.text(alloc)?;
-        self.entries.push(RecordEntry {
-            task: call.task,
-            resolver: call.resolver,
-            path,
-            ready,
-        })
+        self.entries.push(RecordEntry::of(alloc, call, ready)?)
     }
 }
 
@@ -55,7 +49,7 @@ impl ResolverSet for Echo {
     ghost use Rattle.gql_resolve.specs.declared.field_value.FieldValue.TheVariants as given;
     ghost use Rattle.gql_resolve.specs.Lawful.{plain_answer};
 
-    type Own = u32;
+    type Own = u64;
 
     type World = u64;
 
@@ -88,8 +82,8 @@ impl ResolverSet for Echo {
     fn start(
         &mut self,
         _alloc: Global,
-        call: &ResolverContext<'_, u32>,
-    ) -> Made<FieldFuture<u32, Waiting>> {
+        call: &ResolverContext<'_, u64>,
+    ) -> Made<FieldFuture<u64, Waiting>> {
         self.begun.push(call.task)?;
         Ok(FieldFuture::new(Waiting {
             polls: self.delay,
@@ -101,23 +95,23 @@ impl ResolverSet for Echo {
         &mut self,
         alloc: Global,
         future: &mut Waiting,
-        call: &ResolverContext<'_, u32>,
-    ) -> Made<Polled<u32>> {
+        call: &ResolverContext<'_, u64>,
+    ) -> Made<Polled<u64>> {
         if future.polls > 0 {
             self.note(alloc, call, false)?;
             future.polls -= 1;
             return Ok(Polled::Pending);
         }
         self.note(alloc, call, true)?;
-        Ok(Polled::Ready(number_answer(alloc, future.resolver)))
+        Ok(Polled::Ready(number_answer(alloc, u64::from(future.resolver))))
     }
 
     fn poll_root(
         &mut self,
         alloc: Global,
         future: &mut Waiting,
-        call: &ResolverContext<'_, u32>,
-    ) -> Made<Polled<u32>> {
+        call: &ResolverContext<'_, u64>,
+    ) -> Made<Polled<u64>> {
         if future.polls > 0 {
             self.note(alloc, call, false)?;
             future.polls -= 1;
@@ -125,7 +119,7 @@ impl ResolverSet for Echo {
         }
         self.note(alloc, call, true)?;
         self.world = u64::from(call.resolver);
-        Ok(Polled::Ready(number_answer(alloc, future.resolver)))
+        Ok(Polled::Ready(number_answer(alloc, u64::from(future.resolver))))
     }
 
     fn snapshot(&self, _alloc: Global) -> Made<u64> {
@@ -134,7 +128,7 @@ impl ResolverSet for Echo {
 }
 
 /// The answer that is a resolver's own number.
-fn number_answer(alloc: Global, number: u32) -> Answer<u32>
+fn number_answer(alloc: Global, number: u64) -> Answer<u64>
     ensures value { result.result ≡ Ok (Some (FieldValue.Own number)) }
     ensures added { result.added ≡ [] }
     ensures headers { result.headers ≡ [] }

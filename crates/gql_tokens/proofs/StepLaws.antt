@@ -8,7 +8,7 @@ use Rattle.gql_tokens.specs.declared.token.Token.{Token}
 use Rattle.gql_tokens.specs.Characters.{is_source}
 use Rattle.gql_tokens.specs.Gap.{IsGap}
 use Rattle.gql_tokens.specs.Place.{place_after}
-use Rattle.gql_tokens.specs.Token.{Spells, IsToken, is_final}
+use Rattle.gql_tokens.specs.Token.{IsToken, is_final}
 use Rattle.gql_tokens.specs.Lexer.{Finishes, Lexes, EndFinally}
 use Rattle.gql_tokens.specs.Parts.{NoBlockEnds, StandsAt, IsStep}
 use Rattle.gql_tokens.proofs.Lists.{Each}
@@ -25,10 +25,6 @@ finish_final (lexemes.Punctuator p) text h = absurd h
 finish_final (lexemes.Name p) text h = absurd h
 finish_final (lexemes.Number p) text h = absurd h
 finish_final (lexemes.String p) text h = absurd h
-
--- what isn't final and stands at a text's front is spelled there
-pub spelled_at : (l : Lexeme) (n : ℕ) (text : List ℕ) → StandsAt l n text → is_final l ≡ false → Spells l (take n text)
-spelled_at l n text stands more = elim stands [ inl h ↦ (let final = finish_final l text h in absurd cc) | inr h ↦ h.1.spelled ]
 
 no_block_ends_left : (n : ℕ) (text : List ℕ) → Each is_source (take n text) → NoBlockEnds text → NoBlockEnds (drop n text)
 no_block_ends_left n text source h =

@@ -1,9 +1,7 @@
 -- Block strings (GraphQL, October 2021, section 2.9.4): what stands between their quotes.
-use Rattle.std.specs.Prelude.{◌≡◌, ℕ, ◌≤◌, true, false, List, [], ◌∷◌, ◌++◌, ◌==◌, nat_eq, length, take, encode_utf8_all}
-use Rattle.std.specs.List.{starts_with, AllByRecursion}
-use Rattle.gql_tokens.specs.declared.block.Found.{Found}
-use Rattle.gql_tokens.specs.declared.block.Found.TheVariants as founds
-use Rattle.gql_tokens.specs.Characters.{quote, backslash, is_source, begins}
+use Rattle.std.specs.Prelude.{◌≡◌, ℕ, true, false, List, [], ◌∷◌, ◌++◌, nat_eq}
+use Rattle.std.specs.List.{starts_with}
+use Rattle.gql_tokens.specs.Characters.{quote, backslash, is_source}
 use Rattle.gql_tokens.specs.Lines.{block_value}
 
 abbrev pub three_quotes : List ℕ

@@ -1,7 +1,5 @@
 -- The tokens of a text (GraphQL, October 2021, section 2.1.6).
-use Rattle.std.specs.Prelude.{◌≡◌, ◌≢◌, ℕ, Bool, true, false, ◌⊎◌, List, [], ◌∷◌, ◌++◌, ◌≤◌, ◌<◌, ◌+◌, ◌||◌, ◌==◌, length, take, drop}
-use Rattle.std.specs.Char.{is_ascii_digit}
-use Rattle.gql_tokens.specs.Characters.{minus}
+use Rattle.std.specs.Prelude.{◌≡◌, ◌≢◌, ℕ, true, false, ◌⊎◌, List, [], ◌∷◌, ◌++◌}
 use Rattle.gql_base.specs.declared.pos.Pos.{Pos}
 use Rattle.gql_tokens.specs.declared.token.Lexeme.{Lexeme}
 use Rattle.gql_tokens.specs.declared.token.Lexeme.TheVariants as lexemes
@@ -33,8 +31,12 @@ Lexes place text (token ∷ tokens) =
     ⊎ ((cs : List ℕ) × (rest : List ℕ) × (behind ≡ cs ++ rest) × IsToken token.lexeme cs rest
     × (is_final token.lexeme ≡ false) × Lexes (place_after token.pos cs rest) rest tokens))
 
+-- the last token behind this one is final, or this one where none stands behind it, and no other is
+abbrev pub EndFinallyFrom : Token → List Token → Type 0
+EndFinallyFrom token [] = is_final token.lexeme ≡ true
+EndFinallyFrom token (next ∷ tokens) = (is_final token.lexeme ≡ false) × EndFinallyFrom next tokens
+
 -- the last token is final, and no other is
 abbrev pub EndFinally : List Token → Type 0
 EndFinally [] = ⊥
-EndFinally (token ∷ []) = is_final token.lexeme ≡ true
-EndFinally (token ∷ next ∷ tokens) = (is_final token.lexeme ≡ false) × EndFinally (next ∷ tokens)
+EndFinally (token ∷ tokens) = EndFinallyFrom token tokens

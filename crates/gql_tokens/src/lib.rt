@@ -9,6 +9,7 @@ mod lines;
 mod name;
 mod number;
 mod place;
+mod shared;
 mod string;
 mod token;
 

@@ -1,6 +1,6 @@
 ghost use Rattle.std.specs.Prelude.{◌≡◌};
 ghost use Rattle.std.specs.List.{prefix_len};
-ghost use Rattle.gql_tokens.specs.Characters.{is_name_part};
+ghost use Rattle.gql_base.specs.Letters.{is_name_part};
 
 use crate::characters::is_name_part;
 

@@ -1,4 +1,4 @@
-use Rattle.std.proofs.Common.{codes, ◌++◌, arith, ap, sym, ◌∙◌, append_assoc}
+use Rattle.std.proofs.Common.{codes, ◌++◌, arith, sym, append_assoc}
 use Rattle.std.proofs.lemmas.Grind.{common_steps}
 use Rattle.gql_base.specs.Json.{quoted, member, value_text}
 use Rattle.gql_base.specs.declared.json.Style.TheVariants.{Json}

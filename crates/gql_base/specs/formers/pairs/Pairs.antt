@@ -1,6 +1,6 @@
 -- `Pairs` leads back to a type that holds it: as a shape it is a list of names beside what it holds, and its layout is that
--- of the vector of values beside the set of names.
-use Rattle.std.specs.Prelude.{◌≡◌, ℕ, List, [], ◌∷◌, map, length, string_bytes}
+-- of the vector of values beside the names.
+use Rattle.std.specs.Prelude.{◌≡◌, ℕ, List, [], ◌∷◌, map, length}
 use mathlib.Core.Path.{refl, sym, ap, ◌∙◌}
 use mathlib.Core.Former.{Former, one_more, this, const, pair, list, children, via}
 use native.Mathlib.Nat.{ℕ_set}
@@ -15,10 +15,6 @@ use denote.Hole.Fix.{over}
 use denote.Param.Weighed.{Weighed, w_list, w_pair, w_const}
 use denote.Model.Placed.{held, view_places_where}
 use Rattle.std.specs.List.{zip}
-use Rattle.std.specs.HashSet.{HashSet}
-use Rattle.std.specs.declared.string.String.{String}
-use Rattle.std.specs.declared.hash.FoldHasher.{FoldHasher}
-use Rattle.std.specs.declared.hash.BuildHasherDefault.{BuildHasherDefault}
 use Rattle.std.specs.declared.alloc.Global.{Global}
 use Rattle.std.specs.contracts.alloc.Global as heap
 use Rattle.std.specs.contracts.impls.GlobalAllocator.TheImpl.{ghosts}
@@ -48,9 +44,9 @@ the_items_listed X [] = refl
 the_items_listed X (p ∷ ps) = ap (λ xs. p.1 ∷ xs) (the_items_listed X ps)
 
 abbrev Names : Type 0
-Names = HashSet (String Global) (BuildHasherDefault FoldHasher)
+Names = List (List ℕ)
 
--- the two fields, the set of names and the vector of values
+-- the two fields, the names and the vector of values
 abbrev the_fields : Former {0}
 the_fields =
     via (pair (const Names) (vec.the_former this Global)) Inside (λ X fields. (fields.names, fields.values))
@@ -71,10 +67,10 @@ zip-held X (k ∷ ks) (v ∷ vs) e =
 module _ (R S : RattleType) (h : R.Denot → S.Denot) where
   pub the_places : Alike R S h → Alike (contract.the_row R) (contract.the_row S) ((the_former this).map R.Denot S.Denot h)
   the_places alike =
-      view_places_where the_fields (the_former this) view (λ X Y k fields. zip-map k (map string_bytes fields.names.keys) fields.values.items)
-      (λ X fields. length fields.values.items ≡ length fields.names.keys)
+      view_places_where the_fields (the_former this) view (λ X Y k fields. zip-map k fields.names fields.values.items)
+      (λ X fields. length fields.values.items ≡ length fields.names)
       (λ X Y k fields same. sym (length-map fields.values.items k) ∙ same)
-      (λ X fields same. zip-held X (map string_bytes fields.names.keys) fields.values.items (same ∙ sym (length-map fields.names.keys string_bytes)))
+      (λ X fields same. zip-held X fields.names fields.values.items same)
       R.Denot S.Denot h (contract.the_row R).coded (contract.the_row S).coded (invariant R.Denot) (invariant S.Denot) (λ fields. ℕ_set _ _)
       (λ fields. ℕ_set _ _) (λ fields same. length-map fields.values.items h ∙ same)
       (λ fields same. sym (length-map fields.values.items h) ∙ same) (λ fields same. same) (over (inside.the_row R)) (over (inside.the_row S))

@@ -1,5 +1,6 @@
 use Rattle.std.proofs.Common.{◌≡◌, ◌-◌, vec_len}
-use Rattle.gql_cli.specs.declared.reading.TheConstants.{INPUT_LIMIT, PIECE}
+use Rattle.gql_cli.specs.Limits.{input_limit}
+use Rattle.gql_cli.specs.declared.reading.TheConstants.{PIECE}
 use Rattle.gql_cli.proofs.ReadingSteps.{HasRead}
 use Rattle.gql_cli.proofs.reading.read_whole.Given as goal
 
@@ -8,4 +9,4 @@ invariant-loop-piece g l =
     (vec_len l.piece ≡ PIECE) × HasRead g.I.Source.left g.I.Source.given g.I.Source.faults l.initial.source l.source l.bytes.items
 
 abbrev pub decreases-loop-piece : goal.decreases-loop-piece
-decreases-loop-piece g l = INPUT_LIMIT - vec_len l.bytes
+decreases-loop-piece g l = input_limit - vec_len l.bytes

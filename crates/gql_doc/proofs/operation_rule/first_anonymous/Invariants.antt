@@ -1,5 +1,5 @@
 use Rattle.std.proofs.Common.{◌≡◌, drop}
-use Rattle.gql_doc.specs.NameRules.{first_in}
+use Rattle.gql_doc.specs.First.{first_in}
 use Rattle.gql_doc.specs.Builds.{anonymous_in}
 use Rattle.gql_doc.proofs.operation_rule.first_anonymous.Given as goal
 

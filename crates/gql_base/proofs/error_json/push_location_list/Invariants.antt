@@ -1,7 +1,0 @@
-use Rattle.std.proofs.Common.{◌≡◌, ◌++◌, map, take, string_bytes, codes}
-use Rattle.gql_base.specs.ErrorJson.{location_json}
-use Rattle.gql_base.specs.Separated.{separated}
-use Rattle.gql_base.proofs.error_json.push_location_list.Given as goal
-
-abbrev pub invariant-loop-place : goal.invariant-loop-place
-invariant-loop-place l = string_bytes l.out ≡ string_bytes l.initial.out ++ separated (codes ",") (map location_json (take l.place l.locations))

@@ -1,0 +1,229 @@
+ghost use Rattle.std.specs.Prelude.{◌≡◌, [], ◌∷◌, ◌++◌, ◌<◌, length, slice_get, IfOk, IfSome, OnOk, OnErr, Some, None};
+ghost use Rattle.gql_base.specs.Names.{place_of, AreDistinct};
+ghost use Rattle.gql_base.specs.Places.{HasPlaces};
+
+use crate::copied::{Copied, copies};
+use crate::made::Made;
+use crate::name::Name;
+use std::alloc::Global;
+use std::collections::BTreeMap;
+use std::marker::Model;
+use std::mem;
+
+/// The most names that are searched in order.
+const FEW: usize = 8;
+
+/// Names in order of insertion, none twice. Contracts see the list of the names.
+#[derive(Debug, Drop)]
+pub struct Names {
+    kept: Kept,
+}
+
+/// A few names are searched in order; more have the place of each in a tree, which no choice of names makes slow.
+#[derive(Debug, Drop)]
+enum Kept {
+    Few(Vec<Name>),
+    Many(Box<Indexed>),
+}
+
+/// Names beside the place of each.
+#[derive(Debug, Drop)]
+struct Indexed {
+    list: Vec<Name>,
+    places: BTreeMap<String, usize>,
+}
+
+impl Model for Names {
+    ghost use Rattle.std.specs.Prelude.{List, ℕ};
+    ghost use Rattle.std.specs.Coded.{coded_list, coded_ℕ};
+    ghost use Rattle.gql_base.specs.Names.{AreDistinct};
+
+    ghost Value = { List (List ℕ) };
+
+    ghost coded = { coded_list (coded_list coded_ℕ) };
+
+    ghost use Rattle.gql_base.specs.NamesKept.{kept_names, IsKept};
+
+    ghost view = { λ names. kept_names names.kept };
+
+    ghost invariant = { λ names. AreDistinct (kept_names names.kept) × IsKept names.kept };
+}
+
+impl Names {
+    /// No name at all, which takes no memory.
+    pub fn new(alloc: Global) -> Names
+        ensures { result ≡ [] }
+    {
+        Names {
+            kept: Kept::Few(Vec::new(alloc)),
+        }
+    }
+
+    /// No name at all, with room for some.
+    pub fn with_capacity(alloc: Global, room: usize) -> Made<Names>
+        ensures { IfOk result (λ made. made ≡ []) }
+    {
+        let list = Vec::with_capacity(alloc, room)?;
+        Ok(Names {
+            kept: Kept::Few(list),
+        })
+    }
+
+    /// Takes room for more names.
+    pub fn reserve(&mut self, more: usize) -> Made<()>
+        ensures { self.new ≡ self.old }
+    {
+        match &mut self.kept {
+            Kept::Few(list) => list.reserve(more),
+            Kept::Many(indexed) => indexed.list.reserve(more),
+        }
+    }
+
+    /// The number of names.
+    pub fn len(&self) -> usize
+        ensures length { result ≡ length self.now }
+        ensures distinct { AreDistinct self.now }
+    {
+        match &self.kept {
+            Kept::Few(list) => list.len(),
+            Kept::Many(indexed) => indexed.list.len(),
+        }
+    }
+
+    /// The names in order.
+    fn as_slice(&self) -> &[Name]
+        ensures { result.now ≡ self.now }
+    {
+        match &self.kept {
+            Kept::Few(list) => list.as_slice(),
+            Kept::Many(indexed) => indexed.list.as_slice(),
+        }
+    }
+
+    /// The place of a name, counted from 0, or none where the name isn't there.
+    pub fn place_of(&self, name: &str) -> Option<usize>
+        ensures place { result ≡ place_of name.now self.now }
+        ensures within { IfSome result (λ place. place < length self.now) }
+    {
+        match &self.kept {
+            Kept::Few(list) => place_in(list.as_slice(), name),
+            Kept::Many(indexed) => indexed.places.get(name).copied(),
+        }
+    }
+
+    /// The name at a place, counted from 0.
+    pub fn at(&self, place: usize) -> &str
+        requires { place < length self.now }
+        ensures { slice_get self.now place ≡ Some result.now }
+    {
+        self.as_slice()[place].as_str()
+    }
+
+    /// Adds a name that isn't there, at the end, and looks no name up. Where memory is wanting the names stay as they were.
+    #[tactic(auto, using(crate::proofs::NamesLemmas::distinct_added, crate::proofs::NamesLemmas::distinct_pushed))]
+    pub fn add_fresh(&mut self, name: Name) -> Made<()>
+        requires { place_of name self.old ≡ None }
+        ensures ok { OnOk result (self.new ≡ self.old ++ name ∷ []) }
+        ensures err { OnErr result (self.new ≡ self.old) }
+    {
+        match &mut self.kept {
+            Kept::Few(list) => {
+                if list.len() < FEW {
+                    list.push(name)?;
+                    return Ok(());
+                }
+                let alloc = *list.allocator();
+                let places = places_in(alloc, list.as_slice())?;
+                let mut indexed = Box::new(
+                    alloc,
+                    Indexed {
+                        list: Vec::new(alloc),
+                        places,
+                    },
+                )?;
+                mem::swap(&mut indexed.list, list);
+                let added = indexed.add(name);
+                self.kept = Kept::Many(indexed);
+                added
+            }
+            Kept::Many(indexed) => indexed.add(name),
+        }
+    }
+}
+
+/// A copy keeps the tree of places, and looks no name up.
+impl Copied for Names {
+    fn try_clone(&self, alloc: Global) -> Made<Names> {
+        let list = copies(alloc, self.as_slice())?;
+        match &self.kept {
+            Kept::Few(_) => Ok(Names {
+                kept: Kept::Few(list),
+            }),
+            Kept::Many(indexed) => {
+                let places = indexed.places.clone()?;
+                let indexed = Box::new(alloc, Indexed { list, places })?;
+                Ok(Names {
+                    kept: Kept::Many(indexed),
+                })
+            }
+        }
+    }
+}
+
+/// Equal where the names are, in their order.
+impl PartialEq for Names {
+    ghost use Rattle.std.specs.Prelude.{nat_eq};
+    ghost use Rattle.std.specs.Cmp.{partial_equiv_from_equiv};
+    ghost use Rattle.std.specs.Cmp.Lexicographic.{pointwise, lists_per, nat_list_eq_equiv};
+
+    ghost eq = { pointwise (pointwise nat_eq) };
+
+    ghost laws = { lists_per (partial_equiv_from_equiv nat_list_eq_equiv) };
+
+    fn eq(&self, other: &Names) -> bool {
+        self.as_slice() == other.as_slice()
+    }
+}
+
+impl Indexed {
+    /// Adds a name that isn't there, with its place.
+    #[tactic(auto, using(crate::proofs::NamesLemmas::has_places_pushed))]
+    fn add(&mut self, name: Name) -> Made<()>
+        requires fresh { place_of name self.old.list.items ≡ None }
+        requires places { HasPlaces self.old.places self.old.list.items }
+        ensures ok { OnOk result (self.new.list.items ≡ self.old.list.items ++ name ∷ []) }
+        ensures err { OnErr result (self.new.list.items ≡ self.old.list.items) }
+        ensures places { HasPlaces self.new.places self.new.list.items }
+    {
+        self.list.reserve(1)?;
+        let key = String::from_str(*self.list.allocator(), name.as_str())?;
+        self.places.insert(key, self.list.len())?;
+        self.list.push_reserved(name);
+        Ok(())
+    }
+}
+
+/// The place of a name among others, searched in order.
+fn place_in(names: &[Name], name: &str) -> Option<usize>
+    ensures { result ≡ place_of name.now names.now }
+{
+    for (place, other) in names.iter().enumerate() {
+        if name == other.as_str() {
+            return Some(place);
+        }
+    }
+    None
+}
+
+/// The place of each of the names.
+fn places_in(alloc: Global, names: &[Name]) -> Made<BTreeMap<String, usize>>
+    requires { AreDistinct names.now }
+    ensures { IfOk result (λ places. HasPlaces places names.now) }
+{
+    let mut places = BTreeMap::new(alloc);
+    for (place, name) in names.iter().enumerate() {
+        let key = String::from_str(alloc, name.as_str())?;
+        places.insert(key, place)?;
+    }
+    Ok(places)
+}

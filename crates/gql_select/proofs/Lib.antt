@@ -1,0 +1,10 @@
+pub mod AgreeLemmas
+pub mod AlikeLemmas
+pub mod ConflictLemmas
+pub mod DocumentLemmas
+pub mod KeptLemmas
+pub mod LawProofs
+pub mod MergeLemmas
+pub mod SerialLemmas
+pub mod UnitingLemmas
+pub mod Rows

@@ -1,0 +1,5 @@
+use Rattle.gql_select.proofs.LawProofs.{kept_apart_is_merged as law}
+use Rattle.gql_select.proofs.laws.kept_apart_is_merged.Goals as goal
+
+pub returns : goal.returns
+returns g c = law _ _ _

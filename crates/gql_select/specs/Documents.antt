@@ -1,0 +1,31 @@
+-- How a document's sets are read: occurrences are fields at their places, and one field stands for all of a key.
+use Rattle.std.specs.Prelude.{ℕ, List, ◌++◌}
+use Rattle.gql_base.specs.declared.pos.Pos.{Pos}
+use Rattle.gql_doc.specs.Document.{key_of}
+use Rattle.gql_doc.specs.declared.document.Field.{Field, out-Field, roll-Field}
+use Rattle.gql_doc.specs.declared.document.Positioned.{Positioned}
+use Rattle.gql_doc.specs.declared.document.Selection.{Selection}
+use Rattle.gql_doc.specs.declared.document.SelectionSet.{SelectionSet, roll-SelectionSet}
+use Rattle.gql_select.specs.Alike.{alike, name_of}
+use Rattle.gql_select.specs.Collected.{Setting, collect, own_selections}
+use Rattle.gql_select.specs.Reading.{Reading}
+
+-- a field with these selections for its own
+abbrev pub with_selections : Field → List (Positioned Selection) → Field
+with_selections field selections =
+    roll-Field
+    (record (out-Field field) { selection_set = record { pos = (out-Field field).selection_set.pos; node = roll-SelectionSet (record { items = selections }) } })
+
+-- the first of two occurrences, with the second's selections behind its own
+abbrev pub both : Positioned Field → Positioned Field → Positioned Field
+both f g = record { pos = f.pos; node = with_selections f.node (own_selections f ++ own_selections g) }
+
+abbrev pub reading : Setting → Reading (List ℕ) (Positioned Field) (Positioned Selection)
+reading setting = record {
+  fields = collect setting;
+  key = λ f. (key_of f.node).node;
+  set = own_selections;
+  both = both;
+  alike = alike;
+  objects = λ object f. setting.beneath object (name_of f);
+}

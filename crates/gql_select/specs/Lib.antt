@@ -1,0 +1,10 @@
+pub mod Alike
+pub mod Collected
+pub mod Conflicts
+pub mod Constants
+pub mod Crowded
+pub mod Documents
+pub mod Grouped
+pub mod Kept
+pub mod Laws
+pub mod Reading

@@ -1,0 +1,10 @@
+//! The public types can be moved to threads and shared between them.
+use crate::{Lexeme, Punctuator, Token};
+
+fn shared<T: Send + Sync>() {}
+
+fn public_types() {
+    shared::<Lexeme>();
+    shared::<Punctuator>();
+    shared::<Token>();
+}
