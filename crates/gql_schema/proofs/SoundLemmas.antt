@@ -1,6 +1,10 @@
 -- The first type of a table that has a fault.
-use Rattle.std.proofs.Common.{◌≡◌, ℕ, ◌+◌, ◌<◌, ◌≤◌, Bool, true, false, length, Option, Some, None, is_some, slice_get, refl, ap, sym, ◌∙◌, subst, arith, below_more}
+use Rattle.std.proofs.Common.{◌≡◌, ℕ, ◌+◌, ◌<◌, ◌≤◌, Bool, true, false, List, length, Option, Some, None, is_some, slice_get, refl, ap, sym, ◌∙◌, subst, arith, below_more}
+use Rattle.std.proofs.lemmas.List.{length-map}
+use Rattle.std.proofs.lemmas.Option.{slice_get_within}
+use Rattle.std.specs.Bool.{one_answer}
 use Rattle.gql_base.specs.Pairs.{values_of}
+use Rattle.gql_schema.specs.Faults.{fault_of}
 use Rattle.gql_schema.specs.Sound.{AreFaultFree, IsFaultOf, IsFaultOfAll, IsFirstRefusal, IsSound}
 use Rattle.gql_schema.specs.TableReading.{TypeTable}
 use Rattle.gql_schema.specs.declared.schema_error.SchemaError.{SchemaError}
@@ -29,3 +33,13 @@ module _ (table : TypeTable) where
 
   pub sound_then : (place : ℕ) → AreFaultFree table place → length table ≤ place → IsSound table
   sound_then place free over = λ k below. free k (omega arith)
+
+  -- a table that has a first refusal isn't sound
+  pub refused_unsound : (error : SchemaError) → IsFirstRefusal table error → IsSound table → ⊥
+  refused_unsound error refusal sound =
+      let within = slice_get_within (values_of table) refusal.place refusal.ty refusal.at in
+      let inside : refusal.place < length table = omega (arith, within, length-map table (λ (p : List ℕ × SchemaType). p.1)) in
+      let free = sound refusal.place inside refusal.ty refusal.at in
+      let same = one_answer free.contains refusal.here.contains free.decides refusal.here.decides in
+      let both : None ≡ Some error = free.is ∙ ap (λ b. fault_of table b refusal.ty) same ∙ sym refusal.here.is in
+      cc

@@ -1,6 +1,6 @@
 -- What a table of types tells: fields, the objects that a type can be, and conditions on types (GraphQL, October 2021, sections 3.6
 -- to 3.8 and 5.5.2.3). A table is a list of types under their names.
-use Rattle.std.specs.Prelude.{ℕ, Bool, true, false, ◌&&◌, ◌||◌, List, [], Option, Some, None, option_map, option_and_then, filter, is_some}
+use Rattle.std.specs.Prelude.{◌≡◌, ℕ, Bool, true, false, ◌&&◌, ◌||◌, List, [], ◌∷◌, codes, refl, Option, Some, None, option_map, option_and_then, filter, is_some}
 use Rattle.std.specs.Str.{bytes_eq}
 use Rattle.gql_base.specs.Pairs.{under, names_of}
 use Rattle.gql_base.specs.declared.type_ref.TypeRef.{TypeRef}
@@ -77,3 +77,18 @@ covers table (Some condition) object = has_type table condition object
 -- the objects that a type can be, in the order of their registration
 abbrev pub possible : TypeTable → List ℕ → List (List ℕ)
 possible table type = names_of (filter (λ p. is_object p.1 && has_type table type p.0) table)
+
+-- two types of an example: an object O that implements an interface I
+abbrev example : TypeTable
+example =
+    (codes "O", types.Object (record { name = codes "O"; fields = []; interfaces = codes "I" ∷ []; keys = [] }))
+    ∷ (codes "I", types.Interface (record { name = codes "I"; fields = [] })) ∷ []
+
+pub an_interface_covers : covers example (Some (codes "I")) (codes "O") ≡ true
+an_interface_covers = refl
+
+pub an_object_covers_no_interface : covers example (Some (codes "O")) (codes "I") ≡ false
+an_object_covers_no_interface = refl
+
+pub possible_of_an_interface : possible example (codes "I") ≡ codes "O" ∷ []
+possible_of_an_interface = refl

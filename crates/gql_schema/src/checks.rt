@@ -28,7 +28,7 @@ fn check_object_fields(alloc: Global, types: &Types, object: &Object) -> Made<Op
     ensures { IfOk result (λ found. found ≡ object_fields_fault (types_of types.now) object.now) }
 {
     for place in 0..object.len() {
-        let (_, field) = object.at(place);
+        let (_, field) = object.entry(place);
         let found = check_field(
             alloc,
             types,
@@ -72,7 +72,7 @@ fn check_interface(alloc: Global, types: &Types, interface: &Interface) -> Made<
     ensures { IfOk result (λ found. found ≡ promised_fields_fault (types_of types.now) interface.now) }
 {
     for place in 0..interface.len() {
-        let (_, field) = interface.at(place);
+        let (_, field) = interface.entry(place);
         let found = check_field(
             alloc,
             types,
@@ -97,7 +97,7 @@ fn check_subscription(
     ensures { IfOk result (λ found. found ≡ event_fields_fault (types_of types.now) subscription.now) }
 {
     for place in 0..subscription.len() {
-        let (_, field) = subscription.at(place);
+        let (_, field) = subscription.entry(place);
         let found = check_field(
             alloc,
             types,
@@ -228,7 +228,7 @@ fn check_input_fields(
     ensures { IfOk result (λ found. found ≡ input_fields_fault (types_of types.now) input.now) }
 {
     for place in 0..input.len() {
-        let (_, field) = input.at(place);
+        let (_, field) = input.entry(place);
         let found = check_input_field(alloc, types, input, field)?;
         if found.is_some() {
             return Ok(found);

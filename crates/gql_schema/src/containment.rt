@@ -52,7 +52,7 @@ fn add_needed_of(alloc: Global, reached: &mut NameSet, input: &InputObject) -> M
     ensures { OnOk result (reached.new ≡ with_names reached.old (needed_names input.now)) }
 {
     for place in 0..input.len() {
-        let (_, field) = input.at(place);
+        let (_, field) = input.entry(place);
         add_optional(alloc, reached, needed_type(field.ty()))?;
     }
     Ok(())

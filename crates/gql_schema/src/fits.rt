@@ -127,7 +127,7 @@ fn fields_are_given(members: &Pairs<Value>, input: &InputObject) -> bool
     ensures { result ≡ are_given input.now members.now }
 {
     for place in 0..input.len() {
-        let (name, field) = input.at(place);
+        let (name, field) = input.entry(place);
         if !field_is_given(members, name, field) {
             return false;
         }

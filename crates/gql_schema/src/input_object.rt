@@ -1,6 +1,6 @@
 ghost use Rattle.std.specs.Prelude.{◌≡◌, ◌↔◌, [], ◌<◌, None, IsTrue, IsSome, IfOk, length, slice_get, Some, false, true};
 ghost use Rattle.std.specs.Option.{option_copied};
-ghost use Rattle.gql_base.specs.Pairs.{under, HasDistinctNames};
+ghost use Rattle.gql_base.specs.Pairs.{under, values_of, HasDistinctNames};
 ghost use Rattle.gql_schema.specs.Keyed.{IsKeyed};
 
 use crate::by_name::ByName;
@@ -96,8 +96,17 @@ impl InputObject {
         self.fields.len()
     }
 
+    /// The field at a place, counted from 0.
+    pub fn at(&self, index: usize) -> &InputValue
+        requires { index < length (input_fields self.now) }
+        ensures { slice_get (values_of (input_fields self.now)) index ≡ Some result.now }
+    {
+        let (_, field) = self.fields.at(index);
+        field
+    }
+
     /// The field at a place, counted from 0, under its name.
-    pub fn at(&self, place: usize) -> (&str, &InputValue)
+    pub fn entry(&self, place: usize) -> (&str, &InputValue)
         requires { place < length (input_fields self.now) }
         ensures { slice_get (input_fields self.now) place ≡ Some (result.0.now, result.1.now) }
     {

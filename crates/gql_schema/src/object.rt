@@ -1,6 +1,6 @@
 ghost use Rattle.std.specs.Prelude.{◌≡◌, ◌↔◌, [], ◌<◌, None, IsTrue, IsSome, IfOk, length, slice_get, Some};
 ghost use Rattle.std.specs.Option.{option_copied};
-ghost use Rattle.gql_base.specs.Pairs.{under, HasDistinctNames};
+ghost use Rattle.gql_base.specs.Pairs.{under, values_of, HasDistinctNames};
 ghost use Rattle.gql_schema.specs.Keyed.{IsKeyed};
 ghost use Rattle.gql_schema.specs.NameSet.{is_among};
 
@@ -111,8 +111,17 @@ impl Object {
         self.fields.len()
     }
 
+    /// The field at a place, counted from 0.
+    pub fn at(&self, index: usize) -> &Field
+        requires { index < length (fields_of self.now) }
+        ensures { slice_get (values_of (fields_of self.now)) index ≡ Some result.now }
+    {
+        let (_, field) = self.fields.at(index);
+        field
+    }
+
     /// The field at a place, counted from 0, under its name.
-    pub fn at(&self, place: usize) -> (&str, &Field)
+    pub fn entry(&self, place: usize) -> (&str, &Field)
         requires { place < length (fields_of self.now) }
         ensures { slice_get (fields_of self.now) place ≡ Some (result.0.now, result.1.now) }
     {

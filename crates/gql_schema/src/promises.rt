@@ -112,7 +112,7 @@ fn check_promises(
     ensures { IfOk result (λ found. found ≡ interface_promises_fault (types_of types.now) object.now interface.now) }
 {
     for place in 0..interface.len() {
-        let (_, promised) = interface.at(place);
+        let (_, promised) = interface.entry(place);
         let found = check_promise(alloc, types, object, interface, promised)?;
         if found.is_some() {
             return Ok(found);

@@ -1,6 +1,6 @@
 ghost use Rattle.std.specs.Prelude.{◌≡◌, ◌↔◌, [], ◌<◌, None, IsTrue, IsSome, IfOk, length, slice_get, Some};
 ghost use Rattle.std.specs.Option.{option_copied};
-ghost use Rattle.gql_base.specs.Pairs.{under, HasDistinctNames};
+ghost use Rattle.gql_base.specs.Pairs.{under, values_of, HasDistinctNames};
 ghost use Rattle.gql_schema.specs.Keyed.{IsKeyed};
 
 use crate::by_name::ByName;
@@ -80,8 +80,17 @@ impl Subscription {
         self.fields.len()
     }
 
+    /// The field at a place, counted from 0.
+    pub fn at(&self, index: usize) -> &SubscriptionField
+        requires { index < length (event_fields self.now) }
+        ensures { slice_get (values_of (event_fields self.now)) index ≡ Some result.now }
+    {
+        let (_, field) = self.fields.at(index);
+        field
+    }
+
     /// The field at a place, counted from 0, under its name.
-    pub fn at(&self, place: usize) -> (&str, &SubscriptionField)
+    pub fn entry(&self, place: usize) -> (&str, &SubscriptionField)
         requires { place < length (event_fields self.now) }
         ensures { slice_get (event_fields self.now) place ≡ Some (result.0.now, result.1.now) }
     {
