@@ -16,7 +16,6 @@ use crate::json_shape::{
 };
 use gql_base::{Items, Made, Name, Text, Value, from_json, is_name};
 use gql_engine::takes_value;
-use gql_tokens::is_name;
 use serde_json::Value as Json;
 use std::alloc::Global;
 
