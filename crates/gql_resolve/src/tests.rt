@@ -236,5 +236,4 @@ fn types_can_be_shared() {
     is_send_sync::<Layers<'static>>();
     is_send_sync::<Polled<u64>>();
     is_send_sync::<RecordEntry>();
-    is_send_sync::<ResolverContext<'static, u64>>();
 }
