@@ -1,7 +1,7 @@
 -- The engine's response to a query for some fields of a bench is what the bench answers under their names.
 use Rattle.std.proofs.Common.{rules, ◌≡◌, ℕ, ℤ, List, [], ◌∷◌, ◌++◌, map, Some, refl, ap, sym, ◌∙◌, subst}
 use Rattle.std.specs.List.{AllZip, flat_map}
-use Rattle.gql_base.specs.Pairs.{under, names_of, HasDistinctNames}
+use Rattle.gql_base.specs.Pairs.{under, names_of, unite_all, HasDistinctNames}
 use Rattle.gql_base.specs.declared.value.Value.{Value}
 use Rattle.gql_doc.specs.Document.{alias_or}
 use Rattle.gql_doc.specs.declared.document.Field.{Field, out-Field}
