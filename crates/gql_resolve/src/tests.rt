@@ -230,10 +230,8 @@ fn is_send_sync<T: Send + Sync>() {}
 
 #[test]
 fn types_can_be_shared() {
-    is_send_sync::<Answer<u64>>();
     is_send_sync::<FieldFuture<u64, u64>>();
     is_send_sync::<FieldValue<u64>>();
     is_send_sync::<Layers<'static>>();
-    is_send_sync::<Polled<u64>>();
     is_send_sync::<RecordEntry>();
 }
