@@ -1,15 +1,13 @@
 //! The public types can be moved to threads and shared between them, where what they are made of can.
 use crate::{
-    Bench, Command, Failed, ListTurns, MemorySink, MemorySource, Outcome, Rule, RuleKind,
-    SinkFault, Status, StdSink, StdSource, SureSink, SureSource, Table, TableFuture, TableMaker,
-    Written,
+    Command, Failed, ListTurns, MemorySink, MemorySource, Outcome, Rule, RuleKind, SinkFault,
+    Status, StdSink, StdSource, SureSink, SureSource, Table, TableFuture, TableMaker, Written,
 };
 use std::io::{Read, Write};
 
 fn shared<T: Send + Sync>() {}
 
 fn public_types<I: Read + Send + Sync, O: Write + Send + Sync>() {
-    shared::<Bench>();
     shared::<Command>();
     shared::<Failed>();
     shared::<ListTurns>();

@@ -272,6 +272,4 @@ fn types_can_be_shared() {
     is_send_sync::<ByName<Field>>();
     is_send_sync::<NameSet>();
     is_send_sync::<SchemaError>();
-    is_send_sync::<SchemaType>();
-    is_send_sync::<Types>();
 }
