@@ -1,0 +1,6 @@
+pub mod AnsweredLemmas
+pub mod FillLemmas
+pub mod JoinLemmas
+pub mod LawProofs
+pub mod PartLemmas
+pub mod Rows
