@@ -65,3 +65,13 @@ join_trees first second = tree_onto second (Some first)
 -- the items of two lists, joined one by one
 abbrev pub join_items : List Place → List Place → List Place
 join_items firsts seconds = onto_items firsts (map placed_onto seconds)
+
+-- a place joined onto the one of its key, if there is one
+abbrev pub onto_option : Option Place → Place → Place
+onto_option None second = second
+onto_option (Some first) second = join first second
+
+-- an item joined with the one of its index, if there is one
+abbrev pub item_onto : Place → Option Place → Place
+item_onto item None = item
+item_onto item (Some other) = join item other
