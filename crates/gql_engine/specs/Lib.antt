@@ -8,3 +8,4 @@ pub mod Plan
 pub mod Progress
 pub mod Record
 pub mod Turn
+pub mod Waiting

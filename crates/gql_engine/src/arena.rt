@@ -1,5 +1,5 @@
+use crate::waiting::Waiting;
 use gql_resolve::Answer;
-use std::collections::VecDeque;
 
 /// How far a task has come: it was never begun, its resolver's future waits, or it has its answer.
 #[derive(Debug, Drop)]
@@ -13,7 +13,7 @@ pub enum State<F> {
 #[derive(Debug, Drop)]
 pub struct Arena<F> {
     pub states: Vec<State<F>>,
-    pub waiting: VecDeque<usize>,
+    pub waiting: Waiting,
 }
 
 /// What one turn gave: the task's answer, its first pending poll, or a later one.

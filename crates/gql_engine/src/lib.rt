@@ -23,6 +23,7 @@ mod shared;
 #[cfg(test)]
 mod tests;
 mod turning;
+mod waiting;
 
 pub use apart::run_apart;
 pub use arena::{Arena, State, Turn};
@@ -33,3 +34,4 @@ pub use rounds::{Entered, Rounds};
 pub use scene::Scene;
 pub use scheduler::finish;
 pub use settling::fresh_arena;
+pub use waiting::Waiting;

@@ -23,10 +23,10 @@ fn advance<R: ResolverSet, L: Plan<R::Own>, H: Rounds<R::Own>, P: Turns>(
     hooks: &mut H,
     turns: &mut P,
 ) -> Made<bool>
-    requires sound { IsSound R.is_for (subject_of L.call L.path L.beneath) (L.holds plan.old) (L.tasks plan.old) arena.old.states.items arena.old.waiting.items }
-    requires some { 0 < length arena.old.waiting.items }
+    requires sound { IsSound R.is_for (subject_of L.call L.path L.beneath) (L.holds plan.old) (L.tasks plan.old) arena.old.states.items arena.old.waiting }
+    requires some { 0 < length arena.old.waiting }
     ensures kept { Kept (R.is_lawful resolvers.old) (R.is_lawful resolvers.new) (H.are_quiet hooks.old) (H.are_quiet hooks.new) (R.rules resolvers.old) (R.rules resolvers.new) (R.world resolvers.old) (R.world resolvers.new) }
-    ensures sound { OnOk result (IsSound R.is_for (subject_of L.call L.path L.beneath) (L.holds plan.new) (L.tasks plan.new) arena.new.states.items arena.new.waiting.items) }
+    ensures sound { OnOk result (IsSound R.is_for (subject_of L.call L.path L.beneath) (L.holds plan.new) (L.tasks plan.new) arena.new.states.items arena.new.waiting) }
     ensures nearer { IfOk result (λ over. Nearer R.number over arena.old.states.items arena.new.states.items) }
     ensures progress { OnOk result (Progress (R.is_lawful resolvers.old) (H.are_quiet hooks.old) (subject_of L.call L.path L.beneath) (λ call. R.answer (R.rules resolvers.old) call (R.world resolvers.old)) P.choice P.after (L.holds plan.old) (L.holds plan.new)
         (stage_of (L.tasks plan.old) arena.old.states.items (R.told resolvers.old) (R.begun resolvers.old) (P.state turns.old))
@@ -35,7 +35,7 @@ fn advance<R: ResolverSet, L: Plan<R::Own>, H: Rounds<R::Own>, P: Turns>(
         (R.told resolvers.old) (R.told resolvers.new) (L.tasks plan.old) (L.tasks plan.new) arena.old.states.items arena.new.states.items) }
     ensures ended { OnErr result (Ended (R.is_lawful resolvers.old) (H.are_quiet hooks.old) (subject_of L.call L.path L.beneath) (λ call. R.answer (R.rules resolvers.old) call (R.world resolvers.old)) P.choice P.after
         (stage_of (L.tasks plan.old) arena.old.states.items (R.told resolvers.old) (R.begun resolvers.old) (P.state turns.old)) (R.told resolvers.new) (R.begun resolvers.new)) }
-    ensures still { result ≡ Ok false → arena.new.waiting.items ≡ arena.old.waiting.items }
+    ensures still { result ≡ Ok false → arena.new.waiting ≡ arena.old.waiting }
 {
     let picked = pick_task(arena, turns);
     let turn = {
@@ -68,10 +68,10 @@ fn reach_event<R: ResolverSet, L: Plan<R::Own>, H: Rounds<R::Own>, P: Turns>(
     hooks: &mut H,
     turns: &mut P,
 ) -> Made<()>
-    requires sound { IsSound R.is_for (subject_of L.call L.path L.beneath) (L.holds plan.old) (L.tasks plan.old) arena.old.states.items arena.old.waiting.items }
-    requires some { 0 < length arena.old.waiting.items }
+    requires sound { IsSound R.is_for (subject_of L.call L.path L.beneath) (L.holds plan.old) (L.tasks plan.old) arena.old.states.items arena.old.waiting }
+    requires some { 0 < length arena.old.waiting }
     ensures kept { Kept (R.is_lawful resolvers.old) (R.is_lawful resolvers.new) (H.are_quiet hooks.old) (H.are_quiet hooks.new) (R.rules resolvers.old) (R.rules resolvers.new) (R.world resolvers.old) (R.world resolvers.new) }
-    ensures sound { OnOk result (IsSound R.is_for (subject_of L.call L.path L.beneath) (L.holds plan.new) (L.tasks plan.new) arena.new.states.items arena.new.waiting.items) }
+    ensures sound { OnOk result (IsSound R.is_for (subject_of L.call L.path L.beneath) (L.holds plan.new) (L.tasks plan.new) arena.new.states.items arena.new.waiting) }
     ensures nearer { OnOk result (events_left arena.new.states.items < events_left arena.old.states.items) }
     ensures progress { OnOk result (Progress (R.is_lawful resolvers.old) (H.are_quiet hooks.old) (subject_of L.call L.path L.beneath) (λ call. R.answer (R.rules resolvers.old) call (R.world resolvers.old)) P.choice P.after (L.holds plan.old) (L.holds plan.new)
         (stage_of (L.tasks plan.old) arena.old.states.items (R.told resolvers.old) (R.begun resolvers.old) (P.state turns.old))
@@ -97,10 +97,10 @@ pub fn finish<R: ResolverSet, L: Plan<R::Own>, H: Rounds<R::Own>, P: Turns>(
     hooks: &mut H,
     turns: &mut P,
 ) -> Made<()>
-    requires sound { IsSound R.is_for (subject_of L.call L.path L.beneath) (L.holds plan.old) (L.tasks plan.old) arena.old.states.items arena.old.waiting.items }
+    requires sound { IsSound R.is_for (subject_of L.call L.path L.beneath) (L.holds plan.old) (L.tasks plan.old) arena.old.states.items arena.old.waiting }
     ensures kept { Kept (R.is_lawful resolvers.old) (R.is_lawful resolvers.new) (H.are_quiet hooks.old) (H.are_quiet hooks.new) (R.rules resolvers.old) (R.rules resolvers.new) (R.world resolvers.old) (R.world resolvers.new) }
-    ensures sound { OnOk result (IsSound R.is_for (subject_of L.call L.path L.beneath) (L.holds plan.new) (L.tasks plan.new) arena.new.states.items arena.new.waiting.items) }
-    ensures answered { OnOk result (arena.new.waiting.items ≡ []) }
+    ensures sound { OnOk result (IsSound R.is_for (subject_of L.call L.path L.beneath) (L.holds plan.new) (L.tasks plan.new) arena.new.states.items arena.new.waiting) }
+    ensures answered { OnOk result (arena.new.waiting ≡ []) }
     ensures progress { OnOk result (Progress (R.is_lawful resolvers.old) (H.are_quiet hooks.old) (subject_of L.call L.path L.beneath) (λ call. R.answer (R.rules resolvers.old) call (R.world resolvers.old)) P.choice P.after (L.holds plan.old) (L.holds plan.new)
         (stage_of (L.tasks plan.old) arena.old.states.items (R.told resolvers.old) (R.begun resolvers.old) (P.state turns.old))
         (stage_of (L.tasks plan.new) arena.new.states.items (R.told resolvers.new) (R.begun resolvers.new) (P.state turns.new))) }

@@ -1,5 +1,5 @@
 //! The public types can be moved to threads and shared between them, where what they are made of can.
-use crate::{Arena, Entered, Place, Scene, State, Tree, Turn};
+use crate::{Arena, Entered, Place, Scene, State, Tree, Turn, Waiting};
 
 fn shared<T: Send + Sync>() {}
 
@@ -11,4 +11,5 @@ fn public_types<'a, F: Send + Sync, V: Send + Sync + 'a>() {
     shared::<State<F>>();
     shared::<Tree>();
     shared::<Turn<V>>();
+    shared::<Waiting>();
 }

@@ -37,11 +37,11 @@ pub returns-in_err-turn-clause-ended : goal.returns-in_err-turn-clause-ended
 returns-in_err-turn-clause-ended g c =
     let stands = c.pick_task-picked.ensures.stands in
     let t = taken g.row.R-Own.Denot g.L.Plan.Task g.row.R-Future.Denot g.P.Turns.State g.P.Turns.choice g.P.Turns.after g.R.ResolverSet.is_for g.R.ResolverSet.number (subject_of g.L.Plan.call g.L.Plan.path g.L.Plan.beneath)
-    (g.L.Plan.holds c.args.plan.now) (g.L.Plan.tasks c.args.plan.now) c.args.arena.now.states.items c.args.arena.now.waiting.items (g.P.Turns.state c.args.turns.now) (g.P.Turns.state c.pick_task-picked.new.turns)
+    (g.L.Plan.holds c.args.plan.now) (g.L.Plan.tasks c.args.plan.now) c.args.arena.now.states.items c.args.arena.now.waiting (g.P.Turns.state c.args.turns.now) (g.P.Turns.state c.pick_task-picked.new.turns)
     c.pick_task-picked.result.place c.pick_task-picked.result.number c.index_mut.result.now c.context-context.result
     c.requires.sound stands c.index_mut.ensures.value c.context-context.ensures c.pick_task-picked.ensures.choice c.pick_task-picked.ensures.after in
     on_err c.from_residual.result _ (ended_before g.row.R-Own.Denot g.L.Plan.Task g.row.R-Future.Denot g.P.Turns.State g.P.Turns.choice g.P.Turns.after g.R.ResolverSet.is_for g.R.ResolverSet.number (subject_of g.L.Plan.call g.L.Plan.path g.L.Plan.beneath)
-    (g.L.Plan.holds c.args.plan.now) (g.L.Plan.tasks c.args.plan.now) c.args.arena.now.states.items c.args.arena.now.waiting.items (g.P.Turns.state c.args.turns.now) (g.P.Turns.state c.pick_task-picked.new.turns)
+    (g.L.Plan.holds c.args.plan.now) (g.L.Plan.tasks c.args.plan.now) c.args.arena.now.states.items c.args.arena.now.waiting (g.P.Turns.state c.args.turns.now) (g.P.Turns.state c.pick_task-picked.new.turns)
     c.pick_task-picked.result.number c.index_mut.result.now c.context-context.result t
     (g.R.ResolverSet.is_lawful c.args.resolvers.now) (g.H.Rounds.are_quiet c.args.hooks.now) (λ call. g.R.ResolverSet.answer (g.R.ResolverSet.rules c.args.resolvers.now) call (g.R.ResolverSet.world c.args.resolvers.now)) (g.R.ResolverSet.told c.args.resolvers.now) (g.R.ResolverSet.told c.take_turn.new.resolvers) (g.R.ResolverSet.begun c.args.resolvers.now) (g.R.ResolverSet.begun c.take_turn.new.resolvers)
     (λ calm. c.in_err-turn.ensures.told calm) (λ calm. c.in_err-turn.ensures.unbegun calm))
@@ -58,11 +58,11 @@ pub returns-in_err-count-in-Answered-clause-ended :
 returns-in_err-count-in-Answered-clause-ended g c =
     let stands = c.pick_task-picked.ensures.stands in
     let t = taken g.row.R-Own.Denot g.L.Plan.Task g.row.R-Future.Denot g.P.Turns.State g.P.Turns.choice g.P.Turns.after g.R.ResolverSet.is_for g.R.ResolverSet.number (subject_of g.L.Plan.call g.L.Plan.path g.L.Plan.beneath)
-    (g.L.Plan.holds c.args.plan.now) (g.L.Plan.tasks c.args.plan.now) c.args.arena.now.states.items c.args.arena.now.waiting.items (g.P.Turns.state c.args.turns.now) (g.P.Turns.state c.pick_task-picked.new.turns)
+    (g.L.Plan.holds c.args.plan.now) (g.L.Plan.tasks c.args.plan.now) c.args.arena.now.states.items c.args.arena.now.waiting (g.P.Turns.state c.args.turns.now) (g.P.Turns.state c.pick_task-picked.new.turns)
     c.pick_task-picked.result.place c.pick_task-picked.result.number c.index_mut.result.now c.context-context.result
     c.requires.sound stands c.index_mut.ensures.value c.context-context.ensures c.pick_task-picked.ensures.choice c.pick_task-picked.ensures.after in
     on_err c.from_residual-in_err-count-in-Answered.result _ (ended_after g.row.R-Own.Denot g.L.Plan.Task g.row.R-Future.Denot g.P.Turns.State g.P.Turns.choice g.P.Turns.after g.R.ResolverSet.is_for g.R.ResolverSet.number (subject_of g.L.Plan.call g.L.Plan.path g.L.Plan.beneath)
-    (g.L.Plan.holds c.args.plan.now) (g.L.Plan.tasks c.args.plan.now) c.args.arena.now.states.items c.args.arena.now.waiting.items (g.P.Turns.state c.args.turns.now) (g.P.Turns.state c.pick_task-picked.new.turns)
+    (g.L.Plan.holds c.args.plan.now) (g.L.Plan.tasks c.args.plan.now) c.args.arena.now.states.items c.args.arena.now.waiting (g.P.Turns.state c.args.turns.now) (g.P.Turns.state c.pick_task-picked.new.turns)
     c.pick_task-picked.result.number c.index_mut.result.now c.context-context.result t
     (g.R.ResolverSet.is_lawful c.args.resolvers.now) (g.H.Rounds.are_quiet c.args.hooks.now) (λ call. g.R.ResolverSet.answer (g.R.ResolverSet.rules c.args.resolvers.now) call (g.R.ResolverSet.world c.args.resolvers.now)) (g.R.ResolverSet.told c.args.resolvers.now) (g.R.ResolverSet.told c.take_turn.new.resolvers) (g.R.ResolverSet.begun c.args.resolvers.now) (g.R.ResolverSet.begun c.take_turn.new.resolvers)
     (λ calm. rw c.in-Answered.is at (c.in_ok-turn.ensures.told calm)) (λ calm. c.in_ok-turn.ensures.begun calm))
@@ -71,7 +71,7 @@ pub settle-requires-clause-waits : goal.settle-requires-clause-waits
 settle-requires-clause-waits g c =
     let stands = c.pick_task-picked.ensures.stands in
     let p = picked c.pick_task-picked.result.place c.pick_task-picked.result.number c.index_mut.result.now c.requires.sound stands c.index_mut.ensures.value in
-    still_waits g.row.R-Future.Denot c.args.arena.now.waiting.items c.args.arena.now.states.items c.pick_task-picked.result.number c.index_mut.result.now c.take_turn.new.state c.requires.sound.waits p.old_is
+    still_waits g.row.R-Future.Denot c.args.arena.now.waiting c.args.arena.now.states.items c.pick_task-picked.result.number c.index_mut.result.now c.take_turn.new.state c.requires.sound.waits p.old_is
     (open_undone g.R.ResolverSet.is_for (g.L.Plan.call p.task) c.index_mut.result.now p.open_is)
 
 pub settle-requires-clause-stands : goal.settle-requires-clause-stands
@@ -90,11 +90,11 @@ pub returns-in_err-settle-in-Answered-clause-ended :
 returns-in_err-settle-in-Answered-clause-ended g c =
     let stands = c.pick_task-picked.ensures.stands in
     let t = taken g.row.R-Own.Denot g.L.Plan.Task g.row.R-Future.Denot g.P.Turns.State g.P.Turns.choice g.P.Turns.after g.R.ResolverSet.is_for g.R.ResolverSet.number (subject_of g.L.Plan.call g.L.Plan.path g.L.Plan.beneath)
-    (g.L.Plan.holds c.args.plan.now) (g.L.Plan.tasks c.args.plan.now) c.args.arena.now.states.items c.args.arena.now.waiting.items (g.P.Turns.state c.args.turns.now) (g.P.Turns.state c.pick_task-picked.new.turns)
+    (g.L.Plan.holds c.args.plan.now) (g.L.Plan.tasks c.args.plan.now) c.args.arena.now.states.items c.args.arena.now.waiting (g.P.Turns.state c.args.turns.now) (g.P.Turns.state c.pick_task-picked.new.turns)
     c.pick_task-picked.result.place c.pick_task-picked.result.number c.index_mut.result.now c.context-context.result
     c.requires.sound stands c.index_mut.ensures.value c.context-context.ensures c.pick_task-picked.ensures.choice c.pick_task-picked.ensures.after in
     on_err c.from_residual-in_err-settle-in-Answered.result _ (ended_after g.row.R-Own.Denot g.L.Plan.Task g.row.R-Future.Denot g.P.Turns.State g.P.Turns.choice g.P.Turns.after g.R.ResolverSet.is_for g.R.ResolverSet.number (subject_of g.L.Plan.call g.L.Plan.path g.L.Plan.beneath)
-    (g.L.Plan.holds c.args.plan.now) (g.L.Plan.tasks c.args.plan.now) c.args.arena.now.states.items c.args.arena.now.waiting.items (g.P.Turns.state c.args.turns.now) (g.P.Turns.state c.pick_task-picked.new.turns)
+    (g.L.Plan.holds c.args.plan.now) (g.L.Plan.tasks c.args.plan.now) c.args.arena.now.states.items c.args.arena.now.waiting (g.P.Turns.state c.args.turns.now) (g.P.Turns.state c.pick_task-picked.new.turns)
     c.pick_task-picked.result.number c.index_mut.result.now c.context-context.result t
     (g.R.ResolverSet.is_lawful c.args.resolvers.now) (g.H.Rounds.are_quiet c.args.hooks.now) (λ call. g.R.ResolverSet.answer (g.R.ResolverSet.rules c.args.resolvers.now) call (g.R.ResolverSet.world c.args.resolvers.now)) (g.R.ResolverSet.told c.args.resolvers.now) (g.R.ResolverSet.told c.take_turn.new.resolvers) (g.R.ResolverSet.begun c.args.resolvers.now) (g.R.ResolverSet.begun c.take_turn.new.resolvers)
     (λ calm. rw c.in-Answered.is at (c.in_ok-turn.ensures.told calm)) (λ calm. c.in_ok-turn.ensures.begun calm))
@@ -103,11 +103,11 @@ pub returns-in-Begun-clause-sound : goal.returns-in-Begun-clause-sound
 returns-in-Begun-clause-sound g c =
     let stands = c.pick_task-picked.ensures.stands in
     let t = taken g.row.R-Own.Denot g.L.Plan.Task g.row.R-Future.Denot g.P.Turns.State g.P.Turns.choice g.P.Turns.after g.R.ResolverSet.is_for g.R.ResolverSet.number (subject_of g.L.Plan.call g.L.Plan.path g.L.Plan.beneath)
-    (g.L.Plan.holds c.args.plan.now) (g.L.Plan.tasks c.args.plan.now) c.args.arena.now.states.items c.args.arena.now.waiting.items (g.P.Turns.state c.args.turns.now) (g.P.Turns.state c.pick_task-picked.new.turns)
+    (g.L.Plan.holds c.args.plan.now) (g.L.Plan.tasks c.args.plan.now) c.args.arena.now.states.items c.args.arena.now.waiting (g.P.Turns.state c.args.turns.now) (g.P.Turns.state c.pick_task-picked.new.turns)
     c.pick_task-picked.result.place c.pick_task-picked.result.number c.index_mut.result.now c.context-context.result
     c.requires.sound stands c.index_mut.ensures.value c.context-context.ensures c.pick_task-picked.ensures.choice c.pick_task-picked.ensures.after in
     sound_begun g.row.R-Own.Denot g.L.Plan.Task g.row.R-Future.Denot g.P.Turns.State g.P.Turns.choice g.P.Turns.after g.R.ResolverSet.is_for g.R.ResolverSet.number (subject_of g.L.Plan.call g.L.Plan.path g.L.Plan.beneath)
-    (g.L.Plan.holds c.args.plan.now) (g.L.Plan.tasks c.args.plan.now) c.args.arena.now.states.items c.args.arena.now.waiting.items (g.P.Turns.state c.args.turns.now) (g.P.Turns.state c.pick_task-picked.new.turns)
+    (g.L.Plan.holds c.args.plan.now) (g.L.Plan.tasks c.args.plan.now) c.args.arena.now.states.items c.args.arena.now.waiting (g.P.Turns.state c.args.turns.now) (g.P.Turns.state c.pick_task-picked.new.turns)
     c.pick_task-picked.result.number c.index_mut.result.now c.context-context.result t
     c.take_turn.new.state (rw c.in-Begun.is at c.in_ok-turn.ensures.promise)
 
@@ -115,7 +115,7 @@ pub returns-in-Begun-clause-nearer : goal.returns-in-Begun-clause-nearer
 returns-in-Begun-clause-nearer g c =
     let stands = c.pick_task-picked.ensures.stands in
     let t = taken g.row.R-Own.Denot g.L.Plan.Task g.row.R-Future.Denot g.P.Turns.State g.P.Turns.choice g.P.Turns.after g.R.ResolverSet.is_for g.R.ResolverSet.number (subject_of g.L.Plan.call g.L.Plan.path g.L.Plan.beneath)
-    (g.L.Plan.holds c.args.plan.now) (g.L.Plan.tasks c.args.plan.now) c.args.arena.now.states.items c.args.arena.now.waiting.items (g.P.Turns.state c.args.turns.now) (g.P.Turns.state c.pick_task-picked.new.turns)
+    (g.L.Plan.holds c.args.plan.now) (g.L.Plan.tasks c.args.plan.now) c.args.arena.now.states.items c.args.arena.now.waiting (g.P.Turns.state c.args.turns.now) (g.P.Turns.state c.pick_task-picked.new.turns)
     c.pick_task-picked.result.place c.pick_task-picked.result.number c.index_mut.result.now c.context-context.result
     c.requires.sound stands c.index_mut.ensures.value c.context-context.ensures c.pick_task-picked.ensures.choice c.pick_task-picked.ensures.after in
     nearer_begun g.row.R-Future.Denot (Call g.row.R-Own.Denot) g.R.ResolverSet.is_for (call_of c.context-context.result) g.R.ResolverSet.number c.args.arena.now.states.items c.pick_task-picked.result.number c.index_mut.result.now c.take_turn.new.state t.pick.old_is
@@ -125,11 +125,11 @@ pub returns-in-Begun-clause-progress : goal.returns-in-Begun-clause-progress
 returns-in-Begun-clause-progress g c =
     let stands = c.pick_task-picked.ensures.stands in
     let t = taken g.row.R-Own.Denot g.L.Plan.Task g.row.R-Future.Denot g.P.Turns.State g.P.Turns.choice g.P.Turns.after g.R.ResolverSet.is_for g.R.ResolverSet.number (subject_of g.L.Plan.call g.L.Plan.path g.L.Plan.beneath)
-    (g.L.Plan.holds c.args.plan.now) (g.L.Plan.tasks c.args.plan.now) c.args.arena.now.states.items c.args.arena.now.waiting.items (g.P.Turns.state c.args.turns.now) (g.P.Turns.state c.pick_task-picked.new.turns)
+    (g.L.Plan.holds c.args.plan.now) (g.L.Plan.tasks c.args.plan.now) c.args.arena.now.states.items c.args.arena.now.waiting (g.P.Turns.state c.args.turns.now) (g.P.Turns.state c.pick_task-picked.new.turns)
     c.pick_task-picked.result.place c.pick_task-picked.result.number c.index_mut.result.now c.context-context.result
     c.requires.sound stands c.index_mut.ensures.value c.context-context.ensures c.pick_task-picked.ensures.choice c.pick_task-picked.ensures.after in
     progress_begun g.row.R-Own.Denot g.L.Plan.Task g.row.R-Future.Denot g.P.Turns.State g.P.Turns.choice g.P.Turns.after g.R.ResolverSet.is_for g.R.ResolverSet.number (subject_of g.L.Plan.call g.L.Plan.path g.L.Plan.beneath)
-    (g.L.Plan.holds c.args.plan.now) (g.L.Plan.tasks c.args.plan.now) c.args.arena.now.states.items c.args.arena.now.waiting.items (g.P.Turns.state c.args.turns.now) (g.P.Turns.state c.pick_task-picked.new.turns)
+    (g.L.Plan.holds c.args.plan.now) (g.L.Plan.tasks c.args.plan.now) c.args.arena.now.states.items c.args.arena.now.waiting (g.P.Turns.state c.args.turns.now) (g.P.Turns.state c.pick_task-picked.new.turns)
     c.pick_task-picked.result.number c.index_mut.result.now c.context-context.result t
     (g.R.ResolverSet.is_lawful c.args.resolvers.now) (g.H.Rounds.are_quiet c.args.hooks.now) (λ call. g.R.ResolverSet.answer (g.R.ResolverSet.rules c.args.resolvers.now) call (g.R.ResolverSet.world c.args.resolvers.now)) (g.R.ResolverSet.told c.args.resolvers.now) (g.R.ResolverSet.told c.take_turn.new.resolvers) (g.R.ResolverSet.begun c.args.resolvers.now) (g.R.ResolverSet.begun c.take_turn.new.resolvers) c.take_turn.new.state (rw c.in-Begun.is at c.in_ok-turn.ensures.promise)
     (λ calm. rw c.in-Begun.is at (c.in_ok-turn.ensures.told calm)) (λ calm. c.in_ok-turn.ensures.begun calm)
@@ -138,11 +138,11 @@ pub returns-in-Pending-clause-sound : goal.returns-in-Pending-clause-sound
 returns-in-Pending-clause-sound g c =
     let stands = c.pick_task-picked.ensures.stands in
     let t = taken g.row.R-Own.Denot g.L.Plan.Task g.row.R-Future.Denot g.P.Turns.State g.P.Turns.choice g.P.Turns.after g.R.ResolverSet.is_for g.R.ResolverSet.number (subject_of g.L.Plan.call g.L.Plan.path g.L.Plan.beneath)
-    (g.L.Plan.holds c.args.plan.now) (g.L.Plan.tasks c.args.plan.now) c.args.arena.now.states.items c.args.arena.now.waiting.items (g.P.Turns.state c.args.turns.now) (g.P.Turns.state c.pick_task-picked.new.turns)
+    (g.L.Plan.holds c.args.plan.now) (g.L.Plan.tasks c.args.plan.now) c.args.arena.now.states.items c.args.arena.now.waiting (g.P.Turns.state c.args.turns.now) (g.P.Turns.state c.pick_task-picked.new.turns)
     c.pick_task-picked.result.place c.pick_task-picked.result.number c.index_mut.result.now c.context-context.result
     c.requires.sound stands c.index_mut.ensures.value c.context-context.ensures c.pick_task-picked.ensures.choice c.pick_task-picked.ensures.after in
     sound_pending g.row.R-Own.Denot g.L.Plan.Task g.row.R-Future.Denot g.P.Turns.State g.P.Turns.choice g.P.Turns.after g.R.ResolverSet.is_for g.R.ResolverSet.number (subject_of g.L.Plan.call g.L.Plan.path g.L.Plan.beneath)
-    (g.L.Plan.holds c.args.plan.now) (g.L.Plan.tasks c.args.plan.now) c.args.arena.now.states.items c.args.arena.now.waiting.items (g.P.Turns.state c.args.turns.now) (g.P.Turns.state c.pick_task-picked.new.turns)
+    (g.L.Plan.holds c.args.plan.now) (g.L.Plan.tasks c.args.plan.now) c.args.arena.now.states.items c.args.arena.now.waiting (g.P.Turns.state c.args.turns.now) (g.P.Turns.state c.pick_task-picked.new.turns)
     c.pick_task-picked.result.number c.index_mut.result.now c.context-context.result t
     c.take_turn.new.state (rw c.in-Pending.is at c.in_ok-turn.ensures.promise)
 
@@ -150,7 +150,7 @@ pub returns-in-Pending-clause-nearer : goal.returns-in-Pending-clause-nearer
 returns-in-Pending-clause-nearer g c =
     let stands = c.pick_task-picked.ensures.stands in
     let t = taken g.row.R-Own.Denot g.L.Plan.Task g.row.R-Future.Denot g.P.Turns.State g.P.Turns.choice g.P.Turns.after g.R.ResolverSet.is_for g.R.ResolverSet.number (subject_of g.L.Plan.call g.L.Plan.path g.L.Plan.beneath)
-    (g.L.Plan.holds c.args.plan.now) (g.L.Plan.tasks c.args.plan.now) c.args.arena.now.states.items c.args.arena.now.waiting.items (g.P.Turns.state c.args.turns.now) (g.P.Turns.state c.pick_task-picked.new.turns)
+    (g.L.Plan.holds c.args.plan.now) (g.L.Plan.tasks c.args.plan.now) c.args.arena.now.states.items c.args.arena.now.waiting (g.P.Turns.state c.args.turns.now) (g.P.Turns.state c.pick_task-picked.new.turns)
     c.pick_task-picked.result.place c.pick_task-picked.result.number c.index_mut.result.now c.context-context.result
     c.requires.sound stands c.index_mut.ensures.value c.context-context.ensures c.pick_task-picked.ensures.choice c.pick_task-picked.ensures.after in
     nearer_pending g.row.R-Future.Denot (Call g.row.R-Own.Denot) g.R.ResolverSet.is_for (call_of c.context-context.result) g.R.ResolverSet.number c.args.arena.now.states.items c.pick_task-picked.result.number c.index_mut.result.now c.take_turn.new.state t.pick.old_is
@@ -160,11 +160,11 @@ pub returns-in-Pending-clause-progress : goal.returns-in-Pending-clause-progress
 returns-in-Pending-clause-progress g c =
     let stands = c.pick_task-picked.ensures.stands in
     let t = taken g.row.R-Own.Denot g.L.Plan.Task g.row.R-Future.Denot g.P.Turns.State g.P.Turns.choice g.P.Turns.after g.R.ResolverSet.is_for g.R.ResolverSet.number (subject_of g.L.Plan.call g.L.Plan.path g.L.Plan.beneath)
-    (g.L.Plan.holds c.args.plan.now) (g.L.Plan.tasks c.args.plan.now) c.args.arena.now.states.items c.args.arena.now.waiting.items (g.P.Turns.state c.args.turns.now) (g.P.Turns.state c.pick_task-picked.new.turns)
+    (g.L.Plan.holds c.args.plan.now) (g.L.Plan.tasks c.args.plan.now) c.args.arena.now.states.items c.args.arena.now.waiting (g.P.Turns.state c.args.turns.now) (g.P.Turns.state c.pick_task-picked.new.turns)
     c.pick_task-picked.result.place c.pick_task-picked.result.number c.index_mut.result.now c.context-context.result
     c.requires.sound stands c.index_mut.ensures.value c.context-context.ensures c.pick_task-picked.ensures.choice c.pick_task-picked.ensures.after in
     progress_pending g.row.R-Own.Denot g.L.Plan.Task g.row.R-Future.Denot g.P.Turns.State g.P.Turns.choice g.P.Turns.after g.R.ResolverSet.is_for g.R.ResolverSet.number (subject_of g.L.Plan.call g.L.Plan.path g.L.Plan.beneath)
-    (g.L.Plan.holds c.args.plan.now) (g.L.Plan.tasks c.args.plan.now) c.args.arena.now.states.items c.args.arena.now.waiting.items (g.P.Turns.state c.args.turns.now) (g.P.Turns.state c.pick_task-picked.new.turns)
+    (g.L.Plan.holds c.args.plan.now) (g.L.Plan.tasks c.args.plan.now) c.args.arena.now.states.items c.args.arena.now.waiting (g.P.Turns.state c.args.turns.now) (g.P.Turns.state c.pick_task-picked.new.turns)
     c.pick_task-picked.result.number c.index_mut.result.now c.context-context.result t
     (g.R.ResolverSet.is_lawful c.args.resolvers.now) (g.H.Rounds.are_quiet c.args.hooks.now) (λ call. g.R.ResolverSet.answer (g.R.ResolverSet.rules c.args.resolvers.now) call (g.R.ResolverSet.world c.args.resolvers.now)) (g.R.ResolverSet.told c.args.resolvers.now) (g.R.ResolverSet.told c.take_turn.new.resolvers) (g.R.ResolverSet.begun c.args.resolvers.now) (g.R.ResolverSet.begun c.take_turn.new.resolvers) c.take_turn.new.state (rw c.in-Pending.is at c.in_ok-turn.ensures.promise)
     (λ calm. rw c.in-Pending.is at (c.in_ok-turn.ensures.told calm)) (λ calm. c.in_ok-turn.ensures.begun calm)
@@ -174,13 +174,13 @@ pub returns-in_ok-settle-in-Answered-clause-sound :
 returns-in_ok-settle-in-Answered-clause-sound g c =
     let stands = c.pick_task-picked.ensures.stands in
     let t = taken g.row.R-Own.Denot g.L.Plan.Task g.row.R-Future.Denot g.P.Turns.State g.P.Turns.choice g.P.Turns.after g.R.ResolverSet.is_for g.R.ResolverSet.number (subject_of g.L.Plan.call g.L.Plan.path g.L.Plan.beneath)
-    (g.L.Plan.holds c.args.plan.now) (g.L.Plan.tasks c.args.plan.now) c.args.arena.now.states.items c.args.arena.now.waiting.items (g.P.Turns.state c.args.turns.now) (g.P.Turns.state c.pick_task-picked.new.turns)
+    (g.L.Plan.holds c.args.plan.now) (g.L.Plan.tasks c.args.plan.now) c.args.arena.now.states.items c.args.arena.now.waiting (g.P.Turns.state c.args.turns.now) (g.P.Turns.state c.pick_task-picked.new.turns)
     c.pick_task-picked.result.place c.pick_task-picked.result.number c.index_mut.result.now c.context-context.result
     c.requires.sound stands c.index_mut.ensures.value c.context-context.ensures c.pick_task-picked.ensures.choice c.pick_task-picked.ensures.after in
     sound_answered g.row.R-Own.Denot g.L.Plan.Task g.row.R-Future.Denot g.P.Turns.State g.P.Turns.choice g.P.Turns.after g.R.ResolverSet.is_for g.R.ResolverSet.number (subject_of g.L.Plan.call g.L.Plan.path g.L.Plan.beneath)
-    (g.L.Plan.holds c.args.plan.now) (g.L.Plan.tasks c.args.plan.now) c.args.arena.now.states.items c.args.arena.now.waiting.items (g.P.Turns.state c.args.turns.now) (g.P.Turns.state c.pick_task-picked.new.turns)
+    (g.L.Plan.holds c.args.plan.now) (g.L.Plan.tasks c.args.plan.now) c.args.arena.now.states.items c.args.arena.now.waiting (g.P.Turns.state c.args.turns.now) (g.P.Turns.state c.pick_task-picked.new.turns)
     c.pick_task-picked.result.number c.index_mut.result.now c.context-context.result t
-    (g.L.Plan.holds c.complete.new.self) (g.L.Plan.tasks c.complete.new.self) c.settle.new.arena.states.items c.settle.new.arena.waiting.items c.take_turn.new.state c.in-Answered.answer c.in_ok-count-in-Answered.count
+    (g.L.Plan.holds c.complete.new.self) (g.L.Plan.tasks c.complete.new.self) c.settle.new.arena.states.items c.settle.new.arena.waiting c.take_turn.new.state c.in-Answered.answer c.in_ok-count-in-Answered.count
     c.in_ok-count-in-Answered.ensures.keeps c.in_ok-count-in-Answered.ensures.holds c.in_ok-count-in-Answered.ensures.made g.met.L.Plan.never_roots
     c.in_ok-settle-in-Answered.ensures.states c.in_ok-settle-in-Answered.ensures.waits
 
@@ -189,13 +189,13 @@ pub returns-in_ok-settle-in-Answered-clause-nearer :
 returns-in_ok-settle-in-Answered-clause-nearer g c =
     let stands = c.pick_task-picked.ensures.stands in
     let t = taken g.row.R-Own.Denot g.L.Plan.Task g.row.R-Future.Denot g.P.Turns.State g.P.Turns.choice g.P.Turns.after g.R.ResolverSet.is_for g.R.ResolverSet.number (subject_of g.L.Plan.call g.L.Plan.path g.L.Plan.beneath)
-    (g.L.Plan.holds c.args.plan.now) (g.L.Plan.tasks c.args.plan.now) c.args.arena.now.states.items c.args.arena.now.waiting.items (g.P.Turns.state c.args.turns.now) (g.P.Turns.state c.pick_task-picked.new.turns)
+    (g.L.Plan.holds c.args.plan.now) (g.L.Plan.tasks c.args.plan.now) c.args.arena.now.states.items c.args.arena.now.waiting (g.P.Turns.state c.args.turns.now) (g.P.Turns.state c.pick_task-picked.new.turns)
     c.pick_task-picked.result.place c.pick_task-picked.result.number c.index_mut.result.now c.context-context.result
     c.requires.sound stands c.index_mut.ensures.value c.context-context.ensures c.pick_task-picked.ensures.choice c.pick_task-picked.ensures.after in
     let ok = c.settle.new.arena.states.ok in
     let small = c.settle.new.arena.states.small in
     nearer_answered g.row.R-Own.Denot g.L.Plan.Task g.row.R-Future.Denot g.P.Turns.State g.P.Turns.choice g.P.Turns.after g.R.ResolverSet.is_for g.R.ResolverSet.number (subject_of g.L.Plan.call g.L.Plan.path g.L.Plan.beneath)
-    (g.L.Plan.holds c.args.plan.now) (g.L.Plan.tasks c.args.plan.now) c.args.arena.now.states.items c.args.arena.now.waiting.items (g.P.Turns.state c.args.turns.now) (g.P.Turns.state c.pick_task-picked.new.turns)
+    (g.L.Plan.holds c.args.plan.now) (g.L.Plan.tasks c.args.plan.now) c.args.arena.now.states.items c.args.arena.now.waiting (g.P.Turns.state c.args.turns.now) (g.P.Turns.state c.pick_task-picked.new.turns)
     c.pick_task-picked.result.number c.index_mut.result.now c.context-context.result t
     c.settle.new.arena.states.items c.take_turn.new.state c.in_ok-count-in-Answered.count c.in_ok-settle-in-Answered.ensures.states (omega arith)
 
@@ -204,11 +204,11 @@ pub returns-in_ok-settle-in-Answered-clause-progress :
 returns-in_ok-settle-in-Answered-clause-progress g c =
     let stands = c.pick_task-picked.ensures.stands in
     let t = taken g.row.R-Own.Denot g.L.Plan.Task g.row.R-Future.Denot g.P.Turns.State g.P.Turns.choice g.P.Turns.after g.R.ResolverSet.is_for g.R.ResolverSet.number (subject_of g.L.Plan.call g.L.Plan.path g.L.Plan.beneath)
-    (g.L.Plan.holds c.args.plan.now) (g.L.Plan.tasks c.args.plan.now) c.args.arena.now.states.items c.args.arena.now.waiting.items (g.P.Turns.state c.args.turns.now) (g.P.Turns.state c.pick_task-picked.new.turns)
+    (g.L.Plan.holds c.args.plan.now) (g.L.Plan.tasks c.args.plan.now) c.args.arena.now.states.items c.args.arena.now.waiting (g.P.Turns.state c.args.turns.now) (g.P.Turns.state c.pick_task-picked.new.turns)
     c.pick_task-picked.result.place c.pick_task-picked.result.number c.index_mut.result.now c.context-context.result
     c.requires.sound stands c.index_mut.ensures.value c.context-context.ensures c.pick_task-picked.ensures.choice c.pick_task-picked.ensures.after in
     progress_answered g.row.R-Own.Denot g.L.Plan.Task g.row.R-Future.Denot g.P.Turns.State g.P.Turns.choice g.P.Turns.after g.R.ResolverSet.is_for g.R.ResolverSet.number (subject_of g.L.Plan.call g.L.Plan.path g.L.Plan.beneath)
-    (g.L.Plan.holds c.args.plan.now) (g.L.Plan.tasks c.args.plan.now) c.args.arena.now.states.items c.args.arena.now.waiting.items (g.P.Turns.state c.args.turns.now) (g.P.Turns.state c.pick_task-picked.new.turns)
+    (g.L.Plan.holds c.args.plan.now) (g.L.Plan.tasks c.args.plan.now) c.args.arena.now.states.items c.args.arena.now.waiting (g.P.Turns.state c.args.turns.now) (g.P.Turns.state c.pick_task-picked.new.turns)
     c.pick_task-picked.result.number c.index_mut.result.now c.context-context.result t
     (g.L.Plan.holds c.complete.new.self) (g.L.Plan.tasks c.complete.new.self) c.settle.new.arena.states.items c.take_turn.new.state c.in-Answered.answer c.in_ok-count-in-Answered.count
     (g.R.ResolverSet.is_lawful c.args.resolvers.now) (g.H.Rounds.are_quiet c.args.hooks.now) (λ call. g.R.ResolverSet.answer (g.R.ResolverSet.rules c.args.resolvers.now) call (g.R.ResolverSet.world c.args.resolvers.now)) (g.R.ResolverSet.told c.args.resolvers.now) (g.R.ResolverSet.told c.take_turn.new.resolvers) (g.R.ResolverSet.begun c.args.resolvers.now) (g.R.ResolverSet.begun c.take_turn.new.resolvers)
@@ -221,11 +221,11 @@ pub returns-in-Begun-clause-paced : goal.returns-in-Begun-clause-paced
 returns-in-Begun-clause-paced g c =
     let stands = c.pick_task-picked.ensures.stands in
     let t = taken g.row.R-Own.Denot g.L.Plan.Task g.row.R-Future.Denot g.P.Turns.State g.P.Turns.choice g.P.Turns.after g.R.ResolverSet.is_for g.R.ResolverSet.number (subject_of g.L.Plan.call g.L.Plan.path g.L.Plan.beneath)
-    (g.L.Plan.holds c.args.plan.now) (g.L.Plan.tasks c.args.plan.now) c.args.arena.now.states.items c.args.arena.now.waiting.items (g.P.Turns.state c.args.turns.now) (g.P.Turns.state c.pick_task-picked.new.turns)
+    (g.L.Plan.holds c.args.plan.now) (g.L.Plan.tasks c.args.plan.now) c.args.arena.now.states.items c.args.arena.now.waiting (g.P.Turns.state c.args.turns.now) (g.P.Turns.state c.pick_task-picked.new.turns)
     c.pick_task-picked.result.place c.pick_task-picked.result.number c.index_mut.result.now c.context-context.result
     c.requires.sound stands c.index_mut.ensures.value c.context-context.ensures c.pick_task-picked.ensures.choice c.pick_task-picked.ensures.after in
     pacing_waiting g.row.R-Own.Denot g.L.Plan.Task g.row.R-Future.Denot g.P.Turns.State g.P.Turns.choice g.P.Turns.after g.R.ResolverSet.is_for g.R.ResolverSet.number (subject_of g.L.Plan.call g.L.Plan.path g.L.Plan.beneath)
-    (g.L.Plan.holds c.args.plan.now) (g.L.Plan.tasks c.args.plan.now) c.args.arena.now.states.items c.args.arena.now.waiting.items (g.P.Turns.state c.args.turns.now) (g.P.Turns.state c.pick_task-picked.new.turns)
+    (g.L.Plan.holds c.args.plan.now) (g.L.Plan.tasks c.args.plan.now) c.args.arena.now.states.items c.args.arena.now.waiting (g.P.Turns.state c.args.turns.now) (g.P.Turns.state c.pick_task-picked.new.turns)
     c.pick_task-picked.result.number c.index_mut.result.now c.context-context.result t
     (g.H.Rounds.are_quiet c.args.hooks.now) (g.R.ResolverSet.is_paced c.args.resolvers.now) (g.R.ResolverSet.is_paced c.take_turn.new.resolvers) (g.R.ResolverSet.delay (g.R.ResolverSet.rules c.args.resolvers.now)) (g.R.ResolverSet.told c.args.resolvers.now) (g.R.ResolverSet.told c.take_turn.new.resolvers)
     c.in_ok-turn.ensures.pace
@@ -235,11 +235,11 @@ pub returns-in-Pending-clause-paced : goal.returns-in-Pending-clause-paced
 returns-in-Pending-clause-paced g c =
     let stands = c.pick_task-picked.ensures.stands in
     let t = taken g.row.R-Own.Denot g.L.Plan.Task g.row.R-Future.Denot g.P.Turns.State g.P.Turns.choice g.P.Turns.after g.R.ResolverSet.is_for g.R.ResolverSet.number (subject_of g.L.Plan.call g.L.Plan.path g.L.Plan.beneath)
-    (g.L.Plan.holds c.args.plan.now) (g.L.Plan.tasks c.args.plan.now) c.args.arena.now.states.items c.args.arena.now.waiting.items (g.P.Turns.state c.args.turns.now) (g.P.Turns.state c.pick_task-picked.new.turns)
+    (g.L.Plan.holds c.args.plan.now) (g.L.Plan.tasks c.args.plan.now) c.args.arena.now.states.items c.args.arena.now.waiting (g.P.Turns.state c.args.turns.now) (g.P.Turns.state c.pick_task-picked.new.turns)
     c.pick_task-picked.result.place c.pick_task-picked.result.number c.index_mut.result.now c.context-context.result
     c.requires.sound stands c.index_mut.ensures.value c.context-context.ensures c.pick_task-picked.ensures.choice c.pick_task-picked.ensures.after in
     pacing_waiting g.row.R-Own.Denot g.L.Plan.Task g.row.R-Future.Denot g.P.Turns.State g.P.Turns.choice g.P.Turns.after g.R.ResolverSet.is_for g.R.ResolverSet.number (subject_of g.L.Plan.call g.L.Plan.path g.L.Plan.beneath)
-    (g.L.Plan.holds c.args.plan.now) (g.L.Plan.tasks c.args.plan.now) c.args.arena.now.states.items c.args.arena.now.waiting.items (g.P.Turns.state c.args.turns.now) (g.P.Turns.state c.pick_task-picked.new.turns)
+    (g.L.Plan.holds c.args.plan.now) (g.L.Plan.tasks c.args.plan.now) c.args.arena.now.states.items c.args.arena.now.waiting (g.P.Turns.state c.args.turns.now) (g.P.Turns.state c.pick_task-picked.new.turns)
     c.pick_task-picked.result.number c.index_mut.result.now c.context-context.result t
     (g.H.Rounds.are_quiet c.args.hooks.now) (g.R.ResolverSet.is_paced c.args.resolvers.now) (g.R.ResolverSet.is_paced c.take_turn.new.resolvers) (g.R.ResolverSet.delay (g.R.ResolverSet.rules c.args.resolvers.now)) (g.R.ResolverSet.told c.args.resolvers.now) (g.R.ResolverSet.told c.take_turn.new.resolvers)
     c.in_ok-turn.ensures.pace
@@ -250,11 +250,11 @@ pub returns-in_ok-settle-in-Answered-clause-paced :
 returns-in_ok-settle-in-Answered-clause-paced g c =
     let stands = c.pick_task-picked.ensures.stands in
     let t = taken g.row.R-Own.Denot g.L.Plan.Task g.row.R-Future.Denot g.P.Turns.State g.P.Turns.choice g.P.Turns.after g.R.ResolverSet.is_for g.R.ResolverSet.number (subject_of g.L.Plan.call g.L.Plan.path g.L.Plan.beneath)
-    (g.L.Plan.holds c.args.plan.now) (g.L.Plan.tasks c.args.plan.now) c.args.arena.now.states.items c.args.arena.now.waiting.items (g.P.Turns.state c.args.turns.now) (g.P.Turns.state c.pick_task-picked.new.turns)
+    (g.L.Plan.holds c.args.plan.now) (g.L.Plan.tasks c.args.plan.now) c.args.arena.now.states.items c.args.arena.now.waiting (g.P.Turns.state c.args.turns.now) (g.P.Turns.state c.pick_task-picked.new.turns)
     c.pick_task-picked.result.place c.pick_task-picked.result.number c.index_mut.result.now c.context-context.result
     c.requires.sound stands c.index_mut.ensures.value c.context-context.ensures c.pick_task-picked.ensures.choice c.pick_task-picked.ensures.after in
     pacing_answered g.row.R-Own.Denot g.L.Plan.Task g.row.R-Future.Denot g.P.Turns.State g.P.Turns.choice g.P.Turns.after g.R.ResolverSet.is_for g.R.ResolverSet.number (subject_of g.L.Plan.call g.L.Plan.path g.L.Plan.beneath)
-    (g.L.Plan.holds c.args.plan.now) (g.L.Plan.tasks c.args.plan.now) c.args.arena.now.states.items c.args.arena.now.waiting.items (g.P.Turns.state c.args.turns.now) (g.P.Turns.state c.pick_task-picked.new.turns)
+    (g.L.Plan.holds c.args.plan.now) (g.L.Plan.tasks c.args.plan.now) c.args.arena.now.states.items c.args.arena.now.waiting (g.P.Turns.state c.args.turns.now) (g.P.Turns.state c.pick_task-picked.new.turns)
     c.pick_task-picked.result.number c.index_mut.result.now c.context-context.result t
     (g.H.Rounds.are_quiet c.args.hooks.now) (g.R.ResolverSet.is_paced c.args.resolvers.now) (g.R.ResolverSet.is_paced c.take_turn.new.resolvers) (g.R.ResolverSet.delay (g.R.ResolverSet.rules c.args.resolvers.now)) (g.R.ResolverSet.told c.args.resolvers.now) (g.R.ResolverSet.told c.take_turn.new.resolvers)
     c.in_ok-turn.ensures.pace

@@ -6,7 +6,7 @@ use Rattle.gql_engine.proofs.scheduler.finish.Given as goal
 
 abbrev pub invariant-events : goal.invariant-events
 invariant-events g l = record {
-  sound : IsSound g.R.ResolverSet.is_for (subject_of g.L.Plan.call g.L.Plan.path g.L.Plan.beneath) (g.L.Plan.holds l.plan) (g.L.Plan.tasks l.plan) l.arena.states.items l.arena.waiting.items;
+  sound : IsSound g.R.ResolverSet.is_for (subject_of g.L.Plan.call g.L.Plan.path g.L.Plan.beneath) (g.L.Plan.holds l.plan) (g.L.Plan.tasks l.plan) l.arena.states.items l.arena.waiting;
   kept : Kept (g.R.ResolverSet.is_lawful l.initial.resolvers) (g.R.ResolverSet.is_lawful l.resolvers) (g.H.Rounds.are_quiet l.initial.hooks) (g.H.Rounds.are_quiet l.hooks)
       (g.R.ResolverSet.rules l.initial.resolvers) (g.R.ResolverSet.rules l.resolvers) (g.R.ResolverSet.world l.initial.resolvers) (g.R.ResolverSet.world l.resolvers);
   progress : Progress (g.R.ResolverSet.is_lawful l.initial.resolvers) (g.H.Rounds.are_quiet l.initial.hooks) (subject_of g.L.Plan.call g.L.Plan.path g.L.Plan.beneath)

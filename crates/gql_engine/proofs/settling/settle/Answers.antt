@@ -6,6 +6,6 @@ use Rattle.gql_engine.proofs.settling.settle.Goals as goal
 
 pub make_tasks-requires : goal.make_tasks-requires
 make_tasks-requires g c =
-    let within = get_within c.args.arena.now.waiting.items c.args.place c.args.number c.requires.stands in
-    let removed : c.remove.new.self.items ≡ remove c.args.arena.now.waiting.items c.args.place = search rules in
-    record { waits = removed ∙ one_less g.row.F.Denot c.args.arena.now.waiting.items c.args.arena.now.states.items c.args.place c.args.number c.requires.waits c.requires.stands }
+    let within = get_within c.args.arena.now.waiting c.args.place c.args.number c.requires.stands in
+    let removed : c.remove.new.self.items ≡ remove c.args.arena.now.waiting c.args.place = search rules in
+    record { waits = removed ∙ one_less g.row.F.Denot c.args.arena.now.waiting c.args.arena.now.states.items c.args.place c.args.number c.requires.waits c.requires.stands }
