@@ -1,5 +1,5 @@
 -- Lists of distinct names, and the place of each.
-use Rattle.std.proofs.Common.{◌≡◌, ℕ, zero, suc, ◌+◌, ◌<◌, ◌≤◌, Bool, true, false, cond, not, List, [], ◌∷◌, ◌++◌, length, take, Option, Some, None, slice_get, slice_index_or, length-append, le_of_lt, length-take-le, IfSome, OnOk, OnErr, Result, Ok, Err, String, string_bytes, Global, refl, ap, sym, ◌∙◌, subst, arith}
+use Rattle.std.proofs.Common.{◌≡◌, ℕ, zero, suc, ◌+◌, ◌<◌, Bool, true, false, cond, List, [], ◌∷◌, ◌++◌, length, take, Option, Some, None, slice_get, slice_index_or, le_of_lt, length-take-le, IfSome, OnOk, OnErr, Result, Ok, Err, String, string_bytes, Global, refl, ap, sym, ◌∙◌, arith}
 use Rattle.std.specs.Option.{option_map, option_map_or}
 use Rattle.std.specs.Str.{bytes_eq}
 use Rattle.std.specs.String.{string_cmp}

@@ -15,7 +15,7 @@ use Rattle.gql_schema.specs.declared.schema_type.SchemaType.{SchemaType}
 use Rattle.gql_schema.specs.declared.schema_type.SchemaType.TheVariants as types
 use Rattle.gql_cli.specs.BenchAnswers.{bench_answers, bench_object, IsSuited}
 use Rattle.gql_cli.specs.FirstBench.{Takes, AreTaken}
-use Rattle.gql_cli.specs.Tables.{constant_of, field_constant, object_in, rule_of, entry_of, entries}
+use Rattle.gql_cli.specs.Tables.{constant_of, field_constant, object_under, rule_of, entry_of, entries}
 use Rattle.gql_cli.specs.declared.first_bench.FirstField.{FirstField}
 use Rattle.gql_cli.specs.declared.rule.Rule.{Rule}
 use Rattle.gql_cli.specs.declared.tables.Bench.{Bench}
@@ -65,9 +65,8 @@ pub record IsKnown (bench : Bench) (object : Object) (n : List ℕ) (v : Value) 
   pub entry : IsEntry bench.rules (field_type declared) (resolver_of declared)
   pub constant : entry.field.constant ≡ v
 
-object-is : (bench : Bench) (ty : SchemaType) (object : Object) → under bench.query (types_of bench.types) ≡ Some ty → bench_object bench ≡ Some object
-    → object_in ty ≡ object
-object-is bench ty object found is = let both = sym (ap (option_map object_in) found) ∙ is in cc
+object-is : (bench : Bench) (one other : Object) → bench_object bench ≡ Some one → bench_object bench ≡ Some other → one ≡ other
+object-is bench one other found is = let both = sym found ∙ is in cc
 
 constant-is : (rules : List Rule) (f : FirstField) (number : ℕ) (v : Value) → slice_get rules number ≡ Some (rule_of f)
     → option_map constant_of (slice_get rules number) ≡ Some v → f.constant ≡ v
@@ -86,17 +85,17 @@ known-field bench suited n v (Some declared) is answered =
       constant = constant-is bench.rules entry.field (resolver_of declared) v entry.ruled answered;
     }
 
-root-found : (bench : Bench) (suited : IsSuited bench) → under bench.query (types_of bench.types) ≡ Some (types.Object suited.tabled.object)
+root-found : (bench : Bench) (suited : IsSuited bench) → bench_object bench ≡ Some suited.tabled.object
 root-found bench suited =
-    let found : under suited.first.root ((suited.first.root, types.Object suited.tabled.object) ∷ []) ≡ Some (types.Object suited.tabled.object)
+    let found : object_under suited.first.root ((suited.first.root, types.Object suited.tabled.object) ∷ []) ≡ Some suited.tabled.object
     = rw ((bytes_decides suited.first.root suited.first.root).1 refl) refl in
-    (λ i. under (suited.tabled.root i) (suited.tabled.types i)) ∙ found
+    (λ i. object_under (suited.tabled.root i) (suited.tabled.types i)) ∙ found
 
 -- what a bench answers is the constant of a declared field
 pub known-answer : (bench : Bench) (suited : IsSuited bench) (object : Object) (n : List ℕ) (v : Value) → bench_object bench ≡ Some object
     → bench_answers bench n ≡ Some v → IsKnown bench object n v
 known-answer bench suited object n v is answered =
     let found = root-found bench suited in
-    let same : suited.tabled.object ≡ object = object-is bench (types.Object suited.tabled.object) object found is in
-    let answered' = sym (ap (option_and_then (λ ty. field_constant (object_in ty) bench.rules n)) found) ∙ answered in
+    let same : suited.tabled.object ≡ object = object-is bench suited.tabled.object object found is in
+    let answered' = sym (ap (option_and_then (λ object. field_constant object bench.rules n)) found) ∙ answered in
     subst (λ o. IsKnown bench o n v) same (known-field bench suited n v (under n (fields_of suited.tabled.object)) refl answered')

@@ -34,7 +34,7 @@ use Rattle.gql_cli.specs.ListTurns.{list_choice, list_after}
 use Rattle.gql_doc.specs.Depth.{selections_of}
 use Rattle.gql_cli.specs.Query.{HasOnlyName, IsBare, IsBareQuery}
 use Rattle.gql_cli.specs.Table.{rule_delay, table_delay}
-use Rattle.gql_cli.specs.Tables.{object_in, rule_of, entry_of, entries, IsTableOf}
+use Rattle.gql_cli.specs.Tables.{object_under, rule_of, entry_of, entries, IsTableOf}
 use Rattle.gql_cli.specs.declared.first_bench.FirstBench.{FirstBench}
 use Rattle.gql_cli.specs.declared.first_bench.FirstField.{FirstField}
 use Rattle.gql_cli.specs.declared.rule.Rule.{Rule}
@@ -196,9 +196,9 @@ numbered-tasks n rules front k (f ∷ fs) same long =
 -- the tasks of a bench are those of the first bench that it has the tables of
 pub first-task : (first : FirstBench) (bench : Bench) → IsTableOf first bench → (name : List ℕ) → bench_task bench name ≡ first_task first name
 first-task first bench made name =
-    let found : under first.root ((first.root, types.Object made.object) ∷ []) ≡ Some (types.Object made.object)
+    let found : object_under first.root ((first.root, types.Object made.object) ∷ []) ≡ Some made.object
     = rw ((bytes_decides first.root first.root).1 refl) refl in
-    let root : bench_object bench ≡ Some made.object = (λ i. option_map object_in (under (made.root i) (made.types i))) ∙ ap (option_map object_in) found in
+    let root : bench_object bench ≡ Some made.object = (λ i. object_under (made.root i) (made.types i)) ∙ found in
     ap (λ o. option_map (task_with bench.rules name) (option_and_then (λ object. under name (fields_of object)) o)) root
     ∙ tasks-through name bench.rules (fields_of made.object) ∙ ap (λ es. option_map (task_at bench.rules name) (under name es)) made.tabled.shown
     ∙ numbered-tasks name bench.rules [] 0 first.fields made.tabled.ruled refl

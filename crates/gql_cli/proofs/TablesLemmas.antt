@@ -13,7 +13,7 @@ use Rattle.gql_schema.specs.declared.field.Field.{Field}
 use Rattle.gql_schema.specs.declared.object.Object.{Object}
 use Rattle.gql_schema.specs.declared.schema_type.SchemaType.TheVariants as types
 use Rattle.gql_cli.specs.FirstBench.{constants}
-use Rattle.gql_cli.specs.Tables.{constant_of, field_constant, root_constant, object_in, rule_of, entry_of, entries, IsTabled, IsTableOf, AddsField}
+use Rattle.gql_cli.specs.Tables.{constant_of, field_constant, root_constant, object_under, rule_of, entry_of, entries, IsTabled, IsTableOf, AddsField}
 use Rattle.gql_cli.specs.declared.first_bench.FirstBench.{FirstBench}
 use Rattle.gql_cli.specs.declared.first_bench.FirstField.{FirstField}
 use Rattle.gql_cli.specs.declared.rule.Rule.{Rule}
@@ -103,10 +103,10 @@ numbered-rules n rules front k (f ∷ fs) same long =
 pub table-answers : (first : FirstBench) (bench : Bench) → IsTableOf first bench → (n : List ℕ)
     → root_constant bench.types bench.query bench.rules n ≡ under n (constants first.fields)
 table-answers first bench made n =
-    let found : under first.root ((first.root, types.Object made.object) ∷ []) ≡ Some (types.Object made.object)
+    let found : object_under first.root ((first.root, types.Object made.object) ∷ []) ≡ Some made.object
     = rw ((bytes_decides first.root first.root).1 refl) refl in
-    (λ i. option_and_then (λ ty. field_constant (object_in ty) bench.rules n) (under (made.root i) (made.types i)))
-    ∙ ap (option_and_then (λ ty. field_constant (object_in ty) bench.rules n)) found
+    (λ i. option_and_then (λ object. field_constant object bench.rules n) (object_under (made.root i) (made.types i)))
+    ∙ ap (option_and_then (λ object. field_constant object bench.rules n)) found
     ∙ through-entries n bench.rules (fields_of made.object) ∙ ap (λ es. ruled_by bench.rules (under n es)) made.tabled.shown
     ∙ numbered-rules n bench.rules [] 0 first.fields made.tabled.ruled refl
 

@@ -8,12 +8,12 @@ use Rattle.gql_schema.specs.Field.{resolver_of}
 use Rattle.gql_schema.specs.Object.{fields_of}
 use Rattle.gql_schema.specs.Table.{types_of}
 use Rattle.gql_schema.specs.declared.field.Field.{Field}
-use Rattle.gql_schema.specs.declared.schema_type.SchemaType.{SchemaType}
+use Rattle.gql_schema.specs.declared.object.Object.{Object}
 use Rattle.gql_cli.specs.Answer.{Chooses, HasChosen}
 use Rattle.gql_cli.specs.BenchAnswers.{bench_answers}
 use Rattle.gql_cli.specs.BenchRecord.{BenchTask, AreAsked, HasTold, HasToldFor, bench_task, task_with}
 use Rattle.gql_cli.specs.Query.{Selects}
-use Rattle.gql_cli.specs.Tables.{constant_of, field_constant, object_in}
+use Rattle.gql_cli.specs.Tables.{constant_of, field_constant, object_under}
 use Rattle.gql_cli.specs.declared.rule.Rule.{Rule}
 use Rattle.gql_cli.specs.declared.tables.Bench.{Bench}
 
@@ -23,12 +23,11 @@ field-task : (rules : List Rule) (name : List ℕ) (value : Value) (found : Opti
 field-task rules name value None answered = cc
 field-task rules name value (Some field) answered = (task_with rules name field, refl)
 
-type-task : (rules : List Rule) (name : List ℕ) (value : Value) (found : Option SchemaType)
-    → option_and_then (λ ty. field_constant (object_in ty) rules name) found ≡ Some value
-    → (task : BenchTask)
-    × (option_map (task_with rules name) (option_and_then (λ object. under name (fields_of object)) (option_map object_in found)) ≡ Some task)
-type-task rules name value None answered = cc
-type-task rules name value (Some ty) answered = field-task rules name value (under name (fields_of (object_in ty))) answered
+object-task : (rules : List Rule) (name : List ℕ) (value : Value) (found : Option Object)
+    → option_and_then (λ object. field_constant object rules name) found ≡ Some value
+    → (task : BenchTask) × (option_map (task_with rules name) (option_and_then (λ object. under name (fields_of object)) found) ≡ Some task)
+object-task rules name value None answered = cc
+object-task rules name value (Some object) answered = field-task rules name value (under name (fields_of object)) answered
 
 -- names that all have an answer have tasks
 pub chosen-tasks : (bench : Bench) (names : List (List ℕ)) (chosen : List (List ℕ × Value)) → Chooses (bench_answers bench) names chosen
@@ -37,7 +36,7 @@ chosen-tasks bench [] [] h = ([], tt)
 chosen-tasks bench [] (p ∷ ps) h = absurd h
 chosen-tasks bench (n ∷ ns) [] h = absurd h
 chosen-tasks bench (n ∷ ns) (p ∷ ps) ((named, found), h) =
-    let (task, is) = type-task bench.rules n p.1 (under bench.query (types_of bench.types)) found in
+    let (task, is) = object-task bench.rules n p.1 (object_under bench.query (types_of bench.types)) found in
     let (tasks, asked) = chosen-tasks bench ns ps h in
     (task ∷ tasks, (is, asked))
 

@@ -10,7 +10,7 @@ use Rattle.gql_schema.specs.Table.{types_of}
 use Rattle.gql_schema.specs.declared.object.Object.{Object}
 use Rattle.gql_cli.specs.FirstBench.{IsFirstBench, AreTaken}
 use Rattle.gql_cli.specs.Table.{rule_answer, table_delay}
-use Rattle.gql_cli.specs.Tables.{root_constant, object_in, IsTableOf}
+use Rattle.gql_cli.specs.Tables.{root_constant, object_under, IsTableOf}
 use Rattle.gql_cli.specs.declared.first_bench.FirstBench.{FirstBench}
 use Rattle.gql_cli.specs.declared.rule.Rule.{Rule}
 use Rattle.gql_cli.specs.declared.tables.Bench.{Bench}
@@ -29,7 +29,7 @@ pub record IsBenchOf (json : Data) (bench : Bench) : Type 0 where
 
 -- the query root
 abbrev pub bench_object : Bench → Option Object
-bench_object bench = option_map object_in (under bench.query (types_of bench.types))
+bench_object bench = object_under bench.query (types_of bench.types)
 
 -- the bench has the tables of a first bench, whose constants are of their fields' types
 pub record IsSuited (bench : Bench) : Type 0 where

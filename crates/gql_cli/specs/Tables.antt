@@ -25,18 +25,24 @@ kind_constant (kinds.Const value) = value
 abbrev pub constant_of : Rule → Value
 constant_of rule = kind_constant rule.kind
 
-abbrev pub object_in : SchemaType → Object
-object_in (types.Object object) = object
+-- a type as an object, where it is one
+abbrev pub object_in : SchemaType → Option Object
+object_in (types.Object object) = Some object
+object_in _ = None
 
 -- the constant that an object's field of this name answers, by the rule of its resolver
 abbrev pub field_constant : Object → List Rule → List ℕ → Option Value
 field_constant object rules name =
     option_and_then (λ field. option_map constant_of (slice_get rules (resolver_of field))) (under name (fields_of object))
 
+-- the object of this name
+abbrev pub object_under : List ℕ → List (List ℕ × SchemaType) → Option Object
+object_under name table = option_and_then object_in (under name table)
+
 -- the same of the query root
 abbrev pub root_constant : Types → List ℕ → List Rule → List ℕ → Option Value
 root_constant types root rules name =
-    option_and_then (λ ty. field_constant (object_in ty) rules name) (under root (types_of types))
+    option_and_then (λ object. field_constant object rules name) (object_under root (types_of types))
 
 -- the rule of a field's resolver
 abbrev pub rule_of : FirstField → Rule

@@ -14,9 +14,8 @@ use crate::json_shape::{
     items_in, one_or_two_members, only_item, only_member, three_members, two_members,
     two_or_three_members,
 };
-use gql_base::{Items, Made, Name, Text, Value, from_json};
+use gql_base::{Items, Made, Name, Text, Value, from_json, is_name};
 use gql_engine::takes_value;
-use gql_tokens::is_name;
 use serde_json::Value as Json;
 use std::alloc::Global;
 

@@ -1,7 +1,8 @@
 //! The public types can be moved to threads and shared between them, where what they are made of can.
 use crate::{
-    Bench, Command, Failed, ListTurns, MemorySink, MemorySource, Outcome, Rule, RuleKind, SinkFault,
-    Status, StdSink, StdSource, SureSink, SureSource, Table, TableFuture, TableMaker, Written,
+    Bench, Command, Failed, ListTurns, MemorySink, MemorySource, Outcome, Rule, RuleKind,
+    SinkFault, Status, StdSink, StdSource, SureSink, SureSource, Table, TableFuture, TableMaker,
+    Written,
 };
 use std::io::{Read, Write};
 

@@ -33,7 +33,9 @@ impl Bench {
     pub fn constant(&self, name: &str) -> Option<&Value>
         ensures { option_copied result ≡ root_constant self.now.types self.now.query self.now.rules name.now }
     {
-        let SchemaType::Object(object) = self.types.get(self.query.as_str())?;
+        let SchemaType::Object(object) = self.types.get(self.query.as_str())? else {
+            return None;
+        };
         let field = object.get(name)?;
         let number = field.resolver();
         let rule = self.rules.get(number as usize)?;
@@ -48,7 +50,7 @@ impl Bench {
     {
         match self.types.get(self.query.as_str()) {
             Some(SchemaType::Object(object)) => object,
-            None => unreachable!(),
+            _ => unreachable!(),
         }
     }
 

@@ -20,7 +20,10 @@ fn a_byte_past_the_limit_is_too_long(rt: HostRuntime) -> Result<(), Fail> {
         (16_777_216, 3, "bench: not JSON\n"),
         (16_777_217, 7, "input: too long\n"),
     ] {
-        assert!(rt; blanks_end_with(rt.alloc(), count, status, line)?, "at {count}");
+        assert!(rt;
+            blanks_end_with(rt.alloc(), count, status, line)?,
+            "at {count}"
+        );
     }
     Ok(())
 }
@@ -50,7 +53,10 @@ fn faults_in_mid_stream(rt: HostRuntime) -> Result<(), Fail> {
         (99, 2, 5, "bench:"),
         (2, 1, 5, "inp"),
     ] {
-        assert!(rt; faults_end_with(rt.alloc(), read, write, status, held)?, "at {read} and {write}");
+        assert!(rt;
+            faults_end_with(rt.alloc(), read, write, status, held)?,
+            "at {read} and {write}"
+        );
     }
     Ok(())
 }
@@ -115,7 +121,10 @@ fn queries_over_first_benches(rt: HostRuntime) -> Result<(), Fail> {
         ("{ a: value }", 3, NOT_BUILT),
         ("query Q { value }", 3, NOT_BUILT),
     ] {
-        assert!(rt; query_ends_with(rt.alloc(), query, status, line)?, "at {query}");
+        assert!(rt;
+            query_ends_with(rt.alloc(), query, status, line)?,
+            "at {query}"
+        );
     }
     Ok(())
 }
@@ -148,7 +157,13 @@ fn is_built(alloc: Global, answer: &str, more: &str, built: bool) -> Made<bool> 
     let field = format!(in alloc; "{{\"name\":\"value\",\"type\":\"Int\",\"answer\":{answer}}}")?;
     let input = bench_text(alloc, field.as_str(), "{ value }", more)?;
     if built {
-        text_ends_with(alloc, "execute", input.as_str(), 0, "{\"data\":{\"value\":1}}\n")
+        text_ends_with(
+            alloc,
+            "execute",
+            input.as_str(),
+            0,
+            "{\"data\":{\"value\":1}}\n",
+        )
     } else {
         text_ends_with(alloc, "execute", input.as_str(), 3, NOT_BUILT)
     }
@@ -172,7 +187,10 @@ fn delays_and_turns(rt: HostRuntime) -> Result<(), Fail> {
         ("{\"const\":1}", ",\"turns\":1", false),
         ("{\"const\":1}", ",\"later\":[]", false),
     ] {
-        assert!(rt; is_built(rt.alloc(), answer, more, built)?, "at {answer}{more}");
+        assert!(rt;
+            is_built(rt.alloc(), answer, more, built)?,
+            "at {answer}{more}"
+        );
     }
     Ok(())
 }

@@ -2,8 +2,7 @@
 use Rattle.std.proofs.Common.{◌≡◌, ℕ, true, false, cond, ◌||◌, List, [], ◌∷◌, ◌++◌, map, Option, Some, None, is_some, Ok, Err, refl, sym, ap, ◌∙◌, append_assoc, append-nil}
 use Rattle.std.proofs.lemmas.List.{map-append}
 use Rattle.std.specs.Str.{bytes_eq}
-use Rattle.gql_base.specs.Pairs.{under, put, names_of}
-use Rattle.gql_base.proofs.PairLemmas.{put-fresh}
+use Rattle.gql_base.specs.Pairs.{under, names_of}
 use Rattle.std.specs.Option.{option_or}
 use Rattle.gql_doc.specs.First.{first_in}
 use Rattle.gql_doc.specs.declared.trouble.BuildError.{BuildError}
@@ -80,9 +79,6 @@ not_taken name ps pos none = ap (λ b. cond b (Some pos) None) (taken_names name
 
 pub taken : {T : Type 0} → (name : List ℕ) (ps : List (List ℕ × T)) (pos : Pos) (x : T) → under name ps ≡ Some x → if_among (names_of ps) name pos ≡ Some pos
 taken name ps pos x some = ap (λ b. cond b (Some pos) None) (taken_names name ps ∙ ap is_some some)
-
-pub put_fresh : {T : Type 0} → (ps : List (List ℕ × T)) (name : List ℕ) (x : T) → under name ps ≡ None → put ps name x ≡ ps ++ (name, x) ∷ []
-put_fresh ps name x none = put-fresh ps name x none
 
 pub first_of_both : (a b : Option Pos) → a ≡ None → option_or a b ≡ b
 first_of_both a b none = ap (λ o. option_or o b) none

@@ -153,10 +153,6 @@ module _ {A : Type 0} (f : Reader A) (D : A → Language) (reads : ReadsText f D
       let one : f tokens ≡ (Ok v, []) = ap f (sym s.same ∙ sym (append-nil (tokens_of s.word))) ∙ reads.complete v s.word [] s.derived tt ∙ outcome-none_deep v s.word [] s.within in
       ap (λ reading. parsed reading.0 reading.1) one
 
-  -- tokens spell one tree at most
-  pub one_tree : (tokens : Tokens) (v w : A) → Spells D tokens v → Spells D tokens w → v ≡ w
-  one_tree tokens v w s t = cc (spelled tokens v s, spelled tokens w t)
-
   -- The first fault is answered.
 
   begins_longer : (front : Tokens) (t : Token) (y tokens : Tokens) → Begins D tokens → tokens ≡ front ++ t ∷ y → Begins D (front ++ t ∷ [])
@@ -204,10 +200,6 @@ module _ {A : Type 0} (f : Reader A) (D : A → Language) (reads : ReadsText f D
   -- a fault that is the first of the tokens is answered
   pub first_fault : (tokens : Tokens) (fault : ParseFault) → EndFinally tokens → IsFault D tokens fault → parsed_by f tokens ≡ Err fault
   first_fault tokens fault are h = answered tokens are fault.kind fault.pos h
-
-  -- tokens have one first fault at most
-  pub one_fault : (tokens : Tokens) (a b : ParseFault) → EndFinally tokens → IsFault D tokens a → IsFault D tokens b → a ≡ b
-  one_fault tokens a b are h k = cc (first_fault tokens a are h, first_fault tokens b are k)
 
 -- what holds of the one value that a call can give
 pub if_ok_is : {X E : Type 0} → (r : Result X E) (x : X) (Q : X → Type 0) → IfOk r (λ y. y ≡ x) → Q x → IfOk r Q

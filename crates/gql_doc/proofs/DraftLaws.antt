@@ -3,7 +3,6 @@ use Rattle.std.proofs.Common.{◌≡◌, ℕ, List, [], ◌∷◌, ◌++◌, Opt
 use Rattle.std.specs.List.{flat_map}
 use Rattle.std.proofs.lemmas.List.{map-append}
 use Rattle.gql_base.specs.Pairs.{names_of}
-use Rattle.gql_base.proofs.PairLemmas.{put-fresh}
 use Rattle.std.specs.Option.{option_or}
 use Rattle.gql_doc.specs.First.{first_in}
 use Rattle.gql_doc.specs.declared.document.Positioned.{Positioned}
@@ -16,12 +15,8 @@ use Rattle.gql_doc.specs.declared.tree.DefinitionTree.{DefinitionTree}
 use Rattle.gql_doc.specs.declared.tree.DefinitionTree.TheVariants.{Operation, Fragment}
 use Rattle.gql_doc.specs.NameRules.{name_in, operation_names, fragment_names, doubled_in_definition, doubled_among, doubled_name}
 use Rattle.gql_doc.specs.Building.{if_with_name, anonymous_of, named_of, fragments_of, operations_of, document_of}
-use Rattle.gql_doc.specs.Builds.{Builds, Refuses, IsFresh, put_named}
+use Rattle.gql_doc.specs.Builds.{Builds, Refuses}
 use Rattle.gql_doc.specs.Words.{PlacedName}
-
-pub put_named_fresh : {A : Type 0} → (ps : List (List ℕ × A)) (name : Option PlacedName) (x : A) → IsFresh name ps → put_named ps name x ≡ ps ++ if_with_name name x
-put_named_fresh ps None x fresh = sym (append-nil ps)
-put_named_fresh ps (Some name) x fresh = put-fresh ps name.node x fresh
 
 names_with : {A : Type 0} → (name : Option PlacedName) (x : A) → names_of (if_with_name name x) ≡ name_in name
 names_with None x = refl

@@ -75,18 +75,8 @@ joined F ms x y rest e h =
 pub before_seq : {A B : Type 0} → (P : A → Language) (Q : A → B → Language) (G H F : Tokens → Type 0) → Before P H F → ((a : A) → Before (Q a) G H) → Before (Seq P Q) G F
 before_seq P Q G H F one other v ms rest (a, x, y, e, p, q) after = joined F ms x y rest e (one a x (tokens_of y ++ rest) p (other a v y rest q after))
 
-pub before_past : {A B : Type 0} → (P : A → Language) (Q : B → Language) (G H F : Tokens → Type 0) → Before P H F → Before Q G H → Before (λ v. SomeOf P ▸ Q v) G F
-before_past P Q G H F one other v ms rest (x, y, e, (a, p), q) after = joined F ms x y rest e (one a x (tokens_of y ++ rest) p (other v y rest q after))
-
 pub before_map : {A B : Type 0} → (h : A → B) (P : A → Language) (G F : Tokens → Type 0) → Before P G F → Before (Map h P) G F
 before_map h P G F one v ms rest (a, k, p) after = one a ms rest p after
-
-pub before_pure : {A : Type 0} → (a : A) (G F : Tokens → Type 0) → ((rest : Tokens) → G rest → F rest) → Before (Pure a) G F
-before_pure a G F weaker v ms rest (k, nil) after = subst (λ w. F (tokens_of w ++ rest)) (sym nil) (weaker rest after)
-
-pub before_either : {A : Type 0} → (D E : A → Language) (G F : Tokens → Type 0) → Before D G F → Before E G F → Before (Either D E) G F
-before_either D E G F one other v ms rest (inl d) after = one v ms rest d after
-before_either D E G F one other v ms rest (inr e) after = other v ms rest e after
 
 pub before_each : {A : Type 0} → (D : A → Language) (G F : Tokens → Type 0) → Before D Always F → ((rest : Tokens) → G rest → F rest) → Before (Each D) G F
 before_each D G F one weaker [] ms rest nil after = subst (λ w. F (tokens_of w ++ rest)) (sym nil) (weaker rest after)
@@ -98,12 +88,6 @@ before_maybe D G F one weaker (Some v) ms rest d after = one v ms rest d tt
 
 pub sign_next : (sign : Punctuator) (G : Tokens → Type 0) → Before (SignAt sign) G (NextIs sign)
 sign_next sign G pos ms rest here after = subst (λ w. NextIs sign (tokens_of w ++ rest)) (sym here) (sign_same sign)
-
-pub before_sign : (sign : Punctuator) (signs : List Punctuator) (G : Tokens → Type 0) → NoneOf signs sign → Before (SignAt sign) G (Never signs)
-before_sign sign signs G others pos ms rest here after = never_next signs sign (tokens_of ms ++ rest) others (sign_next sign G pos ms rest here after)
-
-pub before_any : {A : Type 0} → (D : A → Language) (G : Tokens → Type 0) → Before D G Always
-before_any D G v ms rest d after = tt
 
 pub before_one : (l : Lexeme) (F : Tokens → Type 0) → ((pos : Pos) (rest : Tokens) → F (record { lexeme = l; pos = pos } ∷ rest)) → (ms : Word) (rest : Tokens) → One l ms → F (tokens_of ms ++ rest)
 before_one l F all ms rest (pos, here) = subst (λ w. F (tokens_of w ++ rest)) (sym here) (all pos rest)

@@ -2,7 +2,7 @@
 use Rattle.std.specs.Prelude.{◌≡◌, ℕ, List, [], ◌∷◌, ◌++◌, Option, Some, None, Result, Ok, Err}
 use Rattle.gql_base.specs.declared.pos.Pos.{Pos}
 use Rattle.gql_base.specs.declared.value.Value.{Value}
-use Rattle.gql_base.specs.Pairs.{under, put}
+use Rattle.gql_base.specs.Pairs.{under}
 use Rattle.std.specs.Option.{option_or}
 use Rattle.gql_doc.specs.declared.document.DocValue.{DocValue}
 use Rattle.gql_doc.specs.declared.trouble.BuildError.{BuildError}
@@ -54,11 +54,6 @@ doubled_among_members = first_behind (λ member. member.name.node ∷ []) double
 abbrev pub IsFresh : {A : Type 0} → Option PlacedName → List (List ℕ × A) → Type 0
 IsFresh None pairs = Unit {0}
 IsFresh (Some name) pairs = under name.node pairs ≡ None
-
--- the pairs once the name, if there is one, has this value
-abbrev pub put_named : {A : Type 0} → List (List ℕ × A) → Option PlacedName → A → List (List ℕ × A)
-put_named pairs None part = pairs
-put_named pairs (Some name) part = put pairs name.node part
 
 -- the place of a definition that is an operation without a name
 abbrev pub anonymous_in : DefinitionTree → Option Pos

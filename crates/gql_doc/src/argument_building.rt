@@ -5,7 +5,6 @@ ghost use Rattle.gql_doc.specs.Building.{argument_of, directive_of};
 ghost use Rattle.gql_doc.specs.Builds.{Builds};
 
 use crate::document::{Argument, Directive, Positioned};
-use crate::lists::room_for;
 use crate::tree::{ArgumentTree, DirectiveTree};
 use crate::trouble::BuildError;
 use crate::value_building::build_value;
@@ -19,7 +18,7 @@ pub fn build_arguments(
 ) -> Result<Items<Argument>, BuildError>
     ensures { Builds result (doubled_in_arguments trees) (map argument_of trees) }
 {
-    let mut arguments = room_for(alloc, trees.len())?;
+    let mut arguments = Items::with_capacity(alloc, trees.len())?;
     for tree in trees.into_vec() {
         arguments.push(build_argument(alloc, tree)?)?;
     }
@@ -48,7 +47,7 @@ pub fn build_directives(
 ) -> Result<Items<Positioned<Directive>>, BuildError>
     ensures { Builds result (doubled_in_directives trees) (map directive_of trees) }
 {
-    let mut directives = room_for(alloc, trees.len())?;
+    let mut directives = Items::with_capacity(alloc, trees.len())?;
     for tree in trees.into_vec() {
         directives.push(build_directive(alloc, tree)?)?;
     }

@@ -6,7 +6,6 @@ ghost use Rattle.gql_doc.specs.NameRules.{doubled_in_value};
 ghost use Rattle.gql_doc.specs.Building.{constant_of};
 ghost use Rattle.gql_doc.specs.Builds.{Builds, Adds, constant_member_of, doubled_in_member, doubled_among_members};
 
-use crate::lists::room_for;
 use crate::tree::{MemberTree, ValueTree};
 use crate::trouble::BuildError;
 use crate::value_building::refuse_taken;
@@ -36,7 +35,7 @@ pub fn build_constant(alloc: Global, tree: ValueTree) -> Result<Value, BuildErro
 fn build_constants(alloc: Global, trees: Items<ValueTree>) -> Result<Items<Value>, BuildError>
     ensures { Builds result (first_in doubled_in_value trees) (map constant_of trees) }
 {
-    let mut values = room_for(alloc, trees.len())?;
+    let mut values = Items::with_capacity(alloc, trees.len())?;
     for tree in trees.into_vec() {
         values.push(build_constant(alloc, tree)?)?;
     }
@@ -60,7 +59,7 @@ fn build_constant_members(
 
 /// Builds a member of an object behind the others.
 #[cycle(constant)]
-#[tactic(auto, using(crate::proofs::BuildLaws::put_fresh, crate::proofs::BuildLaws::first_of_both))]
+#[tactic(auto, using(crate::proofs::BuildLaws::first_of_both))]
 fn add_constant_member(
     alloc: Global,
     tree: MemberTree,
@@ -71,6 +70,6 @@ fn add_constant_member(
     let MemberTree { name, value } = tree;
     refuse_taken(members, &name.node, name.pos)?;
     let value = build_constant(alloc, value)?;
-    members.add(name.node, value)?;
+    members.add_fresh(name.node, value)?;
     Ok(())
 }

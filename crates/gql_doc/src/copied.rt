@@ -7,8 +7,7 @@ use crate::document::{
     Positioned, Selection, SelectionSet, VariableDefinition,
 };
 use crate::fault::{ParseFault, ParseKind};
-use crate::lists::room_for;
-use gql_base::{Copied, Items, Made, Name, Pairs};
+use gql_base::{Copied, Items, Made, Pairs};
 use std::alloc::Global;
 
 impl Copied for ParseKind {
@@ -181,7 +180,7 @@ fn copy_selections(
 ) -> Made<Items<Positioned<Selection>>>
     ensures { IfOk result (λ copies. copies ≡ selections.now) }
 {
-    let mut copies = room_for(alloc, selections.len())?;
+    let mut copies = Items::with_capacity(alloc, selections.len())?;
     for selection in selections {
         let node = copy_selection(alloc, &selection.node)?;
         copies.push(Positioned {
@@ -269,7 +268,7 @@ fn copy_value(alloc: Global, value: &DocValue) -> Made<DocValue>
 fn copy_values(alloc: Global, values: &[DocValue]) -> Made<Items<DocValue>>
     ensures { IfOk result (λ copies. copies ≡ values.now) }
 {
-    let mut copies = room_for(alloc, values.len())?;
+    let mut copies = Items::with_capacity(alloc, values.len())?;
     for value in values {
         copies.push(copy_value(alloc, value)?)?;
     }
@@ -277,14 +276,12 @@ fn copy_values(alloc: Global, values: &[DocValue]) -> Made<Items<DocValue>>
 }
 
 #[cycle(copy_value)]
-#[tactic(auto, using(gql_base::proofs::PairLemmas::put_more))]
 fn copy_members(alloc: Global, members: &Pairs<DocValue>) -> Made<Pairs<DocValue>>
     ensures { IfOk result (λ copies. copies ≡ members.now) }
 {
-    let mut copies = Pairs::new(alloc);
+    let mut values = Vec::with_capacity(alloc, members.len())?;
     for place in 0..members.len() {
-        let (name, value) = members.at(place);
-        copies.add(Name::new(alloc, name)?, copy_value(alloc, value)?)?;
+        values.push(copy_value(alloc, members.at(place).1)?)?;
     }
-    Ok(copies)
+    members.with_values(alloc, values)
 }

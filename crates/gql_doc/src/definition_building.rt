@@ -4,7 +4,7 @@ ghost use Rattle.gql_base.specs.Pairs.{names_of};
 ghost use Rattle.std.specs.Option.{option_or};
 ghost use Rattle.gql_doc.specs.NameRules.{if_among, if_named_among, doubled_in_operation, doubled_in_fragment, doubled_in_definition, doubled_name};
 ghost use Rattle.gql_doc.specs.Building.{operation_of, fragment_of, anonymous_of, named_of, fragments_of, operations_of, document_of, if_with_name, if_without_name};
-ghost use Rattle.gql_doc.specs.Builds.{Builds, Refuses, IsFresh, put_named};
+ghost use Rattle.gql_doc.specs.Builds.{Builds, Refuses, IsFresh};
 
 use crate::argument_building::build_directives;
 use crate::document::{
@@ -59,7 +59,7 @@ impl Draft {
     }
 
     /// Builds one more operation.
-    #[tactic(auto, using(crate::proofs::DraftLaws::put_named_fresh, crate::proofs::BuildLaws::first_of_both))]
+    #[tactic(auto, using(crate::proofs::BuildLaws::first_of_both))]
     fn add_operation(&mut self, alloc: Global, tree: OperationTree) -> Result<(), BuildError>
         ensures doubled { Refuses result (option_or (if_named_among (names_of self.old.named) tree.name tree.pos) (doubled_in_operation tree)) }
         ensures anonymous { OnOk result (self.new.anonymous ≡ option_or self.old.anonymous (if_without_name tree.name (operation_of tree))) }
@@ -72,18 +72,19 @@ impl Draft {
         Ok(())
     }
 
-    /// Keeps an operation.
+    /// Keeps an operation, whose name isn't taken.
     fn keep(
         &mut self,
         name: Option<Positioned<Name>>,
         operation: Positioned<OperationDefinition>,
     ) -> Made<()>
+        requires { IsFresh name self.old.named }
         ensures anonymous { OnOk result (self.new.anonymous ≡ option_or self.old.anonymous (if_without_name name operation)) }
-        ensures named { OnOk result (self.new.named ≡ put_named self.old.named name operation) }
+        ensures named { OnOk result (self.new.named ≡ self.old.named ++ if_with_name name operation) }
         ensures fragments { self.new.fragments ≡ self.old.fragments }
     {
         match name {
-            Some(name) => self.named.add(name.node, operation),
+            Some(name) => self.named.add_fresh(name.node, operation),
             None => {
                 if self.anonymous.is_none() {
                     self.anonymous = Some(operation);
@@ -94,7 +95,7 @@ impl Draft {
     }
 
     /// Builds one more fragment.
-    #[tactic(auto, using(crate::proofs::BuildLaws::put_fresh, crate::proofs::BuildLaws::first_of_both))]
+    #[tactic(auto, using(crate::proofs::BuildLaws::first_of_both))]
     fn add_fragment(&mut self, alloc: Global, tree: FragmentTree) -> Result<(), BuildError>
         ensures doubled { Refuses result (option_or (if_among (names_of self.old.fragments) tree.name.node tree.pos) (doubled_in_fragment tree)) }
         ensures anonymous { self.new.anonymous ≡ self.old.anonymous }
@@ -103,7 +104,7 @@ impl Draft {
     {
         refuse_taken(&self.fragments, &tree.name.node, tree.pos)?;
         let (name, fragment) = build_fragment(alloc, tree)?;
-        self.fragments.add(name.node, fragment)?;
+        self.fragments.add_fresh(name.node, fragment)?;
         Ok(())
     }
 

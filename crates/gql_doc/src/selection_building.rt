@@ -7,7 +7,6 @@ ghost use Rattle.gql_doc.specs.Builds.{Builds};
 
 use crate::argument_building::{build_arguments, build_directives};
 use crate::document::{Field, FragmentSpread, InlineFragment, Positioned, Selection, SelectionSet};
-use crate::lists::room_for;
 use crate::selections::pos_of;
 use crate::tree::SelectionTree;
 use crate::trouble::BuildError;
@@ -36,7 +35,7 @@ fn build_selections(
 ) -> Result<Items<Positioned<Selection>>, BuildError>
     ensures { Builds result (first_in doubled_in_selection trees) (map selection_of trees) }
 {
-    let mut selections = room_for(alloc, trees.len())?;
+    let mut selections = Items::with_capacity(alloc, trees.len())?;
     for tree in trees.into_vec() {
         selections.push(build_selection(alloc, tree)?)?;
     }

@@ -7,7 +7,6 @@ ghost use Rattle.gql_doc.specs.Building.{value_of};
 ghost use Rattle.gql_doc.specs.Builds.{Builds, Refuses, Adds, member_of, doubled_in_member, doubled_among_members};
 
 use crate::document::DocValue;
-use crate::lists::room_for;
 use crate::tree::{MemberTree, ValueTree};
 use crate::trouble::BuildError;
 use gql_base::{Items, Name, Pairs, Pos};
@@ -36,7 +35,7 @@ pub fn build_value(alloc: Global, tree: ValueTree) -> Result<DocValue, BuildErro
 fn build_values(alloc: Global, trees: Items<ValueTree>) -> Result<Items<DocValue>, BuildError>
     ensures { Builds result (first_in doubled_in_value trees) (map value_of trees) }
 {
-    let mut values = room_for(alloc, trees.len())?;
+    let mut values = Items::with_capacity(alloc, trees.len())?;
     for tree in trees.into_vec() {
         values.push(build_value(alloc, tree)?)?;
     }
@@ -57,7 +56,7 @@ fn build_members(alloc: Global, trees: Items<MemberTree>) -> Result<Pairs<DocVal
 
 /// Builds a member of an object behind the others.
 #[cycle(value)]
-#[tactic(auto, using(crate::proofs::BuildLaws::put_fresh, crate::proofs::BuildLaws::first_of_both))]
+#[tactic(auto, using(crate::proofs::BuildLaws::first_of_both))]
 fn add_member(
     alloc: Global,
     tree: MemberTree,
@@ -68,7 +67,7 @@ fn add_member(
     let MemberTree { name, value } = tree;
     refuse_taken(members, &name.node, name.pos)?;
     let value = build_value(alloc, value)?;
-    members.add(name.node, value)?;
+    members.add_fresh(name.node, value)?;
     Ok(())
 }
 

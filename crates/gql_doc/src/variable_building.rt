@@ -8,7 +8,6 @@ ghost use Rattle.gql_doc.specs.Builds.{Builds};
 use crate::argument_building::build_directives;
 use crate::constant_building::build_constant;
 use crate::document::{Positioned, VariableDefinition};
-use crate::lists::room_for;
 use crate::tree::{ValueTree, VariableTree};
 use crate::trouble::BuildError;
 use gql_base::{Items, Value};
@@ -21,7 +20,7 @@ pub fn build_variables(
 ) -> Result<Items<Positioned<VariableDefinition>>, BuildError>
     ensures { Builds result (first_in doubled_in_variable trees) (map variable_of trees) }
 {
-    let mut variables = room_for(alloc, trees.len())?;
+    let mut variables = Items::with_capacity(alloc, trees.len())?;
     for tree in trees.into_vec() {
         variables.push(build_variable(alloc, tree)?)?;
     }

@@ -1,4 +1,5 @@
-ghost use Rattle.std.specs.Prelude.{◌≡◌, []};
+ghost use Rattle.std.specs.Prelude.{◌≡◌, [], false};
+ghost use Rattle.gql_resolve.specs.Call.{is_mutation};
 
 use crate::occurrence::Occurrence;
 use crate::placing::place_at;
@@ -17,6 +18,7 @@ pub struct ApartPlan<'a, V> {
     pub arguments: Pairs<Value>,
     pub occurrences: Vec<Occurrence<'a>>,
     pub ghost bare: { arguments ≡ [] },
+    pub ghost query: { is_mutation scene.now.env.now.operation.node.ty ≡ false },
 }
 
 impl<'a, V: Drop> Plan<V> for ApartPlan<'a, V> {

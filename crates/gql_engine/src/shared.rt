@@ -1,15 +1,15 @@
-//! The public types can be moved to threads and shared between them, where what they are made of can.
-use crate::{Arena, Entered, Place, Scene, State, Tree, Turn, Waiting};
+//! Places, and the states of tasks, can be moved to threads and shared between them, where futures can.
+use crate::{Arena, Place, State, Tree, Waiting};
 
 fn shared<T: Send + Sync>() {}
 
-fn public_types<'a, F: Send + Sync, V: Send + Sync + 'a>() {
-    shared::<Arena<F>>();
-    shared::<Entered<V>>();
+fn places() {
     shared::<Place>();
-    shared::<Scene<'a, V>>();
-    shared::<State<F>>();
     shared::<Tree>();
-    shared::<Turn<V>>();
+}
+
+fn states<F: Send + Sync>() {
+    shared::<Arena<F>>();
+    shared::<State<F>>();
     shared::<Waiting>();
 }

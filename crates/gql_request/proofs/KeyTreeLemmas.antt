@@ -48,10 +48,10 @@ module _ (keys : List ℕ) (links : List (Option ℕ)) (tree : IsKeyTree keys li
         let within = slice_get_within keys place key here in
         let before : (at : ℕ) → at < place → (key == slice_index_or keys at 0) ≡ false
         = λ at earlier. not-true (key == slice_index_or keys at 0) (λ same.
-            let stands : slice_get keys at ≡ Some key =
-            slice_get-get_or keys at 0 (omega arith) ∙ ap (λ k. Some k) (sym (eqb-true key (slice_index_or keys at 0) same)) in
-            let later = leads-later at place bits (leads at stands) in
-            omega arith) in
+        let stands : slice_get keys at ≡ Some key =
+        slice_get-get_or keys at 0 (omega arith) ∙ ap (λ k. Some k) (sym (eqb-true key (slice_index_or keys at 0) same)) in
+        let later = leads-later at place bits (leads at stands) in
+        omega arith) in
         let there : (key == slice_index_or keys place 0) ≡ true = eq-eqb key _ (sym (get_or_from_slice_get keys place key 0 here)) in
         position_or_len_is (λ k. key == k) keys place 0 (omega arith) before (λ _. there)
 
@@ -60,9 +60,9 @@ module _ (keys : List ℕ) (links : List (Option ℕ)) (tree : IsKeyTree keys li
     found_nowhere other none =
         let before : (at : ℕ) → at < length keys → (key == slice_index_or keys at 0) ≡ false
         = λ at within. not-true (key == slice_index_or keys at 0) (λ same.
-            let stands : slice_get keys at ≡ Some key =
-            slice_get-get_or keys at 0 within ∙ ap (λ k. Some k) (sym (eqb-true key (slice_index_or keys at 0) same)) in
-            no-way links at place bits none (λ e. other (ap (slice_get keys) e ∙ stands)) (leads at stands)) in
+        let stands : slice_get keys at ≡ Some key =
+        slice_get-get_or keys at 0 within ∙ ap (λ k. Some k) (sym (eqb-true key (slice_index_or keys at 0) same)) in
+        no-way links at place bits none (λ e. other (ap (slice_get keys) e ∙ stands)) (leads at stands)) in
         let first : first_place key keys ≡ length keys = position_or_len_is (λ k. key == k) keys (length keys) 0 (omega arith) before (λ w. absurd (omega arith)) in
         omega arith
 
@@ -76,12 +76,14 @@ pub finds_on : (keys : List ℕ) (links : List (Option ℕ)) (key place bits nex
     → Finds keys links key next (bits / 2) result → Finds keys links key place bits result
 finds_on keys links key place bits next (At found) end finds = finds
 finds_on keys links key place bits next (Missing None) end finds = finds
-finds_on keys links key place bits next (Missing (Some link)) end (nowhere, ends) =
-    (nowhere, record {
-        within = ends.within;
-        free = ends.free;
-        leads = λ more goal extends there. GoesOn place bits next (extends (link_at place bits) next end) (ends.leads more goal extends there);
-      })
+finds_on keys links key place bits next (Missing (Some link)) end (nowhere, ends) = (
+  nowhere,
+  record {
+    within = ends.within;
+    free = ends.free;
+    leads = λ more goal extends there. GoesOn place bits next (extends (link_at place bits) next end) (ends.leads more goal extends there);
+  },
+)
 
 -- a way ends at a link that goes nowhere
 pub ends_here : (links : List (Option ℕ)) (place bits : ℕ) → link_at place bits < length links → end_of links (link_at place bits) ≡ None
@@ -158,11 +160,11 @@ module _ (keys : List ℕ) (links more : List (Option ℕ)) (tree : IsKeyTree ke
         reached = λ place other at. elim (cases_lt place (length keys)) [
           | inl before ↦ extended links more extends place 0 other (tree.reached place other (sym (get-front keys (key ∷ []) place before) ∙ at))
           | inr behind ↦ (
-            let last : place ≡ length keys = (let within = slice_get_within (keys ++ key ∷ []) place other at in omega arith) in
-            let same : Some key ≡ Some other = sym (get-last keys key) ∙ ap (slice_get (keys ++ key ∷ [])) (sym last) ∙ at in
-            let one : key ≡ other = cc in
-            subst (λ (k : ℕ). Leads more place 0 k) one (subst (λ (p : ℕ). Leads more p 0 key) (sym last) leads)
-          )
+              let last : place ≡ length keys = (let within = slice_get_within (keys ++ key ∷ []) place other at in omega arith) in
+              let same : Some key ≡ Some other = sym (get-last keys key) ∙ ap (slice_get (keys ++ key ∷ [])) (sym last) ∙ at in
+              let one : key ≡ other = cc in
+              subst (λ (k : ℕ). Leads more place 0 k) one (subst (λ (p : ℕ). Leads more p 0 key) (sym last) leads)
+              )
         ];
       }
 
@@ -172,9 +174,9 @@ module _ (keys : List ℕ) (links more : List (Option ℕ)) (tree : IsKeyTree ke
       let empty : length links ≡ 0 = ap length none in
       let no_key : length keys ≡ 0 = omega (arith, tree.two) in
       grown (ap length is ∙ omega arith)
-        (λ link next end. absurd (let e : end_of links link ≡ None = ap (λ ls. end_of ls link) none in cc))
-        (λ link next end. absurd (no-ends link next (ap (λ ls. end_of ls link) (sym is) ∙ end)))
-        (subst (λ (goal : ℕ). Leads more goal 0 key) (sym no_key) (Arrives key))
+      (λ link next end. absurd (let e : end_of links link ≡ None = ap (λ ls. end_of ls link) none in cc))
+      (λ link next end. absurd (no-ends link next (ap (λ ls. end_of ls link) (sym is) ∙ end)))
+      (subst (λ (goal : ℕ). Leads more goal 0 key) (sym no_key) (Arrives key))
 
   -- a key at a link
   grown-at : (link : ℕ) → Ends links 0 key link → more ≡ slice_set links link (Some (length keys)) ++ None ∷ None ∷ [] → IsKeyTree (keys ++ key ∷ []) more
@@ -183,8 +185,8 @@ module _ (keys : List ℕ) (links more : List (Option ℕ)) (tree : IsKeyTree ke
       let long : length more ≡ length links + 2 = ap length is ∙ length-append set (None ∷ None ∷ []) ∙ ap (λ n. n + 2) (length-set links link (Some (length keys))) in
       let extends : Extends links more = λ at next end. ap (λ ls. end_of ls at) is ∙ kept links at link next (Some (length keys)) (None ∷ None ∷ []) end ends.free in
       grown long extends
-        (λ at next end. only links at link next (length keys) ends.within (ap (λ ls. end_of ls at) (sym is) ∙ end))
-        (ends.leads more (length keys) extends (ap (λ ls. end_of ls link) is ∙ set-here links link (Some (length keys)) (None ∷ None ∷ []) ends.within))
+      (λ at next end. only links at link next (length keys) ends.within (ap (λ ls. end_of ls at) (sym is) ∙ end))
+      (ends.leads more (length keys) extends (ap (λ ls. end_of ls link) is ∙ set-here links link (Some (length keys)) (None ∷ None ∷ []) ends.within))
 
 -- a key at the end of its way makes a tree of the tree
 pub grown_end : (keys keys' : List ℕ) (links set half more : List (Option ℕ)) (key place : ℕ) (end : Option ℕ) → IsKeyTree keys links → EndsAt links 0 key end

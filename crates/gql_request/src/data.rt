@@ -104,7 +104,12 @@ impl Data {
         let Data { tree, values } = other;
         self.values.reserve(values.len())?;
         self.tree.reserve(tree.keys.len(), tree.links.len())?;
-        put_all(&mut self.tree, &mut self.values, tree.keys.as_slice(), values);
+        put_all(
+            &mut self.tree,
+            &mut self.values,
+            tree.keys.as_slice(),
+            values,
+        );
         Ok(())
     }
 

@@ -20,11 +20,7 @@ pub struct RecordEntry {
 
 impl RecordEntry {
     /// The entry of a task's turn.
-    pub fn of<V>(
-        alloc: Global,
-        context: &ResolverContext<'_, V>,
-        ready: bool,
-    ) -> Made<RecordEntry>
+    pub fn of<V>(alloc: Global, context: &ResolverContext<'_, V>, ready: bool) -> Made<RecordEntry>
         ensures { IfOk result (λ entry. entry ≡ entry_of context.now ready) }
     {
         let path = context.path_node.text(alloc)?;

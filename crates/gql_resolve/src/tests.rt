@@ -15,35 +15,33 @@ use http_header::{HeaderName, HeaderValue};
 use std::alloc::Global;
 use std::test::Fail;
 
-/// Starts a resolver and polls it until it answers.
-fn answer_of<R: ResolverSet>(
+/// Starts a resolver and polls its future once, as a root of a mutation or not.
+fn first_answer<R: ResolverSet>(
     alloc: Global,
     set: &mut R,
     call: &ResolverContext<'_, R::Own>,
-) -> Made<Answer<R::Own>> {
+    root: bool,
+) -> Made<Polled<R::Own>> {
     match set.start(alloc, call)? {
-        FieldFuture::Value(value) => Ok(Answer {
-            result: Ok(value),
-            added: Items::new(alloc),
-            headers: Items::new(alloc),
-        }),
-        FieldFuture::Future(future) => polled(alloc, set, future, call),
+        FieldFuture::Value(_) => Ok(Polled::Pending),
+        FieldFuture::Future(mut future) => polled(alloc, set, &mut future, call, root),
     }
 }
 
-/// Polls a future, as a root of a mutation, until it answers.
+/// Polls a future once, as a root of a mutation or not.
 fn polled<R: ResolverSet>(
     alloc: Global,
     set: &mut R,
-    mut future: R::Future,
+    future: &mut R::Future,
     call: &ResolverContext<'_, R::Own>,
-) -> Made<Answer<R::Own>>
-    requires { R.is_for future (call_of call.now) }
+    root: bool,
+) -> Made<Polled<R::Own>>
+    requires { R.is_for future.old (call_of call.now) }
 {
-    loop {
-        if let Polled::Ready(answer) = set.poll_root(alloc, &mut future, call)? {
-            return Ok(answer);
-        }
+    if root {
+        set.poll_root(alloc, future, call)
+    } else {
+        set.poll(alloc, future, call)
     }
 }
 
@@ -55,48 +53,53 @@ fn own_of(answer: &Answer<u64>) -> Option<u64> {
     }
 }
 
+fn ready_own(polled: &Polled<u64>) -> Option<u64> {
+    match polled {
+        Polled::Ready(answer) => own_of(answer),
+        Polled::Pending => None,
+    }
+}
+
 /// The number that a set answers, asked as its bounds allow.
 fn asked<R: ResolverSet<Own = u64>>(
     alloc: Global,
     set: &mut R,
     call: &ResolverContext<'_, u64>,
+    root: bool,
 ) -> Made<Option<u64>> {
-    let answer = answer_of(alloc, set, call)?;
-    Ok(own_of(&answer))
+    let polled = first_answer(alloc, set, call, root)?;
+    Ok(ready_own(&polled))
 }
 
-/// Whether an entry is of task 3, resolver 7 and the path `2.5`.
-fn is_of_the_task(entry: &RecordEntry, ready: bool) -> bool {
-    let path = entry.path.as_str() == "2.5";
-    path && entry.task == 3 && entry.resolver == 7 && entry.ready == ready
+fn has_path(entry: &RecordEntry) -> bool {
+    entry.path.as_str() == "2.5"
 }
 
-/// Whether a set that waits for one poll has told a pending and then a ready entry.
+/// Whether an entry is a ready one of task 3, resolver 7 and the path `2.5`.
+fn is_of_the_task(entry: &RecordEntry) -> bool {
+    entry.task == 3 && entry.resolver == 7 && entry.ready && has_path(entry)
+}
+
+/// Whether a set has told two ready entries, and that two tasks began.
 fn told_two(set: &Echo) -> bool {
     match set.entries.as_slice() {
-        [first, second] => is_of_the_task(first, false) && is_of_the_task(second, true),
+        [first, second] => {
+            set.begun.len() == 2 && is_of_the_task(first) && is_of_the_task(second)
+        }
         _ => false,
     }
 }
 
-#[test]
-fn a_set_through_its_bound(rt: HostRuntime) -> Result<(), Fail> {
-    let parts = Parts::new(rt.alloc(), OperationType::Mutation)?;
-    let mut set = Echo::new(rt.alloc(), 1);
-    assert_eq!(rt; asked(rt.alloc(), &mut set, &parts.context())?, Some(7));
-    assert_eq!(rt; set.snapshot(rt.alloc())?, 7);
-    assert!(rt; told_two(&set));
-    assert_eq!(rt; set.begun.as_slice(), [3].as_slice());
-    Ok(())
-}
-
-fn picked<P: Turns>(turns: &mut P) -> usize {
-    turns.pick(5)
-}
-
-#[test]
-fn turns_through_their_bound(rt: HostRuntime) {
-    assert_eq!(rt; picked(&mut Last), 4);
+/// Whether a set that doesn't wait answers its resolver's number at the first poll, which is its world after a root, and
+/// tells each poll.
+fn echoes(alloc: Global, call: &ResolverContext<'_, u64>) -> Made<bool> {
+    let mut set = Echo::new(alloc, 0);
+    let root = asked(alloc, &mut set, call, true);
+    let other = asked(alloc, &mut set, call, false);
+    let world = set.snapshot(alloc);
+    let told = told_two(&set);
+    drop(set);
+    Ok(root? == Some(7) && other? == Some(7) && world? == 7 && told)
 }
 
 /// Whether a key has the truth value true.
@@ -109,13 +112,37 @@ fn has_one<'a, C: DataContext<'a>>(context: &C) -> bool {
     is_true(context, DataKey(1)) && context.data_opt(DataKey(2)).is_none()
 }
 
+/// Whether a copy of an entry of the task is one too.
+fn is_copied(alloc: Global, call: &ResolverContext<'_, u64>) -> Made<bool> {
+    let entry = RecordEntry::of(alloc, call, true)?;
+    let copy = entry.try_clone(alloc);
+    drop(entry);
+    let copy = copy?;
+    Ok(is_of_the_task(&copy))
+}
+
+/// Whether a context's data, its entries and a set that is asked with it are as they have to be.
+fn serves(alloc: Global, call: &ResolverContext<'_, u64>) -> Made<bool> {
+    let data = has_one(call) && has_one::<Layers<'_>>(&call.layers);
+    Ok(data && is_copied(alloc, call)? && echoes(alloc, call)?)
+}
+
 #[test]
-fn data_through_their_bound(rt: HostRuntime) -> Result<(), Fail> {
-    let parts = Parts::new(rt.alloc(), OperationType::Query)?;
-    let context = parts.context();
-    assert!(rt; has_one(&context));
-    assert!(rt; has_one::<Layers<'_>>(&context.layers));
+fn what_a_context_serves(rt: HostRuntime) -> Result<(), Fail> {
+    let parts = Parts::new(rt.alloc(), OperationType::Mutation)?;
+    let held = serves(rt.alloc(), &parts.context());
+    drop(parts);
+    assert!(rt; held?);
     Ok(())
+}
+
+fn picked<P: Turns>(turns: &mut P) -> usize {
+    turns.pick(5)
+}
+
+#[test]
+fn turns_through_their_bound(rt: HostRuntime) {
+    assert_eq!(rt; picked(&mut Last), 4);
 }
 
 /// Whether each reader of what a resolver gave reads its own kind alone.
@@ -182,34 +209,20 @@ fn is_whole(answer: &Answer<u64>) -> bool {
         && own_of(answer) == Some(3)
 }
 
-/// Whether a poll gave that answer.
-fn gave_whole(polled: &Polled<u64>) -> bool {
-    match polled {
-        Polled::Ready(answer) => is_whole(answer),
-        Polled::Pending => false,
+/// Whether a copy of a poll that gave that answer gives it too.
+fn is_copied_whole(alloc: Global) -> Made<bool> {
+    let polled = Polled::Ready(answer(alloc)?);
+    let copy = polled.try_clone(alloc);
+    drop(polled);
+    match copy? {
+        Polled::Ready(answer) => Ok(is_whole(&answer)),
+        Polled::Pending => Ok(false),
     }
 }
 
 #[test]
 fn answers_and_their_copies(rt: HostRuntime) -> Result<(), Fail> {
-    let polled = Polled::Ready(answer(rt.alloc())?);
-    assert!(rt; gave_whole(&polled));
-    let copy = polled.try_clone(rt.alloc())?;
-    assert!(rt; gave_whole(&copy));
-    Ok(())
-}
-
-/// Whether a copy of an entry of the task is one too.
-fn is_copied(alloc: Global, call: &ResolverContext<'_, u64>) -> Made<bool> {
-    let entry = RecordEntry::of(alloc, call, true)?;
-    let copy = entry.try_clone(alloc)?;
-    Ok(is_of_the_task(&copy, true))
-}
-
-#[test]
-fn entries_and_their_copies(rt: HostRuntime) -> Result<(), Fail> {
-    let parts = Parts::new(rt.alloc(), OperationType::Query)?;
-    assert!(rt; is_copied(rt.alloc(), &parts.context())?);
+    assert!(rt; is_copied_whole(rt.alloc())?);
     Ok(())
 }
 

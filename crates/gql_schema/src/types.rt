@@ -1,18 +1,25 @@
-ghost use Rattle.std.specs.Prelude.{◌≡◌, [], OnOk, OnErr};
-ghost use Rattle.gql_base.specs.Pairs.{under, put};
+ghost use Rattle.std.specs.Prelude.{◌≡◌, ◌↔◌, [], ◌<◌, length, slice_get, IfOk, IsTrue, OnOk, OnErr, Some};
+ghost use Rattle.std.specs.Option.{option_copied};
+ghost use Rattle.gql_base.specs.Pairs.{under, put, values_of, HasDistinctNames};
+ghost use Rattle.gql_schema.specs.Keyed.{IsKeyed};
 
+use crate::by_name::ByName;
+use crate::checks::first_refusal;
+use crate::same::Same;
+use crate::scalar::Scalar;
+use crate::scalar_rule::ScalarRule;
+use crate::schema_error::SchemaError;
 use crate::schema_type::SchemaType;
-use gql_base::{Made, Name, Pairs};
+use gql_base::{Copied, Made};
 use std::alloc::Global;
 
 /// The table of a schema's types. The types stand in the order of their registration.
 #[derive(Debug, Drop)]
 pub struct Types {
-    table: Pairs<SchemaType>,
+    table: ByName<SchemaType>,
 }
 
 impl Types {
-    ghost use Rattle.std.specs.Option.{option_copied};
     ghost use Rattle.gql_schema.specs.Types.{type_name};
     ghost use Rattle.gql_schema.specs.Table.{types_of};
 
@@ -21,7 +28,7 @@ impl Types {
         ensures { types_of result ≡ [] }
     {
         Types {
-            table: Pairs::new(alloc),
+            table: ByName::new(alloc),
         }
     }
 
@@ -30,8 +37,7 @@ impl Types {
         ensures ok { OnOk result (types_of self.new ≡ put (types_of self.old) (type_name ty) ty) }
         ensures err { OnErr result (self.new ≡ self.old) }
     {
-        let name = Name::new(alloc, ty.name())?;
-        self.table.add(name, ty)
+        self.table.put(alloc, ty)
     }
 
     /// The type of this name, or none where there is no such type.
@@ -39,5 +45,65 @@ impl Types {
         ensures { option_copied result ≡ under name.now (types_of self.now) }
     {
         self.table.get(name)
+    }
+
+    /// The number of types. Their keys are their own names, which differ.
+    pub fn len(&self) -> usize
+        ensures length { result ≡ length (types_of self.now) }
+        ensures keyed { IsKeyed type_name (types_of self.now) }
+        ensures distinct { HasDistinctNames (types_of self.now) }
+    {
+        self.table.len()
+    }
+
+    /// The type at a place, counted from 0.
+    pub fn at(&self, index: usize) -> &SchemaType
+        requires { index < length (types_of self.now) }
+        ensures { slice_get (values_of (types_of self.now)) index ≡ Some result.now }
+    {
+        let (_, ty) = self.table.at(index);
+        ty
+    }
+
+    /// True exactly where both tables are equal.
+    pub fn equals(&self, other: &Types) -> bool
+        ensures { IsTrue result ↔ (self.now ≡ other.now) }
+    {
+        self.table.same(&other.table)
+    }
+}
+
+impl Types {
+    ghost use Rattle.gql_schema.specs.Table.{types_of};
+    ghost use Rattle.gql_schema.specs.Finished.{IsFinished};
+    ghost use Rattle.gql_schema.specs.Sound.{with_built_in, with_scalar};
+
+    /// The table with the scalars that every schema has, where no rule is broken, and else the first refusal.
+    pub fn finish(self, alloc: Global) -> Made<Result<Types, SchemaError>>
+        ensures { IfOk result (λ finished. IsFinished (with_built_in (types_of self)) finished) }
+    {
+        let mut types = self;
+        types.register_scalar(alloc, "Int", ScalarRule::Int)?;
+        types.register_scalar(alloc, "String", ScalarRule::Text)?;
+        types.register_scalar(alloc, "Boolean", ScalarRule::Bool)?;
+        types.register_scalar(alloc, "ID", ScalarRule::Id)?;
+        match first_refusal(alloc, &types)? {
+            Some(error) => Ok(Err(error)),
+            None => Ok(Ok(types)),
+        }
+    }
+
+    fn register_scalar(&mut self, alloc: Global, name: &str, rule: ScalarRule) -> Made<()>
+        ensures { OnOk result (types_of self.new ≡ with_scalar (types_of self.old) name.now rule) }
+    {
+        let scalar = Scalar::new(alloc, name)?.rule(rule);
+        self.register(alloc, SchemaType::Scalar(scalar))
+    }
+}
+
+impl Copied for Types {
+    fn try_clone(&self, alloc: Global) -> Made<Types> {
+        let table = self.table.try_clone(alloc)?;
+        Ok(Types { table })
     }
 }

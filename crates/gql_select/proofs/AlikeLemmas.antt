@@ -42,7 +42,7 @@ given_or_not name test (x ∷ xs) all =
     either (bytes_eq x.name.node name) ((given name (x ∷ xs) ≡ None) ⊎ ((a : Argument) × (test a ≡ true) × (a.name.node ≡ name)))
     (λ e. inr (x, parts.0, (bytes_decides x.name.node name).0 e))
     (λ e. let past : given name (x ∷ xs) ≡ given name xs = rw e refl in
-      elim (given_or_not name test xs parts.1) [ inl none ↦ inl (past ∙ none) | inr there ↦ inr there ])
+    elim (given_or_not name test xs parts.1) [ inl none ↦ inl (past ∙ none) | inr there ↦ inr there ])
 
 all_append : {A : Type 0} (test : A → Bool) (xs ys : List A) → list_all test (xs ++ ys) ≡ true → (list_all test xs ≡ true) × (list_all test ys ≡ true)
 all_append test [] ys all = (refl, all)

@@ -94,7 +94,7 @@ module _ {O F X : Type 0} (reading : Reading O F X) (is : IsReading reading) whe
     taken_on m g taken =
         either (reading.alike m g) (IsTaken f (both_alike reading m g))
         (λ e. subst (IsTaken f) (sym (merged_in m g e))
-          (λ same. subst (Within (reading.set f)) (sym (is.set_of_both m g)) (within_more (reading.set f) (reading.set m) (reading.set g) (taken (sym (is.alike_both m g f) ∙ same)))))
+        (λ same. subst (Within (reading.set f)) (sym (is.set_of_both m g)) (within_more (reading.set f) (reading.set m) (reading.set g) (taken (sym (is.alike_both m g f) ∙ same)))))
         (λ e. subst (IsTaken f) (sym (left_out m g e)) taken)
 
     taken_itself : IsTaken f f
@@ -111,7 +111,7 @@ module _ {O F X : Type 0} (reading : Reading O F X) (is : IsReading reading) whe
     found_field ps (g ∷ fs) (zero, within, at) =
         subst (λ h. Found (reading.key f) (IsTaken f) (unite_all (both_alike reading) (unite (both_alike reading) ps (reading.key h) h) (keyed reading fs))) (sym at)
         (found_after (reading.key f) (both_alike reading) (IsTaken f) taken_on (unite (both_alike reading) ps (reading.key f) f) (keyed reading fs)
-          (found_new (reading.key f) (both_alike reading) (IsTaken f) f taken_itself taken_new ps))
+        (found_new (reading.key f) (both_alike reading) (IsTaken f) f taken_itself taken_new ps))
     found_field ps (g ∷ fs) (suc k, within, at) =
         found_field (unite (both_alike reading) ps (reading.key g) g) fs (k, omega arith, at)
 
@@ -134,7 +134,7 @@ module _ {O F X : Type 0} (reading : Reading O F X) (is : IsReading reading) whe
     none_differs (g ∷ fs) none f (zero, within, at) e =
         either (reading.alike m.1 f) (reading.alike m.1 f ≡ true) (λ a. a)
         (λ a. let one : first_differing reading told m (g ∷ fs) ≡ told g ∷ []
-          = differs_first g fs (ap (λ h. bytes_eq (reading.key h) m.0) at ∙ e) (ap (reading.alike m.1) at ∙ a) in cc)
+        = differs_first g fs (ap (λ h. bytes_eq (reading.key h) m.0) at ∙ e) (ap (reading.alike m.1) at ∙ a) in cc)
     none_differs (g ∷ fs) none f (suc k, within, at) e = none_differs fs (none_later g fs none) f (k, omega arith, at) e
 
   -- parts of a set that agrees with itself agree
@@ -157,13 +157,14 @@ module _ {O F X : Type 0} (reading : Reading O F X) (is : IsReading reading) whe
       found_together (reading.key f) (IsTaken f) (IsTaken g) S G ms (found_field f [] fs in_f)
       (subst (λ k. Found k (IsTaken g) ms) (sym same) (found_field g [] fs in_g)) all
       (λ m e one two nothing.
-        let like_f : reading.alike m.1 f ≡ true = none_differs told m fs (nothing_first (first_differing reading told m fs) _ nothing) f in_f e in
-        let like_g : reading.alike m.1 g ≡ true
-        = none_differs told m fs (nothing_first (first_differing reading told m fs) _ nothing) g in_g (ap (λ k. bytes_eq k m.0) (sym same) ∙ e) in
-        (is.alike_through f m.1 g (is.alike_turned m.1 f like_f) like_g,
+      let like_f : reading.alike m.1 f ≡ true = none_differs told m fs (nothing_first (first_differing reading told m fs) _ nothing) f in_f e in
+      let like_g : reading.alike m.1 g ≡ true
+      = none_differs told m fs (nothing_first (first_differing reading told m fs) _ nothing) g in_g (ap (λ k. bytes_eq k m.0) (sym same) ∙ e) in (
+        is.alike_through f m.1 g (is.alike_turned m.1 f like_f) like_g,
         λ inner at.
-          let beneath : conflicts reading told n inner (reading.set m.1) ≡ []
-          = each_at (λ i. conflicts reading told n i (reading.set m.1) ≡ []) (reading.objects o m.1) inner
+            let beneath : conflicts reading told n inner (reading.set m.1) ≡ []
+            = each_at (λ i. conflicts reading told n i (reading.set m.1) ≡ []) (reading.objects o m.1) inner
             (nothing_each (λ i. conflicts reading told n i (reading.set m.1)) (reading.objects o m.1) (nothing_second (first_differing reading told m fs) _ nothing))
             (subst (λ os. Contains os inner) (sym (is.objects_of_alike o m.1 f like_f)) at) in
-          agree_within n inner (reading.set f) (reading.set g) (reading.set m.1) (one like_f) (two like_g) (agree_from told n inner (reading.set m.1) beneath)))
+            agree_within n inner (reading.set f) (reading.set g) (reading.set m.1) (one like_f) (two like_g) (agree_from told n inner (reading.set m.1) beneath),
+      ))

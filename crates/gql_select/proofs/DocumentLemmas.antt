@@ -43,9 +43,9 @@ both_of_both f g h =
     let node : with_selections (with_selections f.node (own_selections f ++ own_selections g)) (own_selections (both f g) ++ own_selections h)
     ≡ with_selections f.node (own_selections f ++ own_selections (both g h))
     = with-with f.node (own_selections f ++ own_selections g) (own_selections (both f g) ++ own_selections h)
-      ∙ ap (with_selections f.node)
-      (ap (λ xs. xs ++ own_selections h) (set_of_both f g) ∙ append_assoc (own_selections f) (own_selections g) (own_selections h)
-      ∙ ap (λ xs. own_selections f ++ xs) (sym (set_of_both g h))) in
+    ∙ ap (with_selections f.node)
+    (ap (λ xs. xs ++ own_selections h) (set_of_both f g) ∙ append_assoc (own_selections f) (own_selections g) (own_selections h)
+    ∙ ap (λ xs. own_selections f ++ xs) (sym (set_of_both g h))) in
     λ i. record { pos = f.pos; node = node i }
 
 collect_both : (setting : Setting) (n : ℕ) (o : List ℕ) (xs ys : List (Positioned Selection))

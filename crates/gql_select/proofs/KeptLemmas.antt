@@ -50,13 +50,13 @@ module _ (known : List ℕ → Value) where
   selection-Spread : (spread : Positioned FragmentSpread)
       → kept_selection known (selection.FragmentSpread spread)
       ≡ kept_if known spread.node.directives
-        (selection.FragmentSpread (record { pos = spread.pos; node = record spread.node { directives = others spread.node.directives } }))
+      (selection.FragmentSpread (record { pos = spread.pos; node = record spread.node { directives = others spread.node.directives } }))
   selection-Spread spread = search (rules, the_lemmas)
 
   selection-Inline : (fragment : Positioned InlineFragment)
       → kept_selection known (selection.InlineFragment fragment)
       ≡ kept_if known (out-InlineFragment (kept_inline known fragment.node)).directives
-        (selection.InlineFragment (record { pos = fragment.pos; node = other_inline known (kept_inline known fragment.node) }))
+      (selection.InlineFragment (record { pos = fragment.pos; node = other_inline known (kept_inline known fragment.node) }))
   selection-Inline fragment = search (rules, the_lemmas)
 
   inline_condition : (fragment : InlineFragment)
@@ -143,7 +143,7 @@ module _ (known : List ℕ → Value) (setting : Setting) where
     from_fragment o (Some fragment) f at =
         origin_if (setting.covers fragment.node.type_condition.node o) _ (collect_within setting n o (selections_of (fragment_set fragment))) f
         (λ h. below o (selections_of (fragment_set fragment)) f
-          (subst (λ xs. Contains (collect_within (kept_setting known setting) n o xs) f) (set_items known fragment.node.selection_set.node) h))
+        (subst (λ xs. Contains (collect_within (kept_setting known setting) n o xs) f) (set_items known fragment.node.selection_set.node) h))
         at
 
     from_inline : (o : List ℕ) (condition : Option (Positioned (List ℕ))) (xs : List (Positioned Selection)) (f : Positioned Field)
@@ -161,7 +161,7 @@ module _ (known : List ℕ → Value) (setting : Setting) where
         let node_is : node ≡ selection.Field field = sym (roll-out-Selection node) ∙ ap roll-Selection e ∙ rolls-Field field in
         let M : Option Selection → Type 0 = λ s. Contains (maybe_fields o (if_kept known (record { pos = pos; node = s }))) f in
         let in_one = if_there (is_kept known (out-Field (kept_field known field.node)).directives) o pos (selection.Field (kept_occurrence known field)) f
-          (subst M (ap (kept_selection known) node_is ∙ selection-Field known field) at) in
+        (subst M (ap (kept_selection known) node_is ∙ selection-Field known field) at) in
         let opened : out-Selection (selection.Field (kept_occurrence known field)) ≡ Selection-F.Field (kept_occurrence known field) = search (rules, the_lemmas) in
         let F : Selection-F Selection Field InlineFragment SelectionSet → Type 0
         = λ layer. Contains (fields_of (kept_setting known setting) o (collect_within (kept_setting known setting) n o) layer) f in
@@ -171,7 +171,7 @@ module _ (known : List ℕ → Value) (setting : Setting) where
         let M : Option Selection → Type 0 = λ s. Contains (maybe_fields o (if_kept known (record { pos = pos; node = s }))) f in
         let left : Positioned FragmentSpread = record { pos = spread.pos; node = record spread.node { directives = others spread.node.directives } } in
         let in_one = if_there (is_kept known spread.node.directives) o pos (selection.FragmentSpread left) f
-          (subst M (ap (kept_selection known) node_is ∙ selection-Spread known spread) at) in
+        (subst M (ap (kept_selection known) node_is ∙ selection-Spread known spread) at) in
         let opened : out-Selection (selection.FragmentSpread left) ≡ Selection-F.FragmentSpread left = search (rules, the_lemmas) in
         let F : Selection-F Selection Field InlineFragment SelectionSet → Type 0
         = λ layer. Contains (fields_of (kept_setting known setting) o (collect_within (kept_setting known setting) n o) layer) f in
@@ -184,7 +184,7 @@ module _ (known : List ℕ → Value) (setting : Setting) where
         let M : Option Selection → Type 0 = λ s. Contains (maybe_fields o (if_kept known (record { pos = pos; node = s }))) f in
         let left : Positioned InlineFragment = record { pos = fragment.pos; node = other_inline known (kept_inline known fragment.node) } in
         let in_one = if_there (is_kept known (out-InlineFragment (kept_inline known fragment.node)).directives) o pos (selection.InlineFragment left) f
-          (subst M (ap (kept_selection known) node_is ∙ selection-Inline known fragment) at) in
+        (subst M (ap (kept_selection known) node_is ∙ selection-Inline known fragment) at) in
         let opened : out-Selection (selection.InlineFragment left) ≡ Selection-F.InlineFragment left = search (rules, the_lemmas) in
         let F : Selection-F Selection Field InlineFragment SelectionSet → Type 0
         = λ layer. Contains (fields_of (kept_setting known setting) o (collect_within (kept_setting known setting) n o) layer) f in
@@ -193,7 +193,7 @@ module _ (known : List ℕ → Value) (setting : Setting) where
         let here : I (out-InlineFragment left.node).type_condition (selections_of (out-InlineFragment left.node).selection_set) = subst F opened in_one in
         let moved : I (out-InlineFragment fragment.node).type_condition (kept known (selections_of (out-InlineFragment fragment.node).selection_set))
         = subst (λ xs. I (out-InlineFragment fragment.node).type_condition xs) (inline_items known fragment.node)
-          (subst (λ condition. I condition (selections_of (out-InlineFragment left.node).selection_set)) (inline_condition known fragment.node) here) in
+        (subst (λ condition. I condition (selections_of (out-InlineFragment left.node).selection_set)) (inline_condition known fragment.node) here) in
         from_inline o (out-InlineFragment fragment.node).type_condition (selections_of (out-InlineFragment fragment.node).selection_set) f moved
 
     by_selections : (o : List ℕ) (xs : List (Positioned Selection)) (f : Positioned Field)
@@ -203,7 +203,7 @@ module _ (known : List ℕ → Value) (setting : Setting) where
         let one : Option (Positioned Selection) = if_kept known (record { pos = s.pos; node = kept_selection known s.node }) in
         let here : List (Positioned Field) = fields_of setting o (collect_within setting n o) (out-Selection s.node) in
         let cases = Contains-append_cases (maybe_fields o one) (flat_map (kept_fields o) (kept known xs)) f
-          (subst (λ fs. Contains fs f) (flat_cons o one (kept known xs)) at) in
+        (subst (λ fs. Contains fs f) (flat_cons o one (kept known xs)) at) in
         elim cases as (λ _. Origin (here ++ collect_within setting (suc n) o xs) f) [
           | inl h ↦ origin_left here (collect_within setting (suc n) o xs) f (by_layer o s.pos s.node (out-Selection s.node) refl f h)
           | inr h ↦ origin_right here (collect_within setting (suc n) o xs) f (by_selections o xs f h)
@@ -238,12 +238,14 @@ module _ (known : List ℕ → Value) (setting : Setting) where
       let h = agree from_f.source from_g.source from_f.there from_g.there keys in
       let G : Positioned Field → Positioned Field → Type 0
       = λ f g. (alike f g ≡ true) × ((inner : List ℕ) → Contains (setting.beneath o (name_of f)) inner
-          → Agree (reading (kept_setting known setting)) n inner (own_selections f) (own_selections g)) in
+      → Agree (reading (kept_setting known setting)) n inner (own_selections f) (own_selections g)) in
       let kept_pair : G (kept_occurrence known from_f.source) (kept_occurrence known from_g.source)
-      = (alike_kept from_f.source from_g.source h.0,
+      = (
+        alike_kept from_f.source from_g.source h.0,
         λ inner at.
-          (subst (λ xs. Agree (reading (kept_setting known setting)) n inner xs (own_selections (kept_occurrence known from_g.source))) (sym (field_items known from_f.source.node))
+            (subst (λ xs. Agree (reading (kept_setting known setting)) n inner xs (own_selections (kept_occurrence known from_g.source))) (sym (field_items known from_f.source.node))
             (subst (λ ys. Agree (reading (kept_setting known setting)) n inner (kept known (own_selections from_f.source)) ys) (sym (field_items known from_g.source.node))
-              (agree_kept n inner (own_selections from_f.source) (own_selections from_g.source)
-                (h.1 inner (subst (λ m. Contains (setting.beneath o m.node) inner) (field_name known from_f.source.node) at)))))) in
+            (agree_kept n inner (own_selections from_f.source) (own_selections from_g.source)
+            (h.1 inner (subst (λ m. Contains (setting.beneath o m.node) inner) (field_name known from_f.source.node) at))))),
+      ) in
       subst (λ e. G e g) (sym from_f.is_kept) (subst (λ e. G (kept_occurrence known from_f.source) e) (sym from_g.is_kept) kept_pair)

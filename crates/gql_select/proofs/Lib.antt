@@ -7,3 +7,4 @@ pub mod LawProofs
 pub mod MergeLemmas
 pub mod SerialLemmas
 pub mod UnitingLemmas
+pub mod Rows

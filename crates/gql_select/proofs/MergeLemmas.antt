@@ -36,7 +36,7 @@ module _ {O F X : Type 0} (reading : Reading O F X) (is : IsReading reading) whe
     fit_from f g same beneath = record {
       alike = same;
       beneath = λ inner at. let h = beneath inner at in
-        agree_whole reading is n inner (reading.set f) (reading.set g) h.0.0 h.0.1 h.1.0 h.1.1;
+          agree_whole reading is n inner (reading.set f) (reading.set g) h.0.0 h.0.1 h.1.0 h.1.1;
     }
 
     fit_parts : (f g : F) → Fit n o f g → (inner : O) → Contains (reading.objects o f) inner
@@ -46,9 +46,10 @@ module _ {O F X : Type 0} (reading : Reading O F X) (is : IsReading reading) whe
         let xs : List X = reading.set f in let ys : List X = reading.set g in
         let h : Agree reading n inner (xs ++ ys) (xs ++ ys) = fit.beneath inner at in
         let one : Agree reading n inner xs (xs ++ ys) = agree_left_one reading is n inner xs ys (xs ++ ys) h in
-        let two : Agree reading n inner ys (xs ++ ys) = agree_left_two reading is n inner xs ys (xs ++ ys) h in
-        ((agree_right_one reading is n inner xs ys xs one, agree_right_two reading is n inner xs ys xs one),
-        (agree_right_one reading is n inner xs ys ys two, agree_right_two reading is n inner xs ys ys two))
+        let two : Agree reading n inner ys (xs ++ ys) = agree_left_two reading is n inner xs ys (xs ++ ys) h in (
+          (agree_right_one reading is n inner xs ys xs one, agree_right_two reading is n inner xs ys xs one),
+          (agree_right_one reading is n inner xs ys ys two, agree_right_two reading is n inner xs ys ys two),
+        )
 
     at_alike : (f g : F) (inner : O) → reading.alike f g ≡ true → Contains (reading.objects o f) inner → Contains (reading.objects o g) inner
     at_alike f g inner same at = subst (λ os. Contains os inner) (is.objects_of_alike o f g same) at
@@ -60,23 +61,25 @@ module _ {O F X : Type 0} (reading : Reading O F X) (is : IsReading reading) whe
     fit_left a b c ab ac bc =
         fit_from (reading.both a b) c (is.alike_both a b c ∙ ac.alike)
         (λ inner at'. let at : Contains (reading.objects o a) inner = at_both a b inner at' in
-          let xy = fit_parts a b ab inner at in let xz = fit_parts a c ac inner at in let yz = fit_parts b c bc inner (at_alike a b inner ab.alike at) in
-          let xs : List X = reading.set a in let ys : List X = reading.set b in let zs : List X = reading.set c in
-          let G : List X → Type 0 = λ ws. (Agree reading n inner ws ws × Agree reading n inner ws zs) × (Agree reading n inner zs ws × Agree reading n inner zs zs) in
-          subst G (sym (is.set_of_both a b))
-          ((agree_whole reading is n inner xs ys xy.0.0 xy.0.1 xy.1.0 xy.1.1, agree_left reading is n inner xs ys zs xz.0.1 yz.0.1),
-          (agree_right reading is n inner xs ys zs xz.1.0 yz.1.0, xz.1.1)))
+        let xy = fit_parts a b ab inner at in let xz = fit_parts a c ac inner at in let yz = fit_parts b c bc inner (at_alike a b inner ab.alike at) in
+        let xs : List X = reading.set a in let ys : List X = reading.set b in let zs : List X = reading.set c in
+        let G : List X → Type 0 = λ ws. (Agree reading n inner ws ws × Agree reading n inner ws zs) × (Agree reading n inner zs ws × Agree reading n inner zs zs) in
+        subst G (sym (is.set_of_both a b)) (
+          (agree_whole reading is n inner xs ys xy.0.0 xy.0.1 xy.1.0 xy.1.1, agree_left reading is n inner xs ys zs xz.0.1 yz.0.1),
+          (agree_right reading is n inner xs ys zs xz.1.0 yz.1.0, xz.1.1),
+        ))
 
     fit_right : (a b c : F) → Fit n o a b → Fit n o a c → Fit n o b c → Fit n o a (reading.both b c)
     fit_right a b c ab ac bc =
         fit_from a (reading.both b c) (is.both_alike a b c ∙ ab.alike)
-        (λ inner at. 
-          let xy = fit_parts a b ab inner at in let xz = fit_parts a c ac inner at in let yz = fit_parts b c bc inner (at_alike a b inner ab.alike at) in
-          let xs : List X = reading.set a in let ys : List X = reading.set b in let zs : List X = reading.set c in
-          let G : List X → Type 0 = λ ws. (Agree reading n inner xs xs × Agree reading n inner xs ws) × (Agree reading n inner ws xs × Agree reading n inner ws ws) in
-          subst G (sym (is.set_of_both b c))
-          ((xy.0.0, agree_right reading is n inner ys zs xs xy.0.1 xz.0.1),
-          (agree_left reading is n inner ys zs xs xy.1.0 xz.1.0, agree_whole reading is n inner ys zs yz.0.0 yz.0.1 yz.1.0 yz.1.1)))
+        (λ inner at.
+        let xy = fit_parts a b ab inner at in let xz = fit_parts a c ac inner at in let yz = fit_parts b c bc inner (at_alike a b inner ab.alike at) in
+        let xs : List X = reading.set a in let ys : List X = reading.set b in let zs : List X = reading.set c in
+        let G : List X → Type 0 = λ ws. (Agree reading n inner xs xs × Agree reading n inner xs ws) × (Agree reading n inner ws xs × Agree reading n inner ws ws) in
+        subst G (sym (is.set_of_both b c)) (
+          (xy.0.0, agree_right reading is n inner ys zs xs xy.0.1 xz.0.1),
+          (agree_left reading is n inner ys zs xs xy.1.0 xz.1.0, agree_whole reading is n inner ys zs yz.0.0 yz.0.1 yz.1.0 yz.1.1),
+        ))
 
     -- fields of a set that agrees with itself fit where they have one key
     fit_in : (set : List X) → Agree reading (suc n) o set set → (f g : F) → Contains (reading.fields o set) f → Contains (reading.fields o set) g
@@ -86,22 +89,24 @@ module _ {O F X : Type 0} (reading : Reading O F X) (is : IsReading reading) whe
         let gf = agree g f in_g in_f (sym same) in
         fit_from f g fg.0
         (λ inner at. let at' : Contains (reading.objects o g) inner = at_alike f g inner fg.0 at in
-          (((agree f f in_f in_f refl).1 inner at, fg.1 inner at), (gf.1 inner at', (agree g g in_g in_g refl).1 inner at')))
+        (((agree f f in_f in_f refl).1 inner at, fg.1 inner at), (gf.1 inner at', (agree g g in_g in_g refl).1 inner at')))
 
     -- all that stands in a list fits with this field where it has its key
     each_fits : (set : List X) → Agree reading (suc n) o set set → (f : F) → Contains (reading.fields o set) f → (gs : List F)
         → ((g : F) → Contains gs g → Contains (reading.fields o set) g) → EachUnder (reading.key f) (Fit n o f) (keyed reading gs)
     each_fits set agree f in_f [] within = tt
-    each_fits set agree f in_f (g ∷ gs) within =
-        ((λ e. fit_in set agree f g in_f (within g (first_in g gs)) (sym ((bytes_decides (reading.key g) (reading.key f)).0 e))),
-        each_fits set agree f in_f gs (λ h at. within h (later_in g h gs at)))
+    each_fits set agree f in_f (g ∷ gs) within = (
+      (λ e. fit_in set agree f g in_f (within g (first_in g gs)) (sym ((bytes_decides (reading.key g) (reading.key f)).0 e))),
+      each_fits set agree f in_f gs (λ h at. within h (later_in g h gs at)),
+    )
 
     pub among_in : (set : List X) → Agree reading (suc n) o set set → (fs : List F) → ((f : F) → Contains fs f → Contains (reading.fields o set) f)
         → Among (Fit n o) (keyed reading fs)
     among_in set agree [] within = tt
-    among_in set agree (f ∷ fs) within =
-        (each_fits set agree f (within f (first_in f fs)) fs (λ g at. within g (later_in f g fs at)),
-        among_in set agree fs (λ g at. within g (later_in f g fs at)))
+    among_in set agree (f ∷ fs) within = (
+      each_fits set agree f (within f (first_in f fs)) fs (λ g at. within g (later_in f g fs at)),
+      among_in set agree fs (λ g at. within g (later_in f g fs at)),
+    )
 
     meet_in : (set : List X) → Agree reading (suc n) o set set → (fs gs : List F) → ((f : F) → Contains fs f → Contains (reading.fields o set) f)
         → ((g : F) → Contains gs g → Contains (reading.fields o set) g) → Meet (Fit n o) (keyed reading fs) (keyed reading gs)
@@ -117,14 +122,14 @@ module _ {O P F X Pl : Type 0} (reading : Reading O F X) (is : IsReading reading
 
   module _ (n : ℕ) (o : O) (p : P)
       (below : (inner : O) (parent : P) (xs ys : List X) → Agree reading n inner (xs ++ ys) (xs ++ ys)
-        → grouped reading place n inner parent (xs ++ ys) ≡ unite_all join (grouped reading place n inner parent xs) (grouped reading place n inner parent ys)) where
+      → grouped reading place n inner parent (xs ++ ys) ≡ unite_all join (grouped reading place n inner parent xs) (grouped reading place n inner parent ys)) where
     -- the place of two fields that fit is that of each, joined
     place_both : (f g : F) → Fit reading is n o f g → place_at n o p (reading.both f g) ≡ join (place_at n o p f) (place_at n o p g)
     unfolding place_at
     place_both f g fit =
         placing.same o p (reading.both f g) _ _
         (λ inner parent at. ap (grouped reading place n inner parent) (is.set_of_both f g)
-          ∙ below inner parent (reading.set f) (reading.set g) (fit.beneath inner (subst (λ os. Contains os inner) (is.objects_of_both o f g) at)))
+        ∙ below inner parent (reading.set f) (reading.set g) (fit.beneath inner (subst (λ os. Contains os inner) (is.objects_of_both o f g) at)))
         ∙ sym (placing.joins o p f g _ _ fit.alike)
 
     -- the places of merged fields are the joined places of the fields
@@ -150,7 +155,7 @@ module _ {O P F X Pl : Type 0} (reading : Reading O F X) (is : IsReading reading
         ap (λ fs. over v (merged reading fs)) (is.fields_of_both o xs ys)
         ∙ ap (λ ps. over v (unite_all reading.both [] ps)) (keyed-append reading is one two)
         ∙ ap (over v) (unite_all-append reading.both [] (keyed reading one) (keyed reading two)
-          ∙ sym (unite_all_into reading.both is.both_of_both (merged reading one) [] (keyed reading two) tt))
+        ∙ sym (unite_all_into reading.both is.both_of_both (merged reading one) [] (keyed reading two) tt))
         ∙ places_united (merged reading one) (merged reading two) meets (among_distinct R (merged reading two) (distinct_united reading.both [] (keyed reading two) tt))
 
   -- merged execution of two sets that agree is that of each, joined
@@ -172,5 +177,5 @@ module _ {O P F X Pl : Type 0} (reading : Reading O F X) (is : IsReading reading
       let fs : List F = reading.fields o set in
       ap (unite_all join [])
       (over_same (λ f. place o p f (λ inner parent. respond reading place join n inner parent (reading.set f))) (place_at n o p) fs
-        (λ f in_f. placing.same o p f _ _ (λ inner parent at. respond_grouped n inner parent (reading.set f) ((agree f f in_f in_f refl).1 inner at))))
+      (λ f in_f. placing.same o p f _ _ (λ inner parent at. respond_grouped n inner parent (reading.set f) ((agree f f in_f in_f refl).1 inner at))))
       ∙ sym (places_united n o p (grouped_both n) [] (keyed reading fs) tt (among_in reading is n o set agree fs (λ f at. at)))

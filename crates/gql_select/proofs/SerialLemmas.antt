@@ -24,7 +24,7 @@ module _ {O F X : Type 0} (reading : Reading O F X) (is : IsReading reading) (n 
       → AgreesBeneath (reading.both p.1 q.1)
   beneath_both p q e fit one two =
       λ inner at. subst (λ xs. Agree reading n inner xs xs) (sym (is.set_of_both p.1 q.1))
-        (fit.beneath inner (subst (λ os. Contains os inner) (is.objects_of_both o p.1 q.1) at))
+      (fit.beneath inner (subst (λ os. Contains os inner) (is.objects_of_both o p.1 q.1) at))
 
   -- beneath the merged fields of a set that agrees with itself all agrees
   pub merged_agree : (set : List X) → Agree reading (suc n) o set set → AllByRecursion (λ p. AgreesBeneath p.1) (merged reading (reading.fields o set))
@@ -46,5 +46,5 @@ module _ {O P F X Pl W : Type 0} (reading : Reading O F X) (is : IsReading readi
   serial_same n o p set world agree =
       in_turn_same effect _ _ (AgreesBeneath reading is n o)
       (λ w v f beneath. (placing w).same o p f _ _
-        (λ inner parent at. respond_grouped reading is (place v) join (placing v) n inner parent (reading.set f) (beneath inner at)))
+      (λ inner parent at. respond_grouped reading is (place v) join (placing v) n inner parent (reading.set f) (beneath inner at)))
       world (merged reading (reading.fields o set)) (merged_agree reading is n o set agree)

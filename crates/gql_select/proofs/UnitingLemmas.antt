@@ -57,9 +57,9 @@ module _ {T : Type 0} (j : T → T → T) where
   unite_twice assoc (p ∷ ps) k v w =
       either (bytes_eq k p.0) (unite j (unite j (p ∷ ps) k v) k w ≡ unite j (p ∷ ps) k (j v w))
       (λ e. ap (λ qs. unite j qs k w) (unite_here p ps k v e) ∙ unite_here (p.0, j p.1 v) ps k w e
-        ∙ ap (λ a. (p.0, a) ∷ ps) (assoc p.1 v w) ∙ sym (unite_here p ps k (j v w) e))
+      ∙ ap (λ a. (p.0, a) ∷ ps) (assoc p.1 v w) ∙ sym (unite_here p ps k (j v w) e))
       (λ e. ap (λ qs. unite j qs k w) (unite_past p ps k v e) ∙ unite_past p (unite j ps k v) k w e
-        ∙ ap (λ qs. p ∷ qs) (unite_twice assoc ps k v w) ∙ sym (unite_past p ps k (j v w) e))
+      ∙ ap (λ qs. p ∷ qs) (unite_twice assoc ps k v w) ∙ sym (unite_past p ps k (j v w) e))
 
   -- values under two keys, the second of which stands already
   unite_swap : (ps : List (List ℕ × T)) (a b : List ℕ) (x y : T) → bytes_eq a b ≡ false → Stands b ps
@@ -69,15 +69,15 @@ module _ {T : Type 0} (j : T → T → T) where
       let G : Type 0 = unite j (unite j (p ∷ ps) a x) b y ≡ unite j (unite j (p ∷ ps) b y) a x in
       either (bytes_eq a p.0) G
       (λ e. either (bytes_eq b p.0) G
-        (λ f. absurd (never_differs a b ((bytes_decides a p.0).0 e ∙ sym ((bytes_decides b p.0).0 f)) apart))
-        (λ f. ap (λ qs. unite j qs b y) (unite_here p ps a x e) ∙ unite_past (p.0, j p.1 x) ps b y f
-          ∙ sym (ap (λ qs. unite j qs a x) (unite_past p ps b y f) ∙ unite_here p (unite j ps b y) a x e)))
+      (λ f. absurd (never_differs a b ((bytes_decides a p.0).0 e ∙ sym ((bytes_decides b p.0).0 f)) apart))
+      (λ f. ap (λ qs. unite j qs b y) (unite_here p ps a x e) ∙ unite_past (p.0, j p.1 x) ps b y f
+      ∙ sym (ap (λ qs. unite j qs a x) (unite_past p ps b y f) ∙ unite_here p (unite j ps b y) a x e)))
       (λ e. either (bytes_eq b p.0) G
-        (λ f. ap (λ qs. unite j qs b y) (unite_past p ps a x e) ∙ unite_here p (unite j ps a x) b y f
-          ∙ sym (ap (λ qs. unite j qs a x) (unite_here p ps b y f) ∙ unite_past (p.0, j p.1 y) ps a x e))
-        (λ f. ap (λ qs. unite j qs b y) (unite_past p ps a x e) ∙ unite_past p (unite j ps a x) b y f
-          ∙ ap (λ qs. p ∷ qs) (unite_swap ps a b x y apart (s f))
-          ∙ sym (ap (λ qs. unite j qs a x) (unite_past p ps b y f) ∙ unite_past p (unite j ps b y) a x e)))
+      (λ f. ap (λ qs. unite j qs b y) (unite_past p ps a x e) ∙ unite_here p (unite j ps a x) b y f
+      ∙ sym (ap (λ qs. unite j qs a x) (unite_here p ps b y f) ∙ unite_past (p.0, j p.1 y) ps a x e))
+      (λ f. ap (λ qs. unite j qs b y) (unite_past p ps a x e) ∙ unite_past p (unite j ps a x) b y f
+      ∙ ap (λ qs. p ∷ qs) (unite_swap ps a b x y apart (s f))
+      ∙ sym (ap (λ qs. unite j qs a x) (unite_past p ps b y f) ∙ unite_past p (unite j ps b y) a x e)))
 
   -- what is under no name of a list isn't its head's, and isn't in its tail
   absent_head : (k : List ℕ) (p : List ℕ × T) (ps : List (List ℕ × T)) → under k (p ∷ ps) ≡ None → bytes_eq k p.0 ≡ false
@@ -121,7 +121,7 @@ module _ {T : Type 0} (j : T → T → T) where
       either (bytes_eq k r.0) (HasDistinctNames (unite j (r ∷ rs) k v))
       (λ e. subst HasDistinctNames (sym (unite_here r rs k v e)) (d.0, d.1))
       (λ e. subst HasDistinctNames (sym (unite_past r rs k v e))
-        (absent_united r.0 rs k v (flip_differs k r.0 e) d.0, distinct_unite rs k v d.1))
+      (absent_united r.0 rs k v (flip_differs k r.0 e) d.0, distinct_unite rs k v d.1))
 
   pub distinct_united : (rs qs : List (List ℕ × T)) → HasDistinctNames rs → HasDistinctNames (unite_all j rs qs)
   distinct_united rs [] d = d
@@ -135,10 +135,10 @@ module _ {T : Type 0} (j : T → T → T) where
         let G : Type 0 = unite_all j ps (unite j (r ∷ rs) k c) ≡ unite j (unite_all j ps (r ∷ rs)) k c in
         either (bytes_eq k r.0) G
         (λ e. let same : k ≡ r.0 = (bytes_decides k r.0).0 e in
-          ap (unite_all j ps) (unite_here r rs k c e)
-          ∙ ap (λ qs. unite_all j qs rs) (sym (unite_twice assoc ps r.0 r.1 c) ∙ ap (λ m. unite j (unite j ps r.0 r.1) m c) (sym same))
-          ∙ unite_late (unite j ps r.0 r.1) rs k c (subst (λ m. Stands m (unite j ps r.0 r.1)) (sym same) (stands_put ps r.0 r.1))
-            (ap (λ m. under m rs) same ∙ d.0))
+        ap (unite_all j ps) (unite_here r rs k c e)
+        ∙ ap (λ qs. unite_all j qs rs) (sym (unite_twice assoc ps r.0 r.1 c) ∙ ap (λ m. unite j (unite j ps r.0 r.1) m c) (sym same))
+        ∙ unite_late (unite j ps r.0 r.1) rs k c (subst (λ m. Stands m (unite j ps r.0 r.1)) (sym same) (stands_put ps r.0 r.1))
+        (ap (λ m. under m rs) same ∙ d.0))
         (λ e. ap (unite_all j ps) (unite_past r rs k c e) ∙ unite_into (unite j ps r.0 r.1) rs k c d.1)
 
     -- pairs may be united among themselves before they come to others
@@ -217,10 +217,12 @@ module _ {T : Type 0} (j : T → T → T) where
       module _ (right : (a b c : T) → R a b → R a c → R b c → R a (j b c)) where
         pub meet_united : (ps qs : List (List ℕ × T)) → Meet R ps qs → Among R qs → Meet R ps (unite_all j [] qs)
         meet_united [] qs meet among = tt
-        meet_united (p ∷ ps) qs meet among =
-            ((each_united (λ q. bytes_eq q.0 p.0 ≡ true → R p.1 q.1)
+        meet_united (p ∷ ps) qs meet among = (
+          (each_united (λ q. bytes_eq q.0 p.0 ≡ true → R p.1 q.1)
               (λ q r e related one two f. right p.1 q.1 r.1 (one f) (two (ap (λ n. bytes_eq n p.0) ((bytes_decides r.0 q.0).0 e) ∙ f)) related)
-              [] qs tt among tt meet.0), meet_united ps qs meet.1 among)
+              [] qs tt among tt meet.0),
+          meet_united ps qs meet.1 among,
+        )
 
       -- what meets some pairs meets them once it is united
       pub meet_united_left : (qs rs : List (List ℕ × T)) → Meet R qs rs → Among R qs → Meet R (unite_all j [] qs) rs
@@ -237,9 +239,9 @@ module _ {T : Type 0} (j : T → T → T) where
             let G : Type 0 = over v (unite j (p ∷ ps) q.0 q.1) ≡ unite j' (over v (p ∷ ps)) q.0 (v q.1) in
             either (bytes_eq q.0 p.0) G
             (λ e. ap (over v) (unite_here j p ps q.0 q.1 e) ∙ ap (λ a. (p.0, a) ∷ over v ps) (fits p.1 q.1 (meets.0 e))
-              ∙ sym (unite_here j' (p.0, v p.1) (over v ps) q.0 (v q.1) e))
+            ∙ sym (unite_here j' (p.0, v p.1) (over v ps) q.0 (v q.1) e))
             (λ e. ap (over v) (unite_past j p ps q.0 q.1 e) ∙ ap (λ qs. (p.0, v p.1) ∷ qs) (over_unite ps q meets.1)
-              ∙ sym (unite_past j' (p.0, v p.1) (over v ps) q.0 (v q.1) e))
+            ∙ sym (unite_past j' (p.0, v p.1) (over v ps) q.0 (v q.1) e))
 
         -- the values of united pairs are the united values
         pub over_united : (ps qs : List (List ℕ × T)) → Meet R ps qs → Among R qs
@@ -253,9 +255,10 @@ module _ {T : Type 0} (j : T → T → T) where
 module _ {T : Type 0} (R : T → T → Type 0) where
   none_under : (k : List ℕ) (a : T) (qs : List (List ℕ × T)) → under k qs ≡ None → EachUnder k (R a) qs
   none_under k a [] none = tt
-  none_under k a (q ∷ qs) none =
-      ((λ e. absurd (never_differs k q.0 (sym ((bytes_decides q.0 k).0 e)) (absent_head (λ x y. x) k q qs none)))
-      , none_under k a qs (absent_tail (λ x y. x) k q qs none))
+  none_under k a (q ∷ qs) none = (
+    (λ e. absurd (never_differs k q.0 (sym ((bytes_decides q.0 k).0 e)) (absent_head (λ x y. x) k q qs none))),
+    none_under k a qs (absent_tail (λ x y. x) k q qs none),
+  )
 
   pub among_distinct : (qs : List (List ℕ × T)) → HasDistinctNames qs → Among R qs
   among_distinct [] d = tt

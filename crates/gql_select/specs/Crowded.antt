@@ -23,8 +23,8 @@ crowded_from fragments limit zero set = None
 crowded_from fragments limit (suc left) set =
     first_in
     (λ selection.
-      option_or (crowded_here limit (out-Selection selection.node))
-      (option_and_then (crowded_from fragments limit left) (set_beneath fragments selection)))
+    option_or (crowded_here limit (out-Selection selection.node))
+    (option_and_then (crowded_from fragments limit left) (set_beneath fragments selection)))
     (selections_of set)
 
 -- the first field of a document's operations with more directives than the limit, where sets nest within so many levels

@@ -20,9 +20,9 @@ module _ {O P F X Pl : Type 0} (reading : Reading O F X) (place : O → P → F 
 
     pub record IsPlacing : Type 0 where
       pub same : (o : O) (p : P) (f : F) (b c : O → P → List (List ℕ × Pl))
-        → ((inner : O) (parent : P) → Contains (reading.objects o f) inner → b inner parent ≡ c inner parent) → place o p f b ≡ place o p f c
+          → ((inner : O) (parent : P) → Contains (reading.objects o f) inner → b inner parent ≡ c inner parent) → place o p f b ≡ place o p f c
       pub joins : (o : O) (p : P) (f g : F) (b c : O → P → List (List ℕ × Pl)) → reading.alike f g ≡ true
-        → join (place o p f b) (place o p g c) ≡ place o p (reading.both f g) (λ inner parent. unite_all join (b inner parent) (c inner parent))
+          → join (place o p f b) (place o p g c) ≡ place o p (reading.both f g) (λ inner parent. unite_all join (b inner parent) (c inner parent))
 
 -- the fields of a mutation's root, one after another (section 6.2.2): each is answered in the world that those before it left, and what
 -- is beneath it in the world that it leaves itself

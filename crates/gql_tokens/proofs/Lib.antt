@@ -4,6 +4,7 @@ pub mod BlockEnds
 pub mod BlockLaws
 pub mod GapLaws
 pub mod LexerLaws
+pub mod NameLaws
 pub mod NumberLaws
 pub mod NumeralLaws
 pub mod PlaceLaws

@@ -6,9 +6,11 @@ use Rattle.gql_tokens.specs.declared.token.Punctuator.{Punctuator}
 use Rattle.gql_tokens.specs.declared.token.Punctuator.TheVariants as punctuators
 use Rattle.gql_tokens.specs.declared.token.Lexeme.{Lexeme}
 use Rattle.gql_tokens.specs.declared.token.Lexeme.TheVariants as lexemes
-use Rattle.gql_tokens.specs.Characters.{is_line_character, is_name_part}
+use Rattle.gql_base.specs.Letters.{is_name_part}
+use Rattle.gql_tokens.specs.Characters.{is_line_character}
 use Rattle.gql_tokens.specs.Place.{ends_line, next_place, place_after}
 use Rattle.gql_tokens.specs.Token.{characters_of, Spells}
+use Rattle.gql_tokens.proofs.NameLaws.{name_parts}
 use Rattle.gql_tokens.proofs.Lists.{Each, each_same, each_weaker, take_at_item, drop_at_item}
 
 pub place_after-append : (place : Pos) (a b rest : List ℕ) → place_after place (a ++ b) rest ≡ place_after (place_after place a (b ++ rest)) b rest
@@ -66,4 +68,4 @@ pub place_after_unbroken : (place : Pos) (l : Lexeme) (cs rest : List ℕ) → S
 place_after_unbroken place l cs rest h (inl e) =
     place_after_plain place cs rest (each_same is_line_character (sym (subst (λ k. Spells k cs) e.1 h)) (punctuator_plain e.0))
 place_after_unbroken place l cs rest h (inr e) =
-    place_after_plain place cs rest (each_weaker is_name_part is_line_character cs name_plain (subst (λ k. Spells k cs) e.1 h).0.1)
+    place_after_plain place cs rest (each_weaker is_name_part is_line_character cs name_plain (name_parts cs (subst (λ k. Spells k cs) e.1 h).0))

@@ -7,13 +7,15 @@ use Rattle.gql_tokens.specs.declared.token.Punctuator.{Punctuator}
 use Rattle.gql_tokens.specs.declared.token.Punctuator.TheVariants as punctuators
 use Rattle.gql_tokens.specs.declared.token.Lexeme.{Lexeme}
 use Rattle.gql_tokens.specs.declared.token.Lexeme.TheVariants as lexemes
-use Rattle.gql_tokens.specs.Characters.{is_source, is_name_part}
+use Rattle.gql_base.specs.Letters.{is_name_part}
+use Rattle.gql_tokens.specs.Characters.{is_source}
 use Rattle.gql_tokens.specs.Gap.{Passes, IsGap}
 use Rattle.gql_tokens.specs.Number.{begins_exponent, is_sign, IsDigits, IsWhole, IsInteger, IsFraction, IsPower, IsExponent, IsFloat, Optional}
 use Rattle.gql_tokens.specs.String.{escaped, WritesCharacter, WritesCharacters, IsString}
 use Rattle.gql_tokens.specs.Block.{Piece, written, ArePieces, IsBlockString, three_quotes}
 use Rattle.gql_tokens.specs.Block.Piece.{itself, quotes}
 use Rattle.gql_tokens.specs.Token.{characters_of, Spells}
+use Rattle.gql_tokens.proofs.NameLaws.{name_parts}
 use Rattle.gql_tokens.proofs.Lists.{Each, each_same, each_append, each_weaker}
 
 passes_source : (b : Bool) (c : ℕ) (d : Bool) → Passes b c d → is_source c ≡ true
@@ -115,7 +117,7 @@ punctuator_source punctuators.CloseBrace = (refl, tt)
 
 pub spelling_source : (l : Lexeme) (cs : List ℕ) → Spells l cs → Each is_source cs
 spelling_source (lexemes.Punctuator p) cs h = each_same is_source (sym h) (punctuator_source p)
-spelling_source (lexemes.Name n) cs h = each_weaker is_name_part is_source cs name_source h.0.1
+spelling_source (lexemes.Name n) cs h = each_weaker is_name_part is_source cs name_source (name_parts cs h.0)
 spelling_source (lexemes.Number n) cs h = integer_source cs h.0
 spelling_source (lexemes.String s) cs (v, inl h, e) = string_source v cs h
 spelling_source (lexemes.String s) cs (v, inr h, e) = block_source v cs h

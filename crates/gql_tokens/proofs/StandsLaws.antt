@@ -7,7 +7,8 @@ use Rattle.gql_tokens.specs.declared.token.Punctuator.{Punctuator}
 use Rattle.gql_tokens.specs.declared.token.Punctuator.TheVariants as punctuators
 use Rattle.gql_tokens.specs.declared.token.Lexeme.{Lexeme}
 use Rattle.gql_tokens.specs.declared.token.Lexeme.TheVariants as lexemes
-use Rattle.gql_tokens.specs.Characters.{quote, full_stop, is_name_start, is_name_part, begins}
+use Rattle.gql_base.specs.Letters.{is_name_start, is_name_part}
+use Rattle.gql_tokens.specs.Characters.{quote, full_stop, begins}
 use Rattle.gql_tokens.specs.Name.{IsName}
 use Rattle.gql_tokens.specs.Number.{IsInteger, IsFloat, IsSupported, integer_of, is_bad_after_number}
 use Rattle.gql_tokens.specs.String.{IsString}
@@ -17,6 +18,7 @@ use Rattle.gql_tokens.specs.Lexer.{Finishes}
 use Rattle.gql_tokens.specs.Parts.{IsNumeral, IsNumeralAt, OnlyFront, NoString, IsStringAt, IsUnended, IsBlockAt, StandsAt}
 use Rattle.gql_tokens.proofs.Lists.{head_is, tail_is, begins_so, begins_not, Each, each_back, begins_take, run_passes, run_stops, run_some}
 use Rattle.gql_tokens.proofs.NumeralLaws.{numeral_longer}
+use Rattle.gql_tokens.proofs.NameLaws.{name_start_part, name_parts, is_named}
 use Rattle.gql_tokens.proofs.StringLaws.{string_unique}
 use Rattle.gql_tokens.proofs.BlockLaws.{block_unique, starts_gives, pieces_before}
 use Rattle.gql_tokens.proofs.TokenLaws.{Class, class_of, begins_class, is_punctuation, class_unique, spelling_begins, punctuator_begins, string_at_quotes}
@@ -95,9 +97,6 @@ module _ (text : List ℕ) (n : ℕ) where
   longer_class k first other c more after e h =
       class_is k other (take n text ++ c ∷ more) h (token_begins (begins_class k) other text (take n text ++ c ∷ more) after h (longer_front c more after e) first)
 
-name_start_part : (c : ℕ) → is_name_start c ≡ true → is_name_part c ≡ true
-name_start_part c h = grind (arith, nat_tests)
-
 -- a name
 pub stands_name : (text : List ℕ) (n : ℕ) → begins is_name_start text ≡ true → n ≡ prefix_len is_name_part text
     → StandsAt (lexemes.Name (encode_utf8_all (take n text))) n text
@@ -105,10 +104,10 @@ unfolding begins_class
 stands_name text n first e = inr (
   subst (λ k. k ≤ length text) (sym e) (prefix_len-le-length is_name_part text),
   record {
-    spelled = ((begins_take is_name_start n text first some, passes), refl);
+    spelled = (is_named (take n text) (begins_take is_name_start n text first some) passes, refl);
     longest = λ other c more after is h.
         let longer = spelled_name other (take n text ++ c ∷ more) h (longer_class text n naming first other c more after is h) in
-        let part = each_back is_name_part (take n text) (c ∷ more) longer.1 in
+        let part = each_back is_name_part (take n text) (c ∷ more) (name_parts (take n text ++ c ∷ more) longer) in
         let stop = begins_not is_name_part (drop n text) c (more ++ after) stops is in
         let p = part.0 in cc;
     ends = tt;

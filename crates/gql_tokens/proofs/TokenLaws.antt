@@ -6,11 +6,13 @@ use Rattle.gql_tokens.specs.declared.token.Punctuator.{Punctuator}
 use Rattle.gql_tokens.specs.declared.token.Punctuator.TheVariants as punctuators
 use Rattle.gql_tokens.specs.declared.token.Lexeme.{Lexeme}
 use Rattle.gql_tokens.specs.declared.token.Lexeme.TheVariants as lexemes
-use Rattle.gql_tokens.specs.Characters.{quote, minus, is_name_start, begins}
+use Rattle.gql_base.specs.Letters.{is_name_start}
+use Rattle.gql_tokens.specs.Characters.{quote, minus, begins}
 use Rattle.gql_tokens.specs.Number.{IsWhole, IsInteger, IsFloat, IsSupported}
 use Rattle.gql_tokens.specs.String.{IsString}
 use Rattle.gql_tokens.specs.Block.{three_quotes, written, IsBlockString}
 use Rattle.gql_tokens.specs.Token.{characters_of, Spells, IsToken}
+use Rattle.gql_tokens.proofs.NameLaws.{name_begins}
 use Rattle.gql_tokens.proofs.Lists.{head_is, tail_is, fronts, begins_front}
 use Rattle.gql_tokens.proofs.NumberLaws.{integer_not_float}
 use Rattle.gql_tokens.proofs.StringLaws.{written_not_quote, string_unique}
@@ -95,7 +97,7 @@ punctuator_begins punctuators.CloseBrace = refl
 pub spelling_begins : (l : Lexeme) (cs : List ℕ) → Spells l cs → begins (begins_class (class_of l)) cs ≡ true
 unfolding begins_class class_of
 spelling_begins (lexemes.Punctuator p) cs h = ap (begins is_punctuation) h ∙ punctuator_begins p
-spelling_begins (lexemes.Name n) cs h = h.0.0
+spelling_begins (lexemes.Name n) cs h = name_begins cs h.0
 spelling_begins (lexemes.Number n) cs h = integer_begins cs h.0
 spelling_begins (lexemes.String s) cs h =
     elim h.1 [ inl k ↦ ap (begins (begins_class quoting)) k.1 | inr k ↦ ap (begins (begins_class quoting)) k.1 ]

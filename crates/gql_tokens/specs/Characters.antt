@@ -1,6 +1,5 @@
 -- Characters, by what they are to tokens (GraphQL, October 2021, section 2.1). A character is its Unicode scalar value.
 use Rattle.std.specs.Prelude.{ℕ, Bool, false, not, ◌&&◌, ◌||◌, List, [], ◌∷◌, ◌==◌, nat_le}
-use Rattle.std.specs.Char.{is_ascii_alphabetic, is_ascii_digit}
 
 abbrev pub tab : ℕ
 tab = 9
@@ -38,9 +37,6 @@ digit_zero = 48
 abbrev pub backslash : ℕ
 backslash = 92
 
-abbrev pub underscore : ℕ
-underscore = 95
-
 abbrev pub byte_order_mark : ℕ
 byte_order_mark = 65279
 
@@ -66,13 +62,6 @@ is_comment_character c = is_source c && not (is_line_end c)
 -- a character that is ignored between tokens (section 2.1.7)
 abbrev pub is_ignored : ℕ → Bool
 is_ignored c = (c == byte_order_mark || is_blank c) || (is_line_end c || c == comma)
-
--- the first character of a name, and the others (section 2.1.9)
-abbrev pub is_name_start : ℕ → Bool
-is_name_start c = is_ascii_alphabetic c || c == underscore
-
-abbrev pub is_name_part : ℕ → Bool
-is_name_part c = is_name_start c || is_ascii_digit c
 
 -- the text begins with such a character
 abbrev pub begins : (ℕ → Bool) → List ℕ → Bool

@@ -2,7 +2,8 @@
 use Rattle.std.specs.Prelude.{◌≡◌, ◌≢◌, ℕ, ◌+◌, ◌*◌, ◌-◌, ◌^◌, Bool, true, false, ◌||◌, ◌⊎◌, List, [], ◌∷◌, ◌++◌, ◌==◌, if◌then◌else◌, ℤ, pos, negsuc, neg_ℤ, ◌≤ℤ◌, ◌<ℤ◌, fold}
 use Rattle.std.specs.Char.{is_ascii_digit}
 use Rattle.std.specs.List.{AllByRecursion}
-use Rattle.gql_tokens.specs.Characters.{plus, minus, full_stop, digit_zero, is_name_start, begins}
+use Rattle.gql_base.specs.Letters.{is_name_start}
+use Rattle.gql_tokens.specs.Characters.{plus, minus, full_stop, digit_zero, begins}
 
 -- one digit or more
 abbrev pub IsDigits : List ℕ → Type 0

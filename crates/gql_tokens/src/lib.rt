@@ -14,7 +14,6 @@ mod string;
 mod token;
 
 pub use lexer::{one_token_list, tokens_of};
-pub use name::is_name;
 pub use token::{Lexeme, Punctuator, Token};
 
 #[cfg(test)]

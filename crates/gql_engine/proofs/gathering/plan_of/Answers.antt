@@ -1,4 +1,6 @@
-use Rattle.std.proofs.Common.{rules, ◌≡◌, ◌<◌, length, arith}
+use Rattle.std.proofs.Common.{rules, ◌≡◌, ◌<◌, Contains, List, length, arith, subst, sym}
+use Rattle.gql_doc.specs.declared.document.Positioned.{Positioned}
+use Rattle.gql_doc.specs.declared.document.Selection.{Selection}
 use Rattle.gql_engine.specs.ApartPlan.{all_seen}
 use Rattle.gql_engine.specs.Apart.{asked_in}
 use Rattle.gql_engine.proofs.ApartLemmas.{gathered}
@@ -9,3 +11,8 @@ loop-selection-preserved g c =
     gathered g.row.V.Denot c.args.scene.now c.as_slice-selection-items.result.now c.loop-selection.selection-index c.selection-item.result
     (all_seen c.args.scene.now c.loop-selection.occurrences.items) (all_seen c.args.scene.now c.add_selection.new.occurrences.items) (asked_in c.args.scene.now)
     c.loop-selection-test.true c.selection-item.is c.in_ok-add_selection.ensures c.loop-selection.invariant
+
+pub add_selection-requires-clause-stands : goal.add_selection-requires-clause-stands
+add_selection-requires-clause-stands g c =
+    subst (λ (xs : List (Positioned Selection)). Contains xs c.selection-item.result) c.as_slice-selection-items.ensures
+    (c.loop-selection.selection-index, c.loop-selection-test.true, sym c.selection-item.is)

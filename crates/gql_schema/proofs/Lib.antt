@@ -1,0 +1,6 @@
+mod ByNameLemmas
+mod FitsLemmas
+mod ListLemmas
+mod NameSetLemmas
+mod ReachLemmas
+mod SoundLemmas

@@ -1,0 +1,10 @@
+use Rattle.std.proofs.Common.{◌≡◌, ℕ, List, None, take}
+use Rattle.gql_schema.specs.Faults.{field_fault, promised_field_fault}
+use Rattle.gql_schema.specs.Interface.{interface_name, promised_fields}
+use Rattle.gql_schema.specs.declared.interface_field.InterfaceField.{InterfaceField}
+use Rattle.gql_schema.specs.Faults.{first_found}
+use Rattle.gql_schema.specs.Table.{types_of}
+use Rattle.gql_schema.proofs.checks.check_interface.Given as goal
+
+abbrev pub invariant-loop-place : goal.invariant-loop-place
+invariant-loop-place l = first_found (λ (p : List ℕ × InterfaceField). promised_field_fault (types_of l.types) (interface_name l.interface) p.1) (take l.place (promised_fields l.interface)) ≡ None

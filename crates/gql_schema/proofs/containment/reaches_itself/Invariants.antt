@@ -1,0 +1,10 @@
+use Rattle.std.proofs.Common.{◌+◌, ◌-◌, length}
+use Rattle.gql_schema.specs.Table.{types_of}
+use Rattle.gql_schema.proofs.ReachLemmas.{IsWalk, all_needed, missing}
+use Rattle.gql_schema.proofs.containment.reaches_itself.Given as goal
+
+abbrev pub invariant-walk : goal.invariant-walk
+invariant-walk l = IsWalk (types_of l.types) l.start l.reached l.next
+
+abbrev pub decreases-walk : goal.decreases-walk
+decreases-walk l = (missing (all_needed (types_of l.types)) l.reached + length l.reached) - l.next

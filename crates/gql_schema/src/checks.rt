@@ -1,0 +1,314 @@
+//! The rules of a whole type: its name's, then those of its parts in their order.
+ghost use Rattle.std.specs.Prelude.{◌≡◌, IfOk};
+ghost use Rattle.std.specs.Option.{option_copied, option_or};
+ghost use Rattle.gql_schema.specs.Faults.{default_fault, event_fields_fault, fault_of, input_field_fault, input_fields_fault, interfaces_fault, is_known_object, member_fault, members_fault, object_fields_fault, oneof_fault, parts_fault, promised_fields_fault, self_containing_fault};
+ghost use Rattle.gql_schema.specs.InputObject.{input_object_name};
+ghost use Rattle.gql_schema.specs.Sound.{IsFaultOf, IsFaultOfAll};
+ghost use Rattle.gql_schema.specs.Table.{types_of};
+
+use crate::containment::type_contains_itself;
+use crate::covariance::is_object_type;
+use crate::input_object::InputObject;
+use crate::input_value::InputValue;
+use crate::interface::Interface;
+use crate::object::Object;
+use crate::places::{check_default, check_field, check_input, check_name, check_support};
+use crate::promises::check_implemented;
+use crate::schema_error::SchemaError;
+use crate::schema_type::SchemaType;
+use crate::subscription::Subscription;
+use crate::texts::{fault_where, join_names, text_around};
+use crate::types::Types;
+use crate::union::Union;
+use gql_base::Made;
+use std::alloc::Global;
+
+/// The first fault of an object's fields.
+fn check_object_fields(alloc: Global, types: &Types, object: &Object) -> Made<Option<SchemaError>>
+    ensures { IfOk result (λ found. found ≡ object_fields_fault (types_of types.now) object.now) }
+{
+    for place in 0..object.len() {
+        let (_, field) = object.entry(place);
+        let found = check_field(
+            alloc,
+            types,
+            object.type_name(),
+            field.name(),
+            field.ty(),
+            field.arguments(),
+        )?;
+        if found.is_some() {
+            return Ok(found);
+        }
+    }
+    Ok(None)
+}
+
+/// The first fault of the interfaces that an object implements.
+fn check_interfaces(alloc: Global, types: &Types, object: &Object) -> Made<Option<SchemaError>>
+    ensures { IfOk result (λ found. found ≡ interfaces_fault (types_of types.now) object.now) }
+{
+    let interfaces = object.interfaces();
+    for place in 0..interfaces.len() {
+        let found = check_implemented(alloc, types, object, interfaces[place].as_str())?;
+        if found.is_some() {
+            return Ok(found);
+        }
+    }
+    Ok(None)
+}
+
+fn check_object(alloc: Global, types: &Types, object: &Object) -> Made<Option<SchemaError>>
+    ensures { IfOk result (λ found. found ≡ option_or (object_fields_fault (types_of types.now) object.now) (interfaces_fault (types_of types.now) object.now)) }
+{
+    match check_object_fields(alloc, types, object)? {
+        Some(fault) => Ok(Some(fault)),
+        None => check_interfaces(alloc, types, object),
+    }
+}
+
+/// The first fault of an interface's fields.
+fn check_interface(alloc: Global, types: &Types, interface: &Interface) -> Made<Option<SchemaError>>
+    ensures { IfOk result (λ found. found ≡ promised_fields_fault (types_of types.now) interface.now) }
+{
+    for place in 0..interface.len() {
+        let (_, field) = interface.entry(place);
+        let found = check_field(
+            alloc,
+            types,
+            interface.type_name(),
+            field.name(),
+            field.ty(),
+            field.arguments(),
+        )?;
+        if found.is_some() {
+            return Ok(found);
+        }
+    }
+    Ok(None)
+}
+
+/// The first fault of a subscription's fields.
+fn check_subscription(
+    alloc: Global,
+    types: &Types,
+    subscription: &Subscription,
+) -> Made<Option<SchemaError>>
+    ensures { IfOk result (λ found. found ≡ event_fields_fault (types_of types.now) subscription.now) }
+{
+    for place in 0..subscription.len() {
+        let (_, field) = subscription.entry(place);
+        let found = check_field(
+            alloc,
+            types,
+            subscription.type_name(),
+            field.name(),
+            field.ty(),
+            field.arguments(),
+        )?;
+        if found.is_some() {
+            return Ok(found);
+        }
+    }
+    Ok(None)
+}
+
+/// True exactly where there is an object.
+fn is_some_object(ty: Option<&SchemaType>) -> bool
+    ensures { result ≡ is_known_object (option_copied ty.entry) }
+{
+    match ty {
+        Some(ty) => is_object_type(ty),
+        None => false,
+    }
+}
+
+fn check_member(
+    alloc: Global,
+    types: &Types,
+    union_type: &Union,
+    name: &str,
+) -> Made<Option<SchemaError>>
+    ensures { IfOk result (λ found. found ≡ member_fault (types_of types.now) union_type.now name.now) }
+{
+    if let Some(fault) = check_name(alloc, types, name)? {
+        return Ok(Some(fault));
+    }
+    if is_some_object(types.get(name)) {
+        return Ok(None);
+    }
+    let member = text_around(alloc, "\" has member \"", name, "\" that is no object")?;
+    fault_where(
+        alloc,
+        true,
+        6,
+        "Union \"",
+        union_type.type_name(),
+        member.as_str(),
+    )
+}
+
+/// The first fault of a union's members.
+fn check_union(alloc: Global, types: &Types, union_type: &Union) -> Made<Option<SchemaError>>
+    ensures { IfOk result (λ found. found ≡ members_fault (types_of types.now) union_type.now) }
+{
+    let members = union_type.members();
+    for place in 0..members.len() {
+        let name = members.at(place);
+        let found = check_member(alloc, types, union_type, name)?;
+        if found.is_some() {
+            return Ok(found);
+        }
+    }
+    Ok(None)
+}
+
+fn check_oneof(alloc: Global, input: &InputObject, field: &InputValue) -> Made<Option<SchemaError>>
+    ensures { IfOk result (λ found. found ≡ oneof_fault input.now field.now) }
+{
+    let path = join_names(alloc, input.type_name(), field.name())?;
+    let required = input.is_oneof() && !field.ty().is_nullable();
+    match fault_where(
+        alloc,
+        required,
+        4,
+        "Field \"",
+        path.as_str(),
+        "\" must be nullable",
+    )? {
+        Some(fault) => Ok(Some(fault)),
+        None => {
+            let given = input.is_oneof() && field.default().is_some();
+            fault_where(
+                alloc,
+                given,
+                4,
+                "Field \"",
+                path.as_str(),
+                "\" must not have a default value",
+            )
+        }
+    }
+}
+
+fn check_input_rest(
+    alloc: Global,
+    types: &Types,
+    input: &InputObject,
+    field: &InputValue,
+) -> Made<Option<SchemaError>>
+    ensures { IfOk result (λ found. found ≡ option_or (oneof_fault input.now field.now) (default_fault (types_of types.now) (input_object_name input.now) field.now)) }
+{
+    match check_oneof(alloc, input, field)? {
+        Some(fault) => Ok(Some(fault)),
+        None => check_default(alloc, types, input.type_name(), field),
+    }
+}
+
+fn check_input_field(
+    alloc: Global,
+    types: &Types,
+    input: &InputObject,
+    field: &InputValue,
+) -> Made<Option<SchemaError>>
+    ensures { IfOk result (λ found. found ≡ input_field_fault (types_of types.now) input.now field.now) }
+{
+    match check_input(alloc, types, field.ty())? {
+        Some(fault) => Ok(Some(fault)),
+        None => check_input_rest(alloc, types, input, field),
+    }
+}
+
+/// The first fault of an input object's fields.
+fn check_input_fields(
+    alloc: Global,
+    types: &Types,
+    input: &InputObject,
+) -> Made<Option<SchemaError>>
+    ensures { IfOk result (λ found. found ≡ input_fields_fault (types_of types.now) input.now) }
+{
+    for place in 0..input.len() {
+        let (_, field) = input.entry(place);
+        let found = check_input_field(alloc, types, input, field)?;
+        if found.is_some() {
+            return Ok(found);
+        }
+    }
+    Ok(None)
+}
+
+/// The first fault of an input object, of which it is known whether it contains itself.
+fn check_input_object(
+    alloc: Global,
+    types: &Types,
+    contains: bool,
+    input: &InputObject,
+) -> Made<Option<SchemaError>>
+    ensures { IfOk result (λ found. found ≡ option_or (self_containing_fault contains (input_object_name input.now)) (input_fields_fault (types_of types.now) input.now)) }
+{
+    match fault_where(
+        alloc,
+        contains,
+        7,
+        "Input object \"",
+        input.type_name(),
+        "\" contains itself",
+    )? {
+        Some(fault) => Ok(Some(fault)),
+        None => check_input_fields(alloc, types, input),
+    }
+}
+
+/// The first fault of the parts of a type, of which it is known whether it contains itself.
+fn check_parts(
+    alloc: Global,
+    types: &Types,
+    contains: bool,
+    ty: &SchemaType,
+) -> Made<Option<SchemaError>>
+    ensures { IfOk result (λ found. found ≡ parts_fault (types_of types.now) contains ty.now) }
+{
+    match ty {
+        SchemaType::Object(object) => check_object(alloc, types, object),
+        SchemaType::Interface(interface) => check_interface(alloc, types, interface),
+        SchemaType::Union(union_type) => check_union(alloc, types, union_type),
+        SchemaType::InputObject(input) => check_input_object(alloc, types, contains, input),
+        SchemaType::Subscription(subscription) => check_subscription(alloc, types, subscription),
+        SchemaType::Scalar(_) | SchemaType::Enum(_) => Ok(None),
+    }
+}
+
+fn check_known(
+    alloc: Global,
+    types: &Types,
+    contains: bool,
+    ty: &SchemaType,
+) -> Made<Option<SchemaError>>
+    ensures { IfOk result (λ found. found ≡ fault_of (types_of types.now) contains ty.now) }
+{
+    match check_support(alloc, ty.name())? {
+        Some(fault) => Ok(Some(fault)),
+        None => check_parts(alloc, types, contains, ty),
+    }
+}
+
+/// The first fault of a type, or none.
+fn check_schema_type(alloc: Global, types: &Types, ty: &SchemaType) -> Made<Option<SchemaError>>
+    ensures { IfOk result (λ found. IsFaultOf (types_of types.now) ty.now found) }
+{
+    let contains = type_contains_itself(alloc, types, ty)?;
+    check_known(alloc, types, contains, ty)
+}
+
+/// The fault of the first type that has one, or none.
+pub fn first_refusal(alloc: Global, types: &Types) -> Made<Option<SchemaError>>
+    ensures { IfOk result (λ found. IsFaultOfAll (types_of types.now) found) }
+{
+    for place in 0..types.len() {
+        let found = check_schema_type(alloc, types, types.at(place))?;
+        if found.is_some() {
+            return Ok(found);
+        }
+    }
+    Ok(None)
+}

@@ -1,0 +1,81 @@
+//! Input objects that contain themselves.
+ghost use Rattle.std.specs.Prelude.{◌≡◌, IfOk, OnOk};
+ghost use Rattle.std.specs.Bool.{Decides};
+ghost use Rattle.std.specs.Option.{option_copied};
+ghost use Rattle.gql_schema.specs.NameSet.{with_names, with_optional};
+ghost use Rattle.gql_schema.specs.Sound.{ContainsItself, Reaches, needed_in, needed_names, needed_of};
+ghost use Rattle.gql_schema.specs.Table.{types_of};
+
+use crate::input_object::InputObject;
+use crate::name_set::NameSet;
+use crate::schema_type::SchemaType;
+use crate::types::Types;
+use gql_base::{Made, Name, TypeRef};
+use std::alloc::Global;
+
+/// True exactly where the type is an input object that contains itself.
+pub fn type_contains_itself(alloc: Global, types: &Types, ty: &SchemaType) -> Made<bool>
+    ensures { IfOk result (λ contains. Decides contains (ContainsItself (types_of types.now) ty.now)) }
+{
+    match ty {
+        SchemaType::InputObject(input) => reaches_itself(alloc, types, input.type_name()),
+        _ => Ok(false),
+    }
+}
+
+/// True exactly where a value of the input object needs one of itself. The walk enters each input object once.
+fn reaches_itself(alloc: Global, types: &Types, start: &str) -> Made<bool>
+    ensures { IfOk result (λ contains. Decides contains (Reaches (types_of types.now) start.now start.now)) }
+{
+    let mut reached = NameSet::new(alloc);
+    add_needed(alloc, &mut reached, types.get(start))?;
+    let mut next = 0;
+    'walk: while next < reached.len() {
+        let name = Name::new(alloc, reached.at(next))?;
+        add_needed(alloc, &mut reached, types.get(name.as_str()))?;
+        next += 1;
+    }
+    Ok(reached.has(start))
+}
+
+/// Adds the names of the types that the fields of an input object can't do without.
+fn add_needed(alloc: Global, reached: &mut NameSet, ty: Option<&SchemaType>) -> Made<()>
+    ensures { OnOk result (reached.new ≡ with_names reached.old (needed_in (option_copied ty.entry))) }
+{
+    match ty {
+        Some(SchemaType::InputObject(input)) => add_needed_of(alloc, reached, input),
+        _ => Ok(()),
+    }
+}
+
+fn add_needed_of(alloc: Global, reached: &mut NameSet, input: &InputObject) -> Made<()>
+    ensures { OnOk result (reached.new ≡ with_names reached.old (needed_names input.now)) }
+{
+    for place in 0..input.len() {
+        let (_, field) = input.entry(place);
+        add_optional(alloc, reached, needed_type(field.ty()))?;
+    }
+    Ok(())
+}
+
+fn add_optional(alloc: Global, reached: &mut NameSet, name: Option<&str>) -> Made<()>
+    ensures { OnOk result (reached.new ≡ with_optional reached.old (option_copied name.entry)) }
+{
+    match name {
+        Some(name) => reached.add(Name::new(alloc, name)?),
+        None => Ok(()),
+    }
+}
+
+/// The name of a type that is non-null and named, or none.
+fn needed_type(ty: &TypeRef) -> Option<&str>
+    ensures { option_copied result ≡ needed_of ty.now }
+{
+    match ty {
+        TypeRef::NonNull(inner) => match inner.get() {
+            TypeRef::Named(name) => Some(name.as_str()),
+            TypeRef::NonNull(_) | TypeRef::List(_) => None,
+        },
+        TypeRef::Named(_) | TypeRef::List(_) => None,
+    }
+}

@@ -1,0 +1,197 @@
+//! The rules at single places: names, types, arguments and defaults.
+ghost use Rattle.std.specs.Prelude.{◌≡◌, IfOk};
+ghost use Rattle.std.specs.Option.{option_copied, option_or};
+ghost use Rattle.gql_base.specs.TypeRef.{innermost};
+ghost use Rattle.gql_schema.specs.Faults.{argument_fault, arguments_fault, default_fault, doubled_fault, field_fault, input_fault, is_no_output, misplaced_fault, name_fault, output_fault, unsupported_fault};
+ghost use Rattle.gql_schema.specs.Table.{types_of};
+
+use crate::by_name::ByName;
+use crate::fits::{has_no_support, is_doubly_non_null, is_known_kind, value_fits};
+use crate::input_value::InputValue;
+use crate::schema_error::SchemaError;
+use crate::schema_type::SchemaType;
+use crate::texts::{fault_where, join_names};
+use crate::types::Types;
+use gql_base::{Made, TypeRef};
+use std::alloc::Global;
+
+/// The fault of a name that no type may have.
+pub fn check_support(alloc: Global, name: &str) -> Made<Option<SchemaError>>
+    ensures { IfOk result (λ found. found ≡ unsupported_fault name.now) }
+{
+    fault_where(
+        alloc,
+        has_no_support(name),
+        8,
+        "Type \"",
+        name,
+        "\" is not supported",
+    )
+}
+
+/// The first fault of a name that is used as a type's.
+pub fn check_name(alloc: Global, types: &Types, name: &str) -> Made<Option<SchemaError>>
+    ensures { IfOk result (λ found. found ≡ name_fault (types_of types.now) name.now) }
+{
+    match check_support(alloc, name)? {
+        Some(fault) => Ok(Some(fault)),
+        None => fault_where(
+            alloc,
+            !types.get(name).is_some(),
+            1,
+            "Type \"",
+            name,
+            "\" not found",
+        ),
+    }
+}
+
+/// The fault of a type of a kind that can't stand at its place.
+pub fn check_place(alloc: Global, misplaced: bool, name: &str) -> Made<Option<SchemaError>>
+    ensures { IfOk result (λ found. found ≡ misplaced_fault misplaced name.now) }
+{
+    fault_where(
+        alloc,
+        misplaced,
+        2,
+        "Type \"",
+        name,
+        "\" cannot be used here",
+    )
+}
+
+fn check_doubled(alloc: Global, ty: &TypeRef) -> Made<Option<SchemaError>>
+    ensures { IfOk result (λ found. found ≡ doubled_fault ty.now) }
+{
+    if !is_doubly_non_null(ty) {
+        return Ok(None);
+    }
+    let text = ty.text(alloc)?;
+    fault_where(
+        alloc,
+        true,
+        3,
+        "Type \"",
+        text.as_str(),
+        "\" is doubly non-null",
+    )
+}
+
+fn check_kind(alloc: Global, misplaced: bool, ty: &TypeRef) -> Made<Option<SchemaError>>
+    ensures { IfOk result (λ found. found ≡ option_or (misplaced_fault misplaced (innermost ty.now)) (doubled_fault ty.now)) }
+{
+    match check_place(alloc, misplaced, ty.type_name())? {
+        Some(fault) => Ok(Some(fault)),
+        None => check_doubled(alloc, ty),
+    }
+}
+
+/// True exactly where there is a type of a kind that can't stand at an output.
+fn is_input_only(ty: Option<&SchemaType>) -> bool
+    ensures { result ≡ is_no_output (option_copied ty.entry) }
+{
+    match ty {
+        Some(SchemaType::InputObject(_) | SchemaType::Subscription(_)) => true,
+        _ => false,
+    }
+}
+
+/// The first fault of a type at an output.
+pub fn check_output(alloc: Global, types: &Types, ty: &TypeRef) -> Made<Option<SchemaError>>
+    ensures { IfOk result (λ found. found ≡ output_fault (types_of types.now) ty.now) }
+{
+    match check_name(alloc, types, ty.type_name())? {
+        Some(fault) => Ok(Some(fault)),
+        None => check_kind(alloc, is_input_only(types.get(ty.type_name())), ty),
+    }
+}
+
+/// The first fault of a type at an input.
+pub fn check_input(alloc: Global, types: &Types, ty: &TypeRef) -> Made<Option<SchemaError>>
+    ensures { IfOk result (λ found. found ≡ input_fault (types_of types.now) ty.now) }
+{
+    match check_name(alloc, types, ty.type_name())? {
+        Some(fault) => Ok(Some(fault)),
+        None => check_kind(alloc, !is_known_kind(types.get(ty.type_name())), ty),
+    }
+}
+
+/// The fault of a default that doesn't fit. The owner is the path of what has the argument or the field.
+pub fn check_default(
+    alloc: Global,
+    types: &Types,
+    owner: &str,
+    input: &InputValue,
+) -> Made<Option<SchemaError>>
+    ensures { IfOk result (λ found. found ≡ default_fault (types_of types.now) owner.now input.now) }
+{
+    match input.default() {
+        None => Ok(None),
+        Some(value) => {
+            if value_fits(value, input.ty(), types) {
+                return Ok(None);
+            }
+            let path = join_names(alloc, owner, input.name())?;
+            fault_where(
+                alloc,
+                true,
+                9,
+                "Default of \"",
+                path.as_str(),
+                "\" does not fit",
+            )
+        }
+    }
+}
+
+fn check_argument(
+    alloc: Global,
+    types: &Types,
+    owner: &str,
+    input: &InputValue,
+) -> Made<Option<SchemaError>>
+    ensures { IfOk result (λ found. found ≡ argument_fault (types_of types.now) owner.now input.now) }
+{
+    match check_input(alloc, types, input.ty())? {
+        Some(fault) => Ok(Some(fault)),
+        None => check_default(alloc, types, owner, input),
+    }
+}
+
+fn check_arguments(
+    alloc: Global,
+    types: &Types,
+    owner: &str,
+    arguments: &ByName<InputValue>,
+) -> Made<Option<SchemaError>>
+    ensures { IfOk result (λ found. found ≡ arguments_fault (types_of types.now) owner.now arguments.now) }
+{
+    for place in 0..arguments.len() {
+        let (_, argument) = arguments.at(place);
+        let found = check_argument(alloc, types, owner, argument)?;
+        if found.is_some() {
+            return Ok(found);
+        }
+    }
+    Ok(None)
+}
+
+/// The first fault of a field with its arguments.
+pub fn check_field(
+    alloc: Global,
+    types: &Types,
+    owner: &str,
+    name: &str,
+    ty: &TypeRef,
+    arguments: &ByName<InputValue>,
+) -> Made<Option<SchemaError>>
+    ensures { IfOk result (λ found. found ≡ field_fault (types_of types.now) owner.now name.now ty.now arguments.now) }
+{
+    match check_output(alloc, types, ty)? {
+        Some(fault) => Ok(Some(fault)),
+        None => {
+            let path = join_names(alloc, owner, name)?;
+            check_arguments(alloc, types, path.as_str(), arguments)
+        }
+    }
+}

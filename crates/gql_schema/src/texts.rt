@@ -1,0 +1,43 @@
+ghost use Rattle.std.specs.Prelude.{◌≡◌, IfOk};
+ghost use Rattle.gql_schema.specs.Faults.{fault_if};
+ghost use Rattle.gql_schema.specs.Texts.{around, dotted};
+
+use crate::schema_error::SchemaError;
+use gql_base::{Made, Text};
+use std::alloc::Global;
+
+/// A name between two texts.
+pub fn text_around(alloc: Global, front: &str, name: &str, back: &str) -> Made<Text>
+    ensures { IfOk result (λ text. text ≡ around front.now name.now back.now) }
+{
+    let mut out = String::new(alloc);
+    out.push_str(front)?;
+    out.push_str(name)?;
+    out.push_str(back)?;
+    Ok(Text::from_string(out))
+}
+
+/// Two names joined by a dot.
+pub fn join_names(alloc: Global, owner: &str, name: &str) -> Made<Text>
+    ensures { IfOk result (λ text. text ≡ dotted owner.now name.now) }
+{
+    text_around(alloc, owner, ".", name)
+}
+
+/// The fault by a rule, where it is broken, with the text of a name between two texts.
+pub fn fault_where(
+    alloc: Global,
+    broken: bool,
+    rule: u8,
+    front: &str,
+    name: &str,
+    back: &str,
+) -> Made<Option<SchemaError>>
+    ensures { IfOk result (λ found. found ≡ fault_if broken rule (around front.now name.now back.now)) }
+{
+    if !broken {
+        return Ok(None);
+    }
+    let text = text_around(alloc, front, name, back)?;
+    Ok(Some(SchemaError { rule, text }))
+}
