@@ -1,4 +1,7 @@
-use crate::document::{DocumentOperations, ExecutableDocument, OperationDefinition, Selection};
+use crate::document::{
+    Argument, Directive, DocValue, DocumentOperations, ExecutableDocument, FragmentSpread,
+    OperationDefinition, OperationType, Selection, VariableDefinition,
+};
 use crate::fault::{ParseFault, ParseKind};
 use crate::parse::{parse_query, parse_type};
 use crate::summary::summary;
@@ -263,4 +266,19 @@ fn messages(rt: HostRuntime) {
         pos: gql_base::Pos { line: 1, column: 1 },
     };
     assert_eq!(rt; fault.message(), "Syntax error: doubled name");
+}
+
+fn shared<T: Send + Sync>() {}
+
+/// Types that hold no set can be moved to threads and shared between them.
+#[test]
+fn types_without_sets_can_be_shared() {
+    shared::<Argument>();
+    shared::<Directive>();
+    shared::<DocValue>();
+    shared::<FragmentSpread>();
+    shared::<OperationType>();
+    shared::<ParseFault>();
+    shared::<ParseKind>();
+    shared::<VariableDefinition>();
 }
