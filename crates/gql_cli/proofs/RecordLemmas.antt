@@ -5,6 +5,7 @@ use Rattle.std.proofs.lemmas.Option.{slice_get-map}
 use Rattle.std.specs.List.{AllZip}
 use Rattle.std.specs.Str.{bytes_eq}
 use Rattle.std.specs.Cmp.Lexicographic.{bytes_decides}
+use Rattle.gql_base.specs.PathSegment.{path_text}
 use Rattle.gql_base.specs.Pairs.{under}
 use Rattle.gql_base.specs.declared.type_ref.TypeRef.{TypeRef}
 use Rattle.gql_base.specs.declared.type_ref.TypeRef.TheVariants.{Named}
@@ -12,7 +13,6 @@ use Rattle.gql_doc.specs.declared.document.Field.{Field}
 use Rattle.gql_doc.specs.declared.document.OperationDefinition.{OperationDefinition}
 use Rattle.gql_doc.specs.declared.document.Positioned.{Positioned}
 use Rattle.gql_doc.specs.declared.document.Selection.{Selection}
-use Rattle.gql_resolve.specs.Call.{Call}
 use Rattle.gql_resolve.specs.Record.{with_more}
 use Rattle.gql_resolve.specs.declared.answer.Answer.{Answer}
 use Rattle.gql_resolve.specs.declared.record_entry.RecordEntry.{RecordEntry}
@@ -23,11 +23,12 @@ use Rattle.gql_schema.specs.declared.object.Object.{Object}
 use Rattle.gql_schema.specs.declared.schema_type.SchemaType.TheVariants as types
 use Rattle.gql_engine.specs.Apart.{Asked, asked, asked_of, asked_in, subject_in}
 use Rattle.gql_engine.specs.Pace.{EachPaced, pending_then_ready, told_of}
-use Rattle.gql_engine.specs.Progress.{RunsWhole, story_of}
+use Rattle.gql_engine.specs.Progress.{story_of}
 use Rattle.gql_engine.specs.Path.{key_text}
-use Rattle.gql_engine.specs.Record.{Mark, untold, ready, Story, Made, NamesTask, Turned, fresh, untold_marks, beneath_of, after_ready, after_mark, after_entry, made_at, waiting}
+use Rattle.gql_engine.specs.Record.{Mark, untold, ready, Story, Made, Stage, Ran, NamesTask, Turned, fresh, untold_marks, beneath_of, after_ready, after_mark, after_entry, made_at, waiting}
 use Rattle.gql_engine.specs.declared.scene.Scene.{Scene}
 use Rattle.gql_engine.proofs.RunLemmas.{tasks_stay}
+use Rattle.gql_engine.proofs.TurnLemmas.{staged}
 use Rattle.gql_cli.specs.BenchAnswers.{bench_object}
 use Rattle.gql_cli.specs.BenchRecord.{BenchTask, IsRecord, AreAsked, HasTold, story, tasks_from, first_task, task_with, bench_task}
 use Rattle.gql_cli.specs.ListTurns.{list_choice, list_after}
@@ -117,10 +118,10 @@ found-task bench object n task is found =
 
 -- what is asked, as a task of the bench
 abbrev task_asked : List Rule → Asked ℤ → BenchTask
-task_asked rules ask = record { resolver = ask.call.resolver; name = ask.path; delay = table_delay rules ask.call.resolver }
+task_asked rules ask = record { resolver = ask.asks.call.resolver; name = path_text ask.asks.segments; delay = table_delay rules ask.asks.call.resolver }
 
 module _ (bench : Bench) (scene : Scene ℤ) (is : bench_object bench ≡ Some scene.object.now) where
-  path-is : (field : Positioned Field) (n : List ℕ) (declared : SchemaField) → HasOnlyName field.node n → (asked_of scene field declared).path ≡ n
+  path-is : (field : Positioned Field) (n : List ℕ) (declared : SchemaField) → HasOnlyName field.node n → path_text (asked_of scene field declared).asks.segments ≡ n
   path-is field n declared only = append-nil (key_text field) ∙ key-is field n only
 
   tasks-are : (selections : List (Positioned Selection)) (names : List (List ℕ)) (tasks : List BenchTask) → AllZip IsBare selections names
@@ -139,27 +140,27 @@ module _ (bench : Bench) (scene : Scene ℤ) (is : bench_object bench ≡ Some s
   -- what a whole execution has told is the record of the tasks that the query asks for
   pub told-record : (operation : OperationDefinition) → scene.env.now.operation.node ≡ operation → (names : List (List ℕ)) → IsBareQuery operation names
       → (tasks : List BenchTask) → AreAsked (bench_task bench) names tasks
-      → (due : Call ℤ → Answer ℤ) (paced : Type 0) (delay : ℕ → ℕ) (told told' : Option (List RecordEntry)) (starts starts' : Option (List ℕ)) (turns turns' : Option (List ℕ × ℕ))
-      → RunsWhole list_choice list_after subject_in due paced delay (asked_in scene) told told' starts starts' turns turns'
-      → told ≡ Some [] → turns ≡ Some (bench.turns, 0) → paced → ((resolver : ℕ) → delay resolver ≡ table_delay bench.rules resolver)
-      → HasTold told' bench.turns tasks
-  told-record operation same names asks tasks asked_tasks due paced delay told told' starts starts' turns turns' runs told_is turns_is pace delays =
+      → (answers : Asked ℤ → Answer ℤ) (delay : ℕ → ℕ) (told : Option (List RecordEntry)) (starts : Option (List ℕ)) (turns : Option (List ℕ × ℕ)) (new : Stage (Asked ℤ) (List ℕ × ℕ))
+      → (ran : Ran list_choice list_after (story_of subject_in answers) (staged (fresh (asked_in scene)) told starts turns) new)
+      → waiting new.made ≡ [] → EachPaced (λ task. delay task.asks.call.resolver) new.made.tasks ran.entries
+      → told ≡ Some [] → turns ≡ Some (bench.turns, 0) → ((resolver : ℕ) → delay resolver ≡ table_delay bench.rules resolver)
+      → HasTold new.told bench.turns tasks
+  told-record operation same names asks tasks asked_tasks answers delay told starts turns new ran whole paced told_is turns_is delays =
       let f = task_asked bench.rules in
-      let ran = runs.ran in
-      let engine : Story (Asked ℤ) = story_of subject_in (λ task. due (subject_in.call task)) in
+      let engine : Story (Asked ℤ) = story_of subject_in answers in
       let fields : AllZip IsBare (selections_of scene.env.now.operation.node.selection_set) names
       = subst (λ (o : OperationDefinition). AllZip IsBare (selections_of o.selection_set) names) (sym same) asks.fields in
       let are : map f (asked_in scene) ≡ tasks = tasks-are (selections_of scene.env.now.operation.node.selection_set) names tasks fields asked_tasks in
-      let stays : runs.made.tasks ≡ asked_in scene = ap (λ m. m.tasks) ran.made_is ∙ tasks_stay ℤ (Asked ℤ) ℕ engine (λ t. refl) (fresh (asked_in scene)) ran.entries in
+      let stays : new.made.tasks ≡ asked_in scene = ap (λ m. m.tasks) ran.made_is ∙ tasks_stay ℤ (Asked ℤ) ℕ engine (λ t. refl) (fresh (asked_in scene)) ran.entries in
       let recorded : IsRecord bench.turns (map f (asked_in scene)) ran.entries = record {
         turned = subst (λ m. Turned list_choice list_after story (bench.turns, 0) m ran.entries) (fresh-mapped f (asked_in scene))
             (turned-mapped list_choice list_after engine story f (λ t. refl) (λ t. refl) (λ t. refl) (bench.turns, 0) (fresh (asked_in scene)) ran.entries
             (ran.turned (bench.turns, 0) turns_is));
         whole = ap waiting (ap (λ m. made_at story m ran.entries) (sym (fresh-mapped f (asked_in scene)))
             ∙ made-mapped list_choice list_after engine story f (λ t. refl) (λ t. refl) (λ t. refl) (fresh (asked_in scene)) ran.entries)
-            ∙ ap waiting (sym ran.made_is) ∙ runs.whole;
-        paced = paced-mapped f (λ task. delay task.call.resolver) (λ task. task.delay) (λ task. sym (delays task.call.resolver)) (asked_in scene) ran.entries
-            (subst (λ ts. EachPaced (λ (task : Asked ℤ). delay task.call.resolver) ts ran.entries) stays (runs.paces pace [] told_is));
+            ∙ ap waiting (sym ran.made_is) ∙ whole;
+        paced = paced-mapped f (λ task. delay task.asks.call.resolver) (λ task. task.delay) (λ task. sym (delays task.asks.call.resolver)) (asked_in scene) ran.entries
+            (subst (λ ts. EachPaced (λ (task : Asked ℤ). delay task.asks.call.resolver) ts ran.entries) stays paced);
       } in (
         ran.entries,
         ran.told_is ∙ ap (λ t. with_more t ran.entries) told_is,

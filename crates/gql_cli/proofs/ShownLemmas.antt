@@ -53,9 +53,9 @@ module _ (bench : Bench) (suited : IsSuited bench) (scene : Scene ℤ) (is : ben
     (by : AnswersBy bench.rules answer) where
   -- the value that stands at a known field's place
   place-value : (field : Positioned Field) (n : List ℕ) (v : Value) (known : IsKnown bench scene.object.now n v)
-      → value_of (place_of (asked_of scene field known.declared) (answer (asked_of scene field known.declared).call)).tree ≡ v
+      → value_of (place_of (asked_of scene field known.declared) (answer (asked_of scene field known.declared).asks.call)).tree ≡ v
   place-value field n v known =
-      let call = (asked_of scene field known.declared).call in
+      let call = (asked_of scene field known.declared).asks.call in
       let answered : answer call ≡ rule_answer (Some (rule_of known.entry.field)) = by.ruled call ∙ ap rule_answer known.entry.ruled in
       (λ i. value_of (fill (shape_of (known.entry.typed i) (answered i).result)))
       ∙ constant-shows known.entry.field.type_name known.entry.field.constant known.entry.taken ∙ known.constant

@@ -1,4 +1,4 @@
--- One turn: what it does to the tasks, their states and the record.
+-- One turn: what it does to the tasks, their states, the record and the pace.
 use Rattle.std.proofs.Common.{ℕ, zero, suc, ◌≡◌, ◌+◌, ◌^◌, ◌<◌, ◌≤◌, List, [], ◌∷◌, ◌++◌, length, get_or, refl, sym, ap, subst, ◌∙◌, arith, inl, inr}
 use Rattle.std.specs.Prelude.{Option, Some, None, option_map, slice_get, slice_set, true, false, ◌⊎◌, Result, Ok, Err, OnErr}
 use Rattle.std.specs.Option.{ForSome}
@@ -9,190 +9,298 @@ use Rattle.gql_resolve.specs.declared.record_entry.RecordEntry.{RecordEntry}
 use Rattle.gql_resolve.specs.declared.resolver_context.ResolverContext.{ResolverContext}
 use Rattle.gql_engine.specs.declared.arena.State.{State}
 use Rattle.gql_engine.specs.declared.arena.State.TheVariants as state
-use Rattle.gql_engine.specs.Record.{waiting_from, Ran, Stopped}
-use Rattle.gql_engine.specs.Arena.{marks_of, made_of, fresh_states, Subject, IsSound, IsRight, Nearer}
+use Rattle.gql_engine.specs.declared.given.Given.{Given}
+use Rattle.gql_engine.specs.declared.given.Given.TheVariants.{Answered, Put}
+use Rattle.gql_engine.specs.Arena.{marks_of, made_of, fresh_states, IsRight, Nearer}
+use Rattle.gql_engine.specs.Given.{beneath_given}
+use Rattle.gql_engine.specs.Pace.{to_come}
+use Rattle.gql_engine.specs.Parts.{Parts, Moment, due_by, delay_by, delay_at, stage, subject}
 use Rattle.gql_engine.specs.Plan.{IsContextOf}
-use Rattle.gql_engine.specs.Progress.{Agrees, story_of, Progress, Ended, stage_of}
+use Rattle.gql_engine.specs.Progress.{IsSound, Agrees, Progress, Paces, Went, Ended, story_of}
+use Rattle.gql_engine.specs.Record.{Ran, waiting_from}
 use Rattle.gql_engine.specs.Turn.{IsOpen, StartsWaiting, KeepsWaiting, begins_now, BeginsAtMost}
-use Rattle.gql_engine.proofs.Lists.{set_set}
+use Rattle.gql_engine.proofs.Lists.{get_append_left, get_set_other, set_set}
 use Rattle.gql_engine.proofs.NearerLemmas.{nearer_settled}
+use Rattle.gql_engine.proofs.PaceLemmas.{pays_answer, pays_waiting, so_far_none, so_far_answer}
 use Rattle.gql_engine.proofs.PickLemmas.{Pick, picked, open_undone}
 use Rattle.gql_engine.proofs.RecordLemmas.{with_more_none}
-use Rattle.gql_engine.proofs.SoundLemmas.{sound_settled, right_settled, sound_waits, right_waits}
-use Rattle.gql_engine.proofs.TurnLemmas.{Chosen, ran_pending, ran_ready, stopped_after, stopped_before}
+use Rattle.gql_engine.proofs.SoundLemmas.{Stands, sound_settled, right_settled, sound_waits, right_waits}
+use Rattle.gql_engine.proofs.TurnLemmas.{staged, Chosen, ran_pending, ran_ready, stopped_after, stopped_before}
 
 pub on_err : {T E : Type 0} (r : Result T E) (P : Type 0) → P → OnErr r P
 on_err (Ok x) P p = tt
 on_err (Err e) P p = p
 
-module _ (V Task F T : Type 0) (choice : T → ℕ → ℕ) (after : T → ℕ → T) (is_for : F → Call V → Type 0) (number_of : F → ℕ) (subject : Subject V Task) where
+module _ {R Own World Future L H P : Type 0} (e : Parts R Own World Future L H P) where
   -- a task is taken up, by the choice of the turns
-  pub record Taken (holds : ℕ → Answer V → Type 0) (tasks : List Task) (states : List (State F)) (waiting : List ℕ) (turns turns' : Option T)
-      (number : ℕ) (old : State F) (context : ResolverContext V) : Type 0 where
-    pub sound : IsSound is_for subject holds tasks states waiting
-    pub pick : Pick is_for subject tasks states number old
-    pub context_is : IsContextOf number (subject.call pick.task) (subject.path pick.task) context
-    pub chosen : ForSome turns (λ s. slice_get (waiting_from 0 (marks_of states)) (choice s (length (waiting_from 0 (marks_of states)))) ≡ Some number)
-    pub turns_is : turns' ≡ option_map (λ s. after s (length (waiting_from 0 (marks_of states)))) turns
+  pub record Taken (old : Moment R Future L H P) (turns : P) (number : ℕ) (was : State Future) (context : ResolverContext Own) : Type 0 where
+    pub sound : IsSound e old
+    pub pick : Pick e.set.is_for (subject e) (e.plan.tasks old.plan) old.states number was
+    pub context_is : IsContextOf number (e.plan.asks pick.task) context
+    pub chosen : ForSome (e.turns.state old.turns) (λ s. slice_get (waiting_from 0 (marks_of old.states)) (e.turns.choice s (length (waiting_from 0 (marks_of old.states)))) ≡ Some number)
+    pub turns_is : e.turns.state turns ≡ option_map (λ s. e.turns.after s (length (waiting_from 0 (marks_of old.states)))) (e.turns.state old.turns)
 
-  pub taken : (holds : ℕ → Answer V → Type 0) (tasks : List Task) (states : List (State F)) (waiting : List ℕ) (turns turns' : Option T)
-      (place number : ℕ) (old : State F) (context : ResolverContext V)
-      → IsSound is_for subject holds tasks states waiting → slice_get waiting place ≡ Some number → old ≡ get_or states number old
-      → ((task : Task) → slice_get tasks number ≡ Some task → IsContextOf number (subject.call task) (subject.path task) context)
-      → ForSome turns (λ s. place ≡ choice s (length waiting)) → turns' ≡ option_map (λ s. after s (length waiting)) turns
-      → Taken holds tasks states waiting turns turns' number old context
-  taken holds tasks states waiting turns turns' place number old context sound stands read contexts choices turns_is =
-      let pick = picked place number old sound stands read in
-      let count : length waiting ≡ length (waiting_from 0 (marks_of states)) = ap length sound.waits in
+  -- a future that waits after a turn
+  record Waits (call : Call Own) (new : State Future) : Type 0 where
+    future : Future
+    new_is : state.Waiting future ≡ new
+    fits : e.set.is_for future call
+
+module _ {R Own World Future L H P : Type 0} {e : Parts R Own World Future L H P} where
+  -- what is sound, of plain lists
+  pub stands : {m : Moment R Future L H P} → IsSound e m
+      → Stands e.set.is_for (subject e) (e.plan.holds m.plan) (e.plan.tasks m.plan) m.states m.waiting
+  stands sound = record { lengths = sound.lengths; waits = sound.waits; fits = sound.fits }
+
+  sound_of : (m : Moment R Future L H P) → Stands e.set.is_for (subject e) (e.plan.holds m.plan) (e.plan.tasks m.plan) m.states m.waiting → IsSound e m
+  sound_of m s = record { lengths = s.lengths; waits = s.waits; fits = s.fits }
+
+  pub taken : {old : Moment R Future L H P} (turns : P) (place number : ℕ) (was : State Future) (context : ResolverContext Own)
+      → IsSound e old → slice_get old.waiting place ≡ Some number → was ≡ get_or old.states number was
+      → ((task : e.plan.Task) → slice_get (e.plan.tasks old.plan) number ≡ Some task → IsContextOf number (e.plan.asks task) context)
+      → ForSome (e.turns.state old.turns) (λ s. place ≡ e.turns.choice s (length old.waiting))
+      → e.turns.state turns ≡ option_map (λ s. e.turns.after s (length old.waiting)) (e.turns.state old.turns)
+      → Taken e old turns number was context
+  taken {old = old} turns place number was context sound stood read contexts choices turns_is =
+      let pick = picked place number was (stands sound) stood read in
+      let count : length old.waiting ≡ length (waiting_from 0 (marks_of old.states)) = ap length sound.waits in
       record {
         sound = sound;
         pick = pick;
         context_is = contexts pick.task pick.task_is;
-        chosen = λ s is. subst (λ ns. slice_get ns (choice s (length (waiting_from 0 (marks_of states)))) ≡ Some number) sound.waits
-            (subst (λ k. slice_get waiting (choice s k) ≡ Some number) count (subst (λ p. slice_get waiting p ≡ Some number) (choices s is) stands));
-        turns_is = turns_is ∙ ap (λ k. option_map (λ s. after s k) turns) count;
+        chosen = λ s is. subst (λ ns. slice_get ns (e.turns.choice s (length (waiting_from 0 (marks_of old.states)))) ≡ Some number) sound.waits
+            (subst (λ k. slice_get old.waiting (e.turns.choice s k) ≡ Some number) count (subst (λ p. slice_get old.waiting p ≡ Some number) (choices s is) stood));
+        turns_is = turns_is ∙ ap (λ k. option_map (λ s. e.turns.after s k) (e.turns.state old.turns)) count;
       }
 
-  -- a future that waits after a turn
-  record Waiting (call : Call V) (new : State F) : Type 0 where
-    future : F
-    new_is : state.Waiting future ≡ new
-    fits : is_for future call
-
-  starts : (call : Call V) (old new : State F) → StartsWaiting is_for call old new → Waiting call new
+  starts : (call : Call Own) (old new : State Future) → StartsWaiting e.set.is_for call old new → Waits e call new
   starts call state.Fresh (state.Waiting f) is = record { future = f; new_is = refl; fits = is }
   starts call state.Fresh state.Fresh is = absurd is
   starts call state.Fresh state.Done is = absurd is
   starts call (state.Waiting f) new is = absurd is
   starts call state.Done new is = absurd is
 
-  keeps_on : (call : Call V) (old new : State F) → KeepsWaiting is_for number_of call old new → Waiting call new
+  keeps_on : (call : Call Own) (old new : State Future) → KeepsWaiting e.set.is_for e.set.number call old new → Waits e call new
   keeps_on call (state.Waiting f) (state.Waiting h) is = record { future = h; new_is = refl; fits = is.0 }
   keeps_on call (state.Waiting f) state.Fresh is = absurd is
   keeps_on call (state.Waiting f) state.Done is = absurd is
   keeps_on call state.Fresh new is = absurd is
   keeps_on call state.Done new is = absurd is
 
-  module _ (holds : ℕ → Answer V → Type 0) (tasks : List Task) (states : List (State F)) (waiting : List ℕ) (turns turns' : Option T)
-      (number : ℕ) (old : State F) (context : ResolverContext V) (t : Taken holds tasks states waiting turns turns' number old context) where
-    undone : old ≡ state.Done → ⊥
-    undone = open_undone is_for (subject.call t.pick.task) old t.pick.open_is
+  module _ {old : Moment R Future L H P} {turns : P} {number : ℕ} {was : State Future} {context : ResolverContext Own} (t : Taken e old turns number was context) where
+    undone : was ≡ state.Done → ⊥
+    undone = open_undone e.set.is_for (e.plan.asks t.pick.task).call was t.pick.open_is
 
-    chosen_of : (answers : Task → Answer V) (told told' : Option (List RecordEntry)) (starts starts' : Option (List ℕ))
-        → starts' ≡ with_more starts (begins_now context.task old)
-        → Chosen V Task F T choice after subject answers told told' starts starts' turns turns' tasks states number t.pick.task old context
-    chosen_of answers told told' starts starts' starts_is = record {
+    -- a task that has its answer isn't the one that is taken up
+    elsewhere : (n : ℕ) → n ≡ number → slice_get old.states n ≡ Some state.Done → ⊥
+    elsewhere n same is =
+        let there : slice_get old.states number ≡ Some state.Done = subst (λ k. slice_get old.states k ≡ Some state.Done) same is in
+        let was_is = t.pick.old_is in
+        let done : was ≡ state.Done = cc in
+        undone done
+
+    chosen_by : Chosen Own e.plan.Task Future e.turns.State e.turns.choice e.turns.after e.plan.asks
+        (e.turns.state old.turns) (e.turns.state turns) (e.plan.tasks old.plan) old.states number t.pick.task was context
+    chosen_by = record {
       picked = t.chosen;
       turns_is = t.turns_is;
       task_is = t.pick.task_is;
       old_is = t.pick.old_is;
       context_is = t.context_is;
-      starts_is = starts_is;
     }
 
-    sound_waiting : (new : State F) → Waiting (call_of context) new → IsSound is_for subject holds tasks (slice_set states number new) waiting
-    sound_waiting new w = subst (λ s. IsSound is_for subject holds tasks (slice_set states number s) waiting) w.new_is
-        (sound_waits V Task F is_for subject holds tasks states waiting number t.pick.task old w.future t.sound t.pick.task_is t.pick.old_is undone t.pick.not_root
-        (subst (is_for w.future) t.context_is.call_is w.fits))
+    -- the moment after a turn without an answer
+    abbrev pub pending : R → H → State Future → Moment R Future L H P
+    pending set hooks new = record {
+      plan = old.plan;
+      states = slice_set old.states number new;
+      waiting = old.waiting;
+      set = set;
+      hooks = hooks;
+      turns = turns;
+    }
 
-    progress_waiting : (lawful quiet : Type 0) (due : Call V → Answer V) (told told' : Option (List RecordEntry)) (starts starts' : Option (List ℕ)) (new : State F)
-        → Waiting (call_of context) new
-        → (quiet → told' ≡ with_more told (entry_of context false ∷ [])) → (quiet → starts' ≡ with_more starts (begins_now context.task old))
-        → Progress lawful quiet subject due choice after holds holds (stage_of tasks states told starts turns) (stage_of tasks (slice_set states number new) told' starts' turns')
-    progress_waiting lawful quiet due told told' starts starts' new w told_is starts_is =
-        subst (λ s. Progress lawful quiet subject due choice after holds holds (stage_of tasks states told starts turns) (stage_of tasks (slice_set states number s) told' starts' turns')) w.new_is
+    went_waiting : (set : R) (hooks : H) (new : State Future) → Waits e (call_of context) new
+        → (e.set.is_paced old.set → e.hooks.are_quiet old.hooks → to_come e.set.number (delay_by e.set old.set context.resolver) was
+        ≡ false ∷ to_come e.set.number (delay_by e.set old.set context.resolver) new)
+        → (e.hooks.are_quiet old.hooks → e.set.told set ≡ with_more (e.set.told old.set) (entry_of context false ∷ []))
+        → (e.hooks.are_quiet old.hooks → e.set.begun set ≡ with_more (e.set.begun old.set) (begins_now context.task was))
+        → Went e old (pending set hooks new)
+    went_waiting set hooks new w paid told_is begun_is = subst (λ s. Went e old (pending set hooks s)) w.new_is
         (record {
-          right = λ law calm answers agrees right. right_waits V Task F is_for subject answers holds tasks states number w.future t.pick.within right;
-          ran = λ law calm answers agrees. ran_pending V Task F T choice after subject answers told told' starts starts' turns turns' tasks states number t.pick.task old context w.future
-              (chosen_of answers told told' starts starts' (starts_is calm)) (told_is calm);
+          sound = sound_of (pending set hooks (state.Waiting w.future))
+              (sound_waits Own e.plan.Task Future e.set.is_for (subject e) (e.plan.holds old.plan) (e.plan.tasks old.plan) old.states old.waiting number t.pick.task was w.future
+              (stands t.sound) t.pick.task_is t.pick.old_is undone t.pick.not_root (subst (e.set.is_for w.future) t.context_is.call_is w.fits));
+          stays = λ n is. record {
+            done = get_set_other old.states number n (state.Waiting w.future) (λ same. elsewhere n same is) ∙ is;
+            held = λ given held. held;
+          };
+          progress = λ law calm answers agrees. record {
+            right = λ base. right_waits Own e.plan.Task Future e.set.is_for (subject e) base answers (e.plan.holds old.plan) (e.plan.tasks old.plan) old.states number w.future t.pick.within;
+            ran = ran_pending Own e.plan.Task Future e.turns.State e.turns.choice e.turns.after e.plan.asks e.plan.beneath answers
+                (e.turns.state old.turns) (e.turns.state turns) (e.plan.tasks old.plan) old.states number t.pick.task was context chosen_by
+                (e.set.told old.set) (e.set.told set) (e.set.begun old.set) (e.set.begun set) (begun_is calm) w.future (told_is calm);
+          };
+          paces = λ pace calm. pays_waiting old (pending set hooks (state.Waiting w.future)) number t.pick.task was (state.Waiting w.future) context
+              t.pick.task_is t.pick.old_is t.context_is (told_is calm)
+              (subst (λ s. to_come e.set.number (delay_by e.set old.set context.resolver) was ≡ false ∷ to_come e.set.number (delay_by e.set old.set context.resolver) s) (sym w.new_is) (paid pace calm))
+              refl refl;
         })
 
-    pub sound_begun : (new : State F) → StartsWaiting is_for (call_of context) old new → IsSound is_for subject holds tasks (slice_set states number new) waiting
-    sound_begun new turned = sound_waiting new (starts (call_of context) old new turned)
+    pub went_begun : (set : R) (hooks : H) (new : State Future) → StartsWaiting e.set.is_for (call_of context) was new
+        → (e.set.is_paced old.set → e.hooks.are_quiet old.hooks → to_come e.set.number (delay_by e.set old.set context.resolver) was
+        ≡ false ∷ to_come e.set.number (delay_by e.set old.set context.resolver) new)
+        → (e.hooks.are_quiet old.hooks → e.set.told set ≡ with_more (e.set.told old.set) (entry_of context false ∷ []))
+        → (e.hooks.are_quiet old.hooks → e.set.begun set ≡ with_more (e.set.begun old.set) (begins_now context.task was))
+        → Went e old (pending set hooks new)
+    went_begun set hooks new turned = went_waiting set hooks new (starts (call_of context) was new turned)
 
-    pub sound_pending : (new : State F) → KeepsWaiting is_for number_of (call_of context) old new → IsSound is_for subject holds tasks (slice_set states number new) waiting
-    sound_pending new turned = sound_waiting new (keeps_on (call_of context) old new turned)
+    pub went_pending : (set : R) (hooks : H) (new : State Future) → KeepsWaiting e.set.is_for e.set.number (call_of context) was new
+        → (e.set.is_paced old.set → e.hooks.are_quiet old.hooks → to_come e.set.number (delay_by e.set old.set context.resolver) was
+        ≡ false ∷ to_come e.set.number (delay_by e.set old.set context.resolver) new)
+        → (e.hooks.are_quiet old.hooks → e.set.told set ≡ with_more (e.set.told old.set) (entry_of context false ∷ []))
+        → (e.hooks.are_quiet old.hooks → e.set.begun set ≡ with_more (e.set.begun old.set) (begins_now context.task was))
+        → Went e old (pending set hooks new)
+    went_pending set hooks new turned = went_waiting set hooks new (keeps_on (call_of context) was new turned)
 
-    pub progress_begun : (lawful quiet : Type 0) (due : Call V → Answer V) (told told' : Option (List RecordEntry)) (starts starts' : Option (List ℕ)) (new : State F)
-        → StartsWaiting is_for (call_of context) old new
-        → (quiet → told' ≡ with_more told (entry_of context false ∷ [])) → (quiet → starts' ≡ with_more starts (begins_now context.task old))
-        → Progress lawful quiet subject due choice after holds holds (stage_of tasks states told starts turns) (stage_of tasks (slice_set states number new) told' starts' turns')
-    progress_begun lawful quiet due told told' starts_ starts_' new turned = progress_waiting lawful quiet due told told' starts_ starts_' new (starts (call_of context) old new turned)
+    -- what a plan has done with what the task was given
+    pub record Completed (plan : L) (given : Given Own) (count : ℕ) : Type 0 where
+      pub made : e.plan.tasks plan ≡ e.plan.tasks old.plan ++ beneath_given e.plan.beneath t.pick.task given
+      pub count_is : count ≡ length (beneath_given e.plan.beneath t.pick.task given)
+      pub holding : e.plan.holds plan number given
+      pub keeps : (other : ℕ) (g : Given Own) → (other ≡ number → ⊥) → e.plan.holds old.plan other g → e.plan.holds plan other g
 
-    pub progress_pending : (lawful quiet : Type 0) (due : Call V → Answer V) (told told' : Option (List RecordEntry)) (starts starts' : Option (List ℕ)) (new : State F)
-        → KeepsWaiting is_for number_of (call_of context) old new
-        → (quiet → told' ≡ with_more told (entry_of context false ∷ [])) → (quiet → starts' ≡ with_more starts (begins_now context.task old))
-        → Progress lawful quiet subject due choice after holds holds (stage_of tasks states told starts turns) (stage_of tasks (slice_set states number new) told' starts' turns')
-    progress_pending lawful quiet due told told' starts_ starts_' new turned = progress_waiting lawful quiet due told told' starts_ starts_' new (keeps_on (call_of context) old new turned)
+    pub completed_by : (plan : L) (given : Given Own) (count : ℕ)
+        → ((task : e.plan.Task) → slice_get (e.plan.tasks old.plan) number ≡ Some task
+        → (e.plan.tasks plan ≡ e.plan.tasks old.plan ++ beneath_given e.plan.beneath task given) × (count ≡ length (beneath_given e.plan.beneath task given)))
+        → e.plan.holds plan number given
+        → ((other : ℕ) (g : Given Own) → (other ≡ number → ⊥) → e.plan.holds old.plan other g → e.plan.holds plan other g)
+        → Completed plan given count
+    completed_by plan given count made holding keeps =
+        let m = made t.pick.task t.pick.task_is in
+        record { made = m.0; count_is = m.1; holding = holding; keeps = keeps }
+
+    -- the tasks beneath are no roots of a mutation
+    abbrev pub NeverRoots : Type 0
+    NeverRoots = (task : e.plan.Task) (answer : Answer Own) (place : ℕ) (below : e.plan.Task)
+        → slice_get (e.plan.beneath task answer) place ≡ Some below → (e.plan.asks below).call.is_root ≡ false
+
+    no_roots : NeverRoots → (given : Given Own) (place : ℕ) (below : e.plan.Task)
+        → slice_get (beneath_given e.plan.beneath t.pick.task given) place ≡ Some below → (e.plan.asks below).call.is_root ≡ false
+    no_roots never (Answered answer) place below is = never t.pick.task answer place below is
+    no_roots never (Put put) place below is = absurd (cc)
 
     -- the states after an answer, whatever state the task itself had come to
-    settled_states : (states' : List (State F)) (new : State F) (count : ℕ) (more : List Task) → count ≡ length more
-        → states' ≡ slice_set (slice_set states number new) number state.Done ++ fresh_states count
-        → slice_set states number state.Done ++ fresh_states (length more) ≡ states'
-    settled_states states' new count more count_is is =
-        sym (is ∙ ap (λ ss. ss ++ fresh_states count) (set_set states number new state.Done) ∙ ap (λ k. slice_set states number state.Done ++ fresh_states k) count_is)
+    settled_states : (states : List (State Future)) (new : State Future) (count : ℕ) (more : List e.plan.Task) → count ≡ length more
+        → states ≡ slice_set (slice_set old.states number new) number state.Done ++ fresh_states count
+        → slice_set old.states number state.Done ++ fresh_states (length more) ≡ states
+    settled_states states new count more count_is is =
+        sym (is ∙ ap (λ ss. ss ++ fresh_states count) (set_set old.states number new state.Done) ∙ ap (λ k. slice_set old.states number state.Done ++ fresh_states k) count_is)
 
-    pub sound_answered : (holds' : ℕ → Answer V → Type 0) (tasks' : List Task) (states' : List (State F)) (waiting' : List ℕ) (new : State F) (answer : Answer V) (count : ℕ)
-        → ((other : ℕ) (a : Answer V) → (other ≡ number → ⊥) → holds other a → holds' other a) → holds' number answer
-        → ((task : Task) → slice_get tasks number ≡ Some task → (tasks' ≡ tasks ++ subject.beneath task answer) × (count ≡ length (subject.beneath task answer)))
-        → ((task : Task) (a : Answer V) (place : ℕ) (below : Task) → slice_get (subject.beneath task a) place ≡ Some below → (subject.call below).is_root ≡ false)
-        → states' ≡ slice_set (slice_set states number new) number state.Done ++ fresh_states count
-        → waiting' ≡ waiting_from 0 (marks_of states')
-        → IsSound is_for subject holds' tasks' states' waiting'
-    sound_answered holds' tasks' states' waiting' new answer count keeps holding made roots states_is waits =
-        let m = made t.pick.task t.pick.task_is in
-        let more = subject.beneath t.pick.task answer in
-        let states_form = settled_states states' new count more m.1 states_is in
-        subst (λ ts. IsSound is_for subject holds' ts states' waiting') (sym m.0)
-        (subst (λ ss. IsSound is_for subject holds' (tasks ++ more) ss waiting') states_form
-        (sound_settled V Task F is_for subject holds holds' tasks more states waiting waiting' number answer t.sound keeps holding (roots t.pick.task answer)
-        (waits ∙ ap (λ ss. waiting_from 0 (marks_of ss)) (sym states_form))))
+    sound_answered : (new : Moment R Future L H P) (now : State Future) (given : Given Own) (count : ℕ) → Completed new.plan given count → NeverRoots
+        → new.states ≡ slice_set (slice_set old.states number now) number state.Done ++ fresh_states count
+        → new.waiting ≡ waiting_from 0 (marks_of new.states)
+        → IsSound e new
+    sound_answered new now given count made never states_is waits =
+        let more = beneath_given e.plan.beneath t.pick.task given in
+        let form = settled_states new.states now count more made.count_is states_is in
+        sound_of new
+        (subst (λ ts. Stands e.set.is_for (subject e) (e.plan.holds new.plan) ts new.states new.waiting) (sym made.made)
+        (subst (λ ss. Stands e.set.is_for (subject e) (e.plan.holds new.plan) (e.plan.tasks old.plan ++ more) ss new.waiting) form
+        (sound_settled Own e.plan.Task Future e.set.is_for (subject e) (e.plan.holds old.plan) (e.plan.holds new.plan) (e.plan.tasks old.plan) more old.states old.waiting new.waiting number given
+        (stands t.sound) made.keeps made.holding (no_roots never given)
+        (waits ∙ ap (λ ss. waiting_from 0 (marks_of ss)) (sym form)))))
 
-    pub progress_answered : (holds' : ℕ → Answer V → Type 0) (tasks' : List Task) (states' : List (State F)) (new : State F) (answer : Answer V) (count : ℕ)
-        (lawful quiet : Type 0) (due : Call V → Answer V) (told told' : Option (List RecordEntry)) (starts starts' : Option (List ℕ))
-        → ((other : ℕ) (a : Answer V) → (other ≡ number → ⊥) → holds other a → holds' other a) → holds' number answer
-        → ((task : Task) → slice_get tasks number ≡ Some task → (tasks' ≡ tasks ++ subject.beneath task answer) × (count ≡ length (subject.beneath task answer)))
-        → states' ≡ slice_set (slice_set states number new) number state.Done ++ fresh_states count
-        → (lawful → quiet → answer ≡ due (call_of context))
-        → (quiet → told' ≡ with_more told (entry_of context true ∷ [])) → (quiet → starts' ≡ with_more starts (begins_now context.task old))
-        → Progress lawful quiet subject due choice after holds holds' (stage_of tasks states told starts turns) (stage_of tasks' states' told' starts' turns')
-    progress_answered holds' tasks' states' new answer count lawful quiet due told told' starts_ starts_' keeps holding made states_is answer_is told_is starts_is =
-        let m = made t.pick.task t.pick.task_is in
-        let more = subject.beneath t.pick.task answer in
-        subst (λ ts. Progress lawful quiet subject due choice after holds holds' (stage_of tasks states told starts_ turns) (stage_of ts states' told' starts_' turns')) (sym m.0)
-        (subst (λ ss. Progress lawful quiet subject due choice after holds holds' (stage_of tasks states told starts_ turns) (stage_of (tasks ++ more) ss told' starts_' turns')) (settled_states states' new count more m.1 states_is)
-        (record {
-          right = λ law calm answers agrees right. right_settled V Task F is_for subject answers holds holds' tasks more states number t.pick.task t.sound.lengths right t.pick.task_is keeps
-              (subst (holds' number) (due_is law calm answers agrees) holding);
-          ran = λ law calm answers agrees. ran_ready V Task F T choice after subject answers told told' starts_ starts_' turns turns' tasks states number t.pick.task old context more
-              (chosen_of answers told told' starts_ starts_' (starts_is calm)) (told_is calm) (ap (subject.beneath t.pick.task) (due_is law calm answers agrees));
-        }))
+    progress_answered : (new : Moment R Future L H P) (now : State Future) (given : Given Own) (count : ℕ) → Completed new.plan given count
+        → new.states ≡ slice_set (slice_set old.states number now) number state.Done ++ fresh_states count
+        → e.turns.state new.turns ≡ e.turns.state turns
+        → given ≡ Answered (due_by e.set old.set (call_of context))
+        → e.set.told new.set ≡ with_more (e.set.told old.set) (entry_of context true ∷ [])
+        → e.set.begun new.set ≡ with_more (e.set.begun old.set) (begins_now context.task was)
+        → (answers : e.plan.Task → Answer Own) → Agrees (subject e) (due_by e.set old.set) answers → Progress e old new answers
+    progress_answered new now given count made states_is turns_is given_is told_is begun_is answers agrees =
+        let more = beneath_given e.plan.beneath t.pick.task given in
+        let form = settled_states new.states now count more made.count_is states_is in
+        let due_is : given ≡ Answered (answers t.pick.task) = given_is ∙ ap Answered (ap (due_by e.set old.set) t.context_is.call_is ∙ sym (agrees.agrees t.pick.task t.pick.not_root)) in
+        record {
+          right = λ base right. subst (λ ts. IsRight base answers (e.plan.holds new.plan) ts new.states) (sym made.made)
+              (subst (λ ss. IsRight base answers (e.plan.holds new.plan) (e.plan.tasks old.plan ++ more) ss) form
+              (right_settled Own e.plan.Task Future e.set.is_for (subject e) base answers (e.plan.holds old.plan) (e.plan.holds new.plan) (e.plan.tasks old.plan) more old.states number t.pick.task
+              t.sound.lengths right t.pick.task_is made.keeps (subst (e.plan.holds new.plan number) due_is made.holding)));
+          ran = ran_answered new more form made.made turns_is told_is begun_is answers (ap (beneath_given e.plan.beneath t.pick.task) due_is);
+        }
       where
-        due_is : lawful → quiet → (answers : Task → Answer V) → Agrees subject due answers → answer ≡ answers t.pick.task
-        due_is law calm answers agrees = answer_is law calm ∙ ap due t.context_is.call_is ∙ sym (agrees.agrees t.pick.task t.pick.not_root)
+        ran_answered : (new : Moment R Future L H P) (more : List e.plan.Task) → slice_set old.states number state.Done ++ fresh_states (length more) ≡ new.states
+            → e.plan.tasks new.plan ≡ e.plan.tasks old.plan ++ more → e.turns.state new.turns ≡ e.turns.state turns
+            → e.set.told new.set ≡ with_more (e.set.told old.set) (entry_of context true ∷ [])
+            → e.set.begun new.set ≡ with_more (e.set.begun old.set) (begins_now context.task was)
+            → (answers : e.plan.Task → Answer Own) → more ≡ e.plan.beneath t.pick.task (answers t.pick.task)
+            → Ran e.turns.choice e.turns.after (story_of (subject e) answers) (stage e old) (stage e new)
+        ran_answered new more form made turns_is told_is begun_is answers more_is =
+            subst (λ ss. Ran e.turns.choice e.turns.after (story_of (subject e) answers) (stage e old) (staged (made_of (e.plan.tasks new.plan) ss) (e.set.told new.set) (e.set.begun new.set) (e.turns.state new.turns))) form
+            (subst (λ ts. Ran e.turns.choice e.turns.after (story_of (subject e) answers) (stage e old)
+            (staged (made_of ts (slice_set old.states number state.Done ++ fresh_states (length more))) (e.set.told new.set) (e.set.begun new.set) (e.turns.state new.turns))) (sym made)
+            (subst (λ s. Ran e.turns.choice e.turns.after (story_of (subject e) answers) (stage e old)
+            (staged (made_of (e.plan.tasks old.plan ++ more) (slice_set old.states number state.Done ++ fresh_states (length more))) (e.set.told new.set) (e.set.begun new.set) s)) (sym turns_is)
+            (ran_ready Own e.plan.Task Future e.turns.State e.turns.choice e.turns.after e.plan.asks e.plan.beneath answers
+            (e.turns.state old.turns) (e.turns.state turns) (e.plan.tasks old.plan) old.states number t.pick.task was context chosen_by
+            (e.set.told old.set) (e.set.told new.set) (e.set.begun old.set) (e.set.begun new.set) begun_is more told_is more_is)))
 
-    pub ended_before : (lawful quiet : Type 0) (due : Call V → Answer V) (told told' : Option (List RecordEntry)) (starts starts' : Option (List ℕ))
-        → (quiet → told' ≡ with_more told []) → (quiet → BeginsAtMost context.task starts starts')
-        → Ended lawful quiet subject due choice after (stage_of tasks states told starts turns) told' starts'
-    ended_before lawful quiet due told told' starts_ starts_' told_is begins = record {
+    -- a task has its answer
+    pub went_answered : (new : Moment R Future L H P) (now : State Future) (given : Given Own) (count : ℕ) → Completed new.plan given count → NeverRoots
+        → new.states ≡ slice_set (slice_set old.states number now) number state.Done ++ fresh_states count
+        → new.waiting ≡ waiting_from 0 (marks_of new.states)
+        → e.turns.state new.turns ≡ e.turns.state turns
+        → (e.set.is_lawful old.set → e.hooks.are_quiet old.hooks → given ≡ Answered (due_by e.set old.set (call_of context)))
+        → (e.set.is_paced old.set → e.hooks.are_quiet old.hooks → to_come e.set.number (delay_by e.set old.set context.resolver) was ≡ true ∷ [])
+        → (e.hooks.are_quiet old.hooks → e.set.told new.set ≡ with_more (e.set.told old.set) (entry_of context true ∷ []))
+        → (e.hooks.are_quiet old.hooks → e.set.begun new.set ≡ with_more (e.set.begun old.set) (begins_now context.task was))
+        → Went e old new
+    went_answered new now given count made never states_is waits turns_is given_is paid told_is begun_is = record {
+      sound = sound_answered new now given count made never states_is waits;
+      stays = λ n is. record {
+        done = ap (λ ss. slice_get ss n) (states_is ∙ ap (λ ss. ss ++ fresh_states count) (set_set old.states number now state.Done))
+            ∙ get_append_left (slice_set old.states number state.Done) (fresh_states count) n state.Done
+            (get_set_other old.states number n state.Done (λ same. elsewhere n same is) ∙ is);
+        held = λ g held. made.keeps n g (λ same. elsewhere n same is) held;
+      };
+      progress = λ law calm. progress_answered new now given count made states_is turns_is (given_is law calm) (told_is calm) (begun_is calm);
+      paces = λ pace calm. pays_answer old new number t.pick.task was context (beneath_given e.plan.beneath t.pick.task given) count t.pick.task_is t.pick.old_is t.context_is
+          (told_is calm) (paid pace calm) made.made (states_is ∙ ap (λ ss. ss ++ fresh_states count) (set_set old.states number now state.Done));
+    }
+
+    -- memory was wanting before the entry of the turn
+    pub ended_before : (set : R)
+        → (e.hooks.are_quiet old.hooks → e.set.told set ≡ with_more (e.set.told old.set) [])
+        → (e.hooks.are_quiet old.hooks → BeginsAtMost context.task (e.set.begun old.set) (e.set.begun set))
+        → Ended e old set
+    ended_before set told_is begins = record {
       stopped = λ law calm answers agrees. elim (begins calm) [
-        | inl same ↦ stopped_before V Task F T choice after subject answers told told' starts_ starts_' turns (made_of tasks states) [] (told_is calm ∙ with_more_none told) (omega arith) (same ∙ sym (with_more_none starts_))
-        | inr one ↦ stopped_before V Task F T choice after subject answers told told' starts_ starts_' turns (made_of tasks states) (context.task ∷ []) (told_is calm ∙ with_more_none told) (omega arith) one
+        | inl same ↦ stopped_before e.turns.choice e.turns.after (story_of (subject e) answers) (stage e old) (e.set.told set) (e.set.begun set) []
+            (told_is calm ∙ with_more_none (e.set.told old.set)) (omega arith) (same ∙ sym (with_more_none (e.set.begun old.set)))
+        | inr one ↦ stopped_before e.turns.choice e.turns.after (story_of (subject e) answers) (stage e old) (e.set.told set) (e.set.begun set) (context.task ∷ [])
+            (told_is calm ∙ with_more_none (e.set.told old.set)) (omega arith) one
       ];
+      paces = λ pace calm. so_far_none old set (told_is calm);
     }
 
-    pub ended_after : (lawful quiet : Type 0) (due : Call V → Answer V) (told told' : Option (List RecordEntry)) (starts starts' : Option (List ℕ))
-        → (quiet → told' ≡ with_more told (entry_of context true ∷ [])) → (quiet → starts' ≡ with_more starts (begins_now context.task old))
-        → Ended lawful quiet subject due choice after (stage_of tasks states told starts turns) told' starts'
-    ended_after lawful quiet due told told' starts_ starts_' told_is starts_is = record {
-      stopped = λ law calm answers agrees. stopped_after V Task F T choice after subject answers told told' starts_ starts_' turns turns' tasks states number t.pick.task old context true
-          (chosen_of answers told told' starts_ starts_' (starts_is calm)) (told_is calm);
+    -- memory was wanting after it
+    pub ended_after : (set : R)
+        → (e.set.is_paced old.set → e.hooks.are_quiet old.hooks → to_come e.set.number (delay_by e.set old.set context.resolver) was ≡ true ∷ [])
+        → (e.hooks.are_quiet old.hooks → e.set.told set ≡ with_more (e.set.told old.set) (entry_of context true ∷ []))
+        → (e.hooks.are_quiet old.hooks → e.set.begun set ≡ with_more (e.set.begun old.set) (begins_now context.task was))
+        → Ended e old set
+    ended_after set paid told_is begun_is = record {
+      stopped = λ law calm answers agrees. stopped_after Own e.plan.Task Future e.turns.State e.turns.choice e.turns.after e.plan.asks e.plan.beneath answers
+          (e.turns.state old.turns) (e.turns.state turns) (e.plan.tasks old.plan) old.states number t.pick.task was context chosen_by
+          (e.set.told old.set) (e.set.told set) (e.set.begun old.set) (e.set.begun set) (begun_is calm) true (told_is calm);
+      paces = λ pace calm. so_far_answer old set number t.pick.task was context t.pick.task_is t.pick.old_is t.context_is (told_is calm) (paid pace calm);
     }
 
-    pub nearer_answered : (states' : List (State F)) (new : State F) (count : ℕ)
-        → states' ≡ slice_set (slice_set states number new) number state.Done ++ fresh_states count → length states' ≤ 2 ^ 64
-        → Nearer number_of true states states'
-    nearer_answered states' new count is room =
-        let form : slice_set states number state.Done ++ fresh_states count ≡ states' = sym (is ∙ ap (λ ss. ss ++ fresh_states count) (set_set states number new state.Done)) in
-        subst (λ ss. Nearer number_of true states ss) form
-        (nearer_settled F number_of states number count old t.pick.old_is undone (subst (λ ss. length ss ≤ 2 ^ 64) (sym form) room))
+    pub nearer_answered : (states : List (State Future)) (new : State Future) (count : ℕ)
+        → states ≡ slice_set (slice_set old.states number new) number state.Done ++ fresh_states count → length states ≤ 2 ^ 64
+        → Nearer e.set.number true old.states states
+    nearer_answered states new count is room =
+        let form : slice_set old.states number state.Done ++ fresh_states count ≡ states = sym (is ∙ ap (λ ss. ss ++ fresh_states count) (set_set old.states number new state.Done)) in
+        subst (λ ss. Nearer e.set.number true old.states ss) form
+        (nearer_settled Future e.set.number old.states number count was t.pick.old_is undone (subst (λ ss. length ss ≤ 2 ^ 64) (sym form) room))

@@ -2,6 +2,7 @@ pub mod AdvanceLemmas
 pub mod ApartLemmas
 pub mod ApartPlanLemmas
 pub mod ArenaLemmas
+pub mod BlockLemmas
 pub mod Lists
 pub mod NearerLemmas
 pub mod PaceLemmas

@@ -10,10 +10,12 @@ use Rattle.gql_resolve.specs.declared.record_entry.RecordEntry.{RecordEntry}
 use Rattle.gql_resolve.specs.declared.resolver_context.ResolverContext.{ResolverContext}
 use Rattle.gql_engine.specs.declared.arena.State.{State}
 use Rattle.gql_engine.specs.declared.arena.State.TheVariants as state
-use Rattle.gql_engine.specs.Arena.{fresh_states, Subject}
-use Rattle.gql_engine.specs.Pace.{pending_then_ready, to_come, to_come_at, told_of, Paces, Pacing, EachPaced}
-use Rattle.gql_engine.proofs.AdvanceLemmas.{Taken}
-use Rattle.gql_engine.proofs.Lists.{get_set_same, get_set_other, get_append_left, get_within, set_set}
+use Rattle.gql_engine.specs.Arena.{fresh_states}
+use Rattle.gql_engine.specs.Pace.{pending_then_ready, to_come, to_come_at, told_of, EachPaced, EachPacedSoFar}
+use Rattle.gql_engine.specs.Parts.{Parts, Moment, delay_by, delay_at}
+use Rattle.gql_engine.specs.Plan.{IsContextOf}
+use Rattle.gql_engine.specs.Progress.{Paces, PacesSoFar}
+use Rattle.gql_engine.proofs.Lists.{get_set_same, get_set_other, get_append_left, get_within}
 use Rattle.gql_engine.proofs.RecordLemmas.{with_more_none, with_more_append}
 
 told_append : (k : ℕ) (one other : List RecordEntry) → told_of k (one ++ other) ≡ told_of k one ++ told_of k other
@@ -42,128 +44,190 @@ module _ {F : Type 0} (number_of : F → ℕ) where
   come_more (s ∷ states) n zero due = refl
   come_more (s ∷ states) n (suc k) due = come_more states n k due
 
-module _ {Task F : Type 0} (number_of : F → ℕ) where
-  pub pacing_none : (quiet paced : Type 0) (delay : Task → ℕ) (told : Option (List RecordEntry)) (tasks : List Task) (states : List (State F))
-      → Pacing quiet paced paced number_of delay told told tasks tasks states states
-  pacing_none quiet paced delay told tasks states = record {
-    still = λ pace. pace;
-    paces = λ calm pace. record {
-      entries = [];
-      told_is = sym (with_more_none told);
-      stays = λ k task is. is;
-      splits = λ k due is. refl;
-    };
+module _ {R Own World Future L H P : Type 0} {e : Parts R Own World Future L H P} where
+  pub paces_none : (m : Moment R Future L H P) → Paces e m m
+  paces_none m = record {
+    entries = [];
+    told_is = sym (with_more_none (e.set.told m.set));
+    stays = λ k task is. is;
+    splits = λ k due is. refl;
   }
 
-  pub pacing_trans : (quiet quiet' paced paced' paced'' : Type 0) (delay delay' : Task → ℕ) (told told' told'' : Option (List RecordEntry)) (tasks tasks' tasks'' : List Task) (states states' states'' : List (State F))
-      → (quiet → quiet') → ((task : Task) → delay' task ≡ delay task)
-      → Pacing quiet paced paced' number_of delay told told' tasks tasks' states states'
-      → Pacing quiet' paced' paced'' number_of delay' told' told'' tasks' tasks'' states' states''
-      → Pacing quiet paced paced'' number_of delay told told'' tasks tasks'' states states''
-  pacing_trans quiet quiet' paced paced' paced'' delay delay' told told' told'' tasks tasks' tasks'' states states' states'' quiet_is same first second = record {
-    still = λ pace. second.still (first.still pace);
-    paces = λ calm pace. both (first.paces calm pace) (second.paces (quiet_is calm) (first.still pace));
+  pub paces_trans : {old middle new : Moment R Future L H P} → e.set.rules middle.set ≡ e.set.rules old.set → Paces e old middle → Paces e middle new → Paces e old new
+  paces_trans {old = old} {middle = middle} {new = new} rules_is one other = record {
+    entries = one.entries ++ other.entries;
+    told_is = other.told_is ∙ ap (λ t. with_more t other.entries) one.told_is ∙ with_more_append (e.set.told old.set) one.entries other.entries;
+    stays = λ k task is. other.stays k task (one.stays k task is);
+    splits = λ k due is.
+        one.splits k due (λ task at. is task (other.stays k task at))
+        ∙ ap (λ fs. told_of k one.entries ++ fs) (other.splits k due (λ task at. is task at ∙ sym (same task)))
+        ∙ sym (append_assoc (told_of k one.entries) (told_of k other.entries) (to_come_at e.set.number due (slice_get new.states k)))
+        ∙ ap (λ fs. fs ++ to_come_at e.set.number due (slice_get new.states k)) (sym (told_append k one.entries other.entries));
   }
     where
-      both : Paces number_of delay told told' tasks tasks' states states' → Paces number_of delay' told' told'' tasks' tasks'' states' states''
-          → Paces number_of delay told told'' tasks tasks'' states states''
-      both one other = record {
-        entries = one.entries ++ other.entries;
-        told_is = other.told_is ∙ ap (λ t. with_more t other.entries) one.told_is ∙ with_more_append told one.entries other.entries;
-        stays = λ k task is. other.stays k task (one.stays k task is);
-        splits = λ k due is.
-            one.splits k due (λ task at. is task (other.stays k task at))
-            ∙ ap (λ fs. told_of k one.entries ++ fs) (other.splits k due (λ task at. is task at ∙ sym (same task)))
-            ∙ sym (append_assoc (told_of k one.entries) (told_of k other.entries) (to_come_at number_of due (slice_get states'' k)))
-            ∙ ap (λ fs. fs ++ to_come_at number_of due (slice_get states'' k)) (sym (told_append k one.entries other.entries));
-      }
+      same : (task : e.plan.Task) → delay_at e middle task ≡ delay_at e old task
+      same task = ap (λ r. e.set.delay r (e.plan.asks task).call.resolver) rules_is
 
   -- one entry, of the task that is taken up
-  one_pays : {V : Type 0} (delay : Task → ℕ) (told told' : Option (List RecordEntry)) (tasks tasks' : List Task) (states states' : List (State F))
-      (number : ℕ) (task : Task) (old new : State F) (context : ResolverContext V) (is_ready : Bool)
-      → slice_get tasks number ≡ Some task → slice_get states number ≡ Some old → context.task ≡ number
-      → told' ≡ with_more told (entry_of context is_ready ∷ [])
-      → to_come number_of (delay task) old ≡ is_ready ∷ to_come number_of (delay task) new
-      → ((k : ℕ) (t : Task) → slice_get tasks k ≡ Some t → slice_get tasks' k ≡ Some t)
-      → slice_get states' number ≡ Some new
-      → ((k due : ℕ) → (k ≡ number → ⊥) → to_come_at number_of due (slice_get states k) ≡ to_come_at number_of due (slice_get states' k))
-      → Paces number_of delay told told' tasks tasks' states states'
-  one_pays delay told told' tasks tasks' states states' number task old new context is_ready task_is old_is number_is told_is paid stays new_is others = record {
+  pub one_pays : (old new : Moment R Future L H P) (number : ℕ) (task : e.plan.Task) (was now : State Future) (context : ResolverContext Own) (is_ready : Bool)
+      → slice_get (e.plan.tasks old.plan) number ≡ Some task → slice_get old.states number ≡ Some was → IsContextOf number (e.plan.asks task) context
+      → e.set.told new.set ≡ with_more (e.set.told old.set) (entry_of context is_ready ∷ [])
+      → to_come e.set.number (delay_by e.set old.set context.resolver) was ≡ is_ready ∷ to_come e.set.number (delay_by e.set old.set context.resolver) now
+      → ((k : ℕ) (t : e.plan.Task) → slice_get (e.plan.tasks old.plan) k ≡ Some t → slice_get (e.plan.tasks new.plan) k ≡ Some t)
+      → slice_get new.states number ≡ Some now
+      → ((k due : ℕ) → (k ≡ number → ⊥) → to_come_at e.set.number due (slice_get old.states k) ≡ to_come_at e.set.number due (slice_get new.states k))
+      → Paces e old new
+  one_pays old new number task was now context is_ready task_is was_is context_is told_is paid stays now_is others = record {
     entries = entry_of context is_ready ∷ [];
     told_is = told_is;
     stays = stays;
     splits = λ k due is. elim (cases_eq k number) [
       | inl same ↦ here k due is same
       | inr differs ↦ others k due differs
-          ∙ ap (λ fs. fs ++ to_come_at number_of due (slice_get states' k)) (sym (told_elsewhere k (entry_of context is_ready) (λ f. differs (sym f ∙ number_is))))
+          ∙ ap (λ fs. fs ++ to_come_at e.set.number due (slice_get new.states k)) (sym (told_elsewhere k (entry_of context is_ready) (λ f. differs (sym f ∙ context_is.task_is))))
     ];
   }
     where
-      here : (k due : ℕ) → ((t : Task) → slice_get tasks' k ≡ Some t → due ≡ delay t) → k ≡ number
-          → to_come_at number_of due (slice_get states k) ≡ told_of k (entry_of context is_ready ∷ []) ++ to_come_at number_of due (slice_get states' k)
+      delay_is : delay_by e.set old.set context.resolver ≡ delay_at e old task
+      delay_is = ap (λ call. delay_by e.set old.set call.resolver) context_is.call_is
+
+      here : (k due : ℕ) → ((t : e.plan.Task) → slice_get (e.plan.tasks new.plan) k ≡ Some t → due ≡ delay_at e old t) → k ≡ number
+          → to_come_at e.set.number due (slice_get old.states k) ≡ told_of k (entry_of context is_ready ∷ []) ++ to_come_at e.set.number due (slice_get new.states k)
       here k due is same =
-          let d : due ≡ delay task = is task (subst (λ j. slice_get tasks' j ≡ Some task) (sym same) (stays number task task_is)) in
-          let a : to_come_at number_of due (slice_get states k) ≡ to_come number_of (delay task) old =
-          ap (λ j. to_come_at number_of due (slice_get states j)) same ∙ ap (to_come_at number_of due) old_is ∙ ap (λ u. to_come number_of u old) d in
-          let b : to_come_at number_of due (slice_get states' k) ≡ to_come number_of (delay task) new =
-          ap (λ j. to_come_at number_of due (slice_get states' j)) same ∙ ap (to_come_at number_of due) new_is ∙ ap (λ u. to_come number_of u new) d in
+          let d : due ≡ delay_by e.set old.set context.resolver = is task (subst (λ j. slice_get (e.plan.tasks new.plan) j ≡ Some task) (sym same) (stays number task task_is)) ∙ sym delay_is in
+          let a : to_come_at e.set.number due (slice_get old.states k) ≡ to_come e.set.number (delay_by e.set old.set context.resolver) was =
+          ap (λ j. to_come_at e.set.number due (slice_get old.states j)) same ∙ ap (to_come_at e.set.number due) was_is ∙ ap (λ u. to_come e.set.number u was) d in
+          let b : to_come_at e.set.number due (slice_get new.states k) ≡ to_come e.set.number (delay_by e.set old.set context.resolver) now =
+          ap (λ j. to_come_at e.set.number due (slice_get new.states j)) same ∙ ap (to_come_at e.set.number due) now_is ∙ ap (λ u. to_come e.set.number u now) d in
           a ∙ paid ∙ ap (λ fs. is_ready ∷ fs) (sym b)
-          ∙ ap (λ fs. fs ++ to_come_at number_of due (slice_get states' k)) (sym (told_here k (entry_of context is_ready) (number_is ∙ sym same)))
+          ∙ ap (λ fs. fs ++ to_come_at e.set.number due (slice_get new.states k)) (sym (told_here k (entry_of context is_ready) (context_is.task_is ∙ sym same)))
+
+  pub pays_waiting : (old new : Moment R Future L H P) (number : ℕ) (task : e.plan.Task) (was now : State Future) (context : ResolverContext Own)
+      → slice_get (e.plan.tasks old.plan) number ≡ Some task → slice_get old.states number ≡ Some was → IsContextOf number (e.plan.asks task) context
+      → e.set.told new.set ≡ with_more (e.set.told old.set) (entry_of context false ∷ [])
+      → to_come e.set.number (delay_by e.set old.set context.resolver) was ≡ false ∷ to_come e.set.number (delay_by e.set old.set context.resolver) now
+      → e.plan.tasks new.plan ≡ e.plan.tasks old.plan → new.states ≡ slice_set old.states number now
+      → Paces e old new
+  pays_waiting old new number task was now context task_is was_is context_is told_is paid tasks_is states_is =
+      one_pays old new number task was now context false task_is was_is context_is told_is paid
+      (λ k t is. ap (λ ts. slice_get ts k) tasks_is ∙ is)
+      (ap (λ ss. slice_get ss number) states_is ∙ get_set_same old.states number now (get_within old.states number was was_is))
+      (λ k due differs. ap (to_come_at e.set.number due) (sym (get_set_other old.states number k now differs) ∙ ap (λ ss. slice_get ss k) (sym states_is)))
+
+  pub pays_answer : (old new : Moment R Future L H P) (number : ℕ) (task : e.plan.Task) (was : State Future) (context : ResolverContext Own) (more : List e.plan.Task) (count : ℕ)
+      → slice_get (e.plan.tasks old.plan) number ≡ Some task → slice_get old.states number ≡ Some was → IsContextOf number (e.plan.asks task) context
+      → e.set.told new.set ≡ with_more (e.set.told old.set) (entry_of context true ∷ [])
+      → to_come e.set.number (delay_by e.set old.set context.resolver) was ≡ true ∷ []
+      → e.plan.tasks new.plan ≡ e.plan.tasks old.plan ++ more → new.states ≡ slice_set old.states number state.Done ++ fresh_states count
+      → Paces e old new
+  pays_answer old new number task was context more count task_is was_is context_is told_is paid tasks_is states_is =
+      let within = get_within old.states number was was_is in
+      one_pays old new number task was state.Done context true task_is was_is context_is told_is paid
+      (λ k t is. ap (λ ts. slice_get ts k) tasks_is ∙ get_append_left (e.plan.tasks old.plan) more k t is)
+      (ap (λ ss. slice_get ss number) states_is
+      ∙ get_append_left (slice_set old.states number state.Done) (fresh_states count) number state.Done (get_set_same old.states number state.Done within))
+      (λ k due differs. ap (to_come_at e.set.number due) (sym (get_set_other old.states number k state.Done differs))
+      ∙ come_more e.set.number (slice_set old.states number state.Done) count k due
+      ∙ ap (λ ss. to_come_at e.set.number due (slice_get ss k)) (sym states_is))
+
+  -- where memory was wanting: no entry was told, or that of an answer
+  pub so_far_none : (old : Moment R Future L H P) (set : R) → e.set.told set ≡ with_more (e.set.told old.set) [] → PacesSoFar e old set
+  so_far_none old set told_is = record {
+    entries = [];
+    told_is = told_is;
+    made = e.plan.tasks old.plan;
+    stays = λ k task is. is;
+    splits = λ k due is. (to_come_at e.set.number due (slice_get old.states k), refl);
+  }
+
+  pub so_far_answer : (old : Moment R Future L H P) (set : R) (number : ℕ) (task : e.plan.Task) (was : State Future) (context : ResolverContext Own)
+      → slice_get (e.plan.tasks old.plan) number ≡ Some task → slice_get old.states number ≡ Some was → IsContextOf number (e.plan.asks task) context
+      → e.set.told set ≡ with_more (e.set.told old.set) (entry_of context true ∷ [])
+      → to_come e.set.number (delay_by e.set old.set context.resolver) was ≡ true ∷ []
+      → PacesSoFar e old set
+  so_far_answer old set number task was context task_is was_is context_is told_is paid = record {
+    entries = entry_of context true ∷ [];
+    told_is = told_is;
+    made = e.plan.tasks old.plan;
+    stays = λ k t is. is;
+    splits = λ k due is. elim (cases_eq k number) [
+      | inl same ↦ ([], here k due is same)
+      | inr differs ↦ (
+        to_come_at e.set.number due (slice_get old.states k),
+        ap (λ fs. fs ++ to_come_at e.set.number due (slice_get old.states k)) (sym (told_elsewhere k (entry_of context true) (λ f. differs (sym f ∙ context_is.task_is)))),
+      )
+    ];
+  }
+    where
+      here : (k due : ℕ) → ((t : e.plan.Task) → slice_get (e.plan.tasks old.plan) k ≡ Some t → due ≡ delay_at e old t) → k ≡ number
+          → to_come_at e.set.number due (slice_get old.states k) ≡ told_of k (entry_of context true ∷ []) ++ []
+      here k due is same =
+          let d : due ≡ delay_by e.set old.set context.resolver = is task (subst (λ j. slice_get (e.plan.tasks old.plan) j ≡ Some task) (sym same) task_is)
+          ∙ ap (λ call. delay_by e.set old.set call.resolver) (sym context_is.call_is) in
+          ap (λ j. to_come_at e.set.number due (slice_get old.states j)) same ∙ ap (to_come_at e.set.number due) was_is ∙ ap (λ u. to_come e.set.number u was) d
+          ∙ paid ∙ ap (λ fs. fs ++ []) (sym (told_here k (entry_of context true) (context_is.task_is ∙ sym same)))
+
+  pub so_far_trans : {old middle : Moment R Future L H P} {set : R} → e.set.rules middle.set ≡ e.set.rules old.set → Paces e old middle → PacesSoFar e middle set → PacesSoFar e old set
+  so_far_trans {old = old} {middle = middle} rules_is one other = record {
+    entries = one.entries ++ other.entries;
+    told_is = other.told_is ∙ ap (λ t. with_more t other.entries) one.told_is ∙ with_more_append (e.set.told old.set) one.entries other.entries;
+    made = other.made;
+    stays = λ k task is. other.stays k task (one.stays k task is);
+    splits = λ k due is.
+        let later = other.splits k due (λ task at. is task at ∙ sym (same task)) in (
+          later.0,
+          one.splits k due (λ task at. is task (other.stays k task at))
+              ∙ ap (λ fs. told_of k one.entries ++ fs) later.1
+              ∙ sym (append_assoc (told_of k one.entries) (told_of k other.entries) later.0)
+              ∙ ap (λ fs. fs ++ later.0) (sym (told_append k one.entries other.entries)),
+        );
+  }
+    where
+      same : (task : e.plan.Task) → delay_at e middle task ≡ delay_at e old task
+      same task = ap (λ r. e.set.delay r (e.plan.asks task).call.resolver) rules_is
+
+  pub so_far_whole : {old new : Moment R Future L H P} → Paces e old new → PacesSoFar e old new.set
+  so_far_whole {old = old} {new = new} paces = record {
+    entries = paces.entries;
+    told_is = paces.told_is;
+    made = e.plan.tasks new.plan;
+    stays = paces.stays;
+    splits = λ k due is. (to_come_at e.set.number due (slice_get new.states k), paces.splits k due is);
+  }
+
+  pub each_so_far : {old : Moment R Future L H P} {set : R} (before entries : List RecordEntry) (n : ℕ)
+      → PacesSoFar e old set → e.set.told old.set ≡ Some before → e.set.told set ≡ with_more (e.set.told old.set) entries → old.states ≡ fresh_states n
+      → EachPacedSoFar (delay_at e old) (e.plan.tasks old.plan) entries
+  each_so_far {old = old} {set = set} before entries n paces told_some told_is states_is = record {
+    paced = λ k task is.
+        let told = e.set.told set in
+        let same : entries ≡ paces.entries = append_cancel_left before entries paces.entries (some_is (sym (subst (λ t. told ≡ with_more t entries) told_some told_is) ∙ subst (λ t. told ≡ with_more t paces.entries) told_some paces.told_is)) in
+        let paid = paces.splits k (delay_at e old task) (λ t at. ap (delay_at e old) (some_is (sym (paces.stays k task is) ∙ at))) in (
+          paid.0,
+          sym (ap (λ ss. to_come_at e.set.number (delay_at e old task) (slice_get ss k)) states_is ∙ come_fresh e.set.number n k (delay_at e old task))
+              ∙ paid.1 ∙ ap (λ es. told_of k es ++ paid.0) (sym same),
+        );
+  }
+    where
+      some_is : {X : Type 0} {x y : X} → Some x ≡ Some y → x ≡ y
+      some_is same = cc
 
   -- in the end nothing is to come of any task
-  pub each_paced : (delay : Task → ℕ) (told told' : Option (List RecordEntry)) (before entries : List RecordEntry) (tasks tasks' : List Task) (n : ℕ) (states states' : List (State F))
-      → Paces number_of delay told told' tasks tasks' states states' → told ≡ Some before → told' ≡ with_more told entries
-      → states ≡ fresh_states n → ((k : ℕ) (task : Task) → slice_get tasks' k ≡ Some task → slice_get states' k ≡ Some state.Done)
-      → EachPaced delay tasks' entries
-  each_paced delay told told' before entries tasks tasks' n states states' paces told_some told_is states_is done = record {
+  pub each_paced : {old new : Moment R Future L H P} (before entries : List RecordEntry) (n : ℕ)
+      → Paces e old new → e.set.told old.set ≡ Some before → e.set.told new.set ≡ with_more (e.set.told old.set) entries
+      → old.states ≡ fresh_states n → ((k : ℕ) (task : e.plan.Task) → slice_get (e.plan.tasks new.plan) k ≡ Some task → slice_get new.states k ≡ Some state.Done)
+      → EachPaced (delay_at e old) (e.plan.tasks new.plan) entries
+  each_paced {old = old} {new = new} before entries n paces told_some told_is states_is done = record {
     paced = λ k task is.
-        let same : entries ≡ paces.entries = append_cancel_left before entries paces.entries (some_is (sym (subst (λ t. told' ≡ with_more t entries) told_some told_is) ∙ subst (λ t. told' ≡ with_more t paces.entries) told_some paces.told_is)) in
-        let paid = paces.splits k (delay task) (λ t at. ap delay (some_is (sym is ∙ at))) in
-        let first : to_come_at number_of (delay task) (slice_get states k) ≡ pending_then_ready (delay task) = ap (λ ss. to_come_at number_of (delay task) (slice_get ss k)) states_is ∙ come_fresh number_of n k (delay task) in
-        let last : to_come_at number_of (delay task) (slice_get states' k) ≡ [] = ap (to_come_at number_of (delay task)) (done k task is) in
+        let told = e.set.told new.set in
+        let same : entries ≡ paces.entries = append_cancel_left before entries paces.entries (some_is (sym (subst (λ t. told ≡ with_more t entries) told_some told_is) ∙ subst (λ t. told ≡ with_more t paces.entries) told_some paces.told_is)) in
+        let paid = paces.splits k (delay_at e old task) (λ t at. ap (delay_at e old) (some_is (sym is ∙ at))) in
+        let first : to_come_at e.set.number (delay_at e old task) (slice_get old.states k) ≡ pending_then_ready (delay_at e old task)
+        = ap (λ ss. to_come_at e.set.number (delay_at e old task) (slice_get ss k)) states_is ∙ come_fresh e.set.number n k (delay_at e old task) in
+        let last : to_come_at e.set.number (delay_at e old task) (slice_get new.states k) ≡ [] = ap (to_come_at e.set.number (delay_at e old task)) (done k task is) in
         ap (told_of k) same
         ∙ sym (append-nil (told_of k paces.entries)) ∙ ap (λ fs. told_of k paces.entries ++ fs) (sym last) ∙ sym paid ∙ first;
   }
     where
       some_is : {X : Type 0} {x y : X} → Some x ≡ Some y → x ≡ y
-      some_is e = cc
-
-module _ (V Task F T : Type 0) (choice : T → ℕ → ℕ) (after : T → ℕ → T) (is_for : F → Call V → Type 0) (number_of : F → ℕ) (subject : Subject V Task)
-    (holds : ℕ → Answer V → Type 0) (tasks : List Task) (states : List (State F)) (waiting : List ℕ) (turns turns' : Option T)
-    (number : ℕ) (old : State F) (context : ResolverContext V) (t : Taken V Task F T choice after is_for number_of subject holds tasks states waiting turns turns' number old context)
-    (quiet paced paced' : Type 0) (delay : ℕ → ℕ) (told told' : Option (List RecordEntry)) (still : paced → paced') where
-  resolver_is : context.resolver ≡ (subject.call t.pick.task).resolver
-  resolver_is = ap (λ c. c.resolver) t.context_is.call_is
-
-  pub pacing_waiting : (new : State F)
-      → (quiet → paced → to_come number_of (delay context.resolver) old ≡ false ∷ to_come number_of (delay context.resolver) new)
-      → (quiet → told' ≡ with_more told (entry_of context false ∷ []))
-      → Pacing quiet paced paced' number_of (λ task. delay (subject.call task).resolver) told told' tasks tasks states (slice_set states number new)
-  pacing_waiting new paid told_is = record {
-    still = still;
-    paces = λ calm pace. one_pays number_of (λ task. delay (subject.call task).resolver) told told' tasks tasks states (slice_set states number new) number t.pick.task old new context false
-        t.pick.task_is t.pick.old_is t.context_is.task_is (told_is calm)
-        (subst (λ r. to_come number_of (delay r) old ≡ false ∷ to_come number_of (delay r) new) resolver_is (paid calm pace))
-        (λ k task is. is) (get_set_same states number new t.pick.within)
-        (λ k due differs. ap (to_come_at number_of due) (sym (get_set_other states number k new differs)));
-  }
-
-  pub pacing_answered : (tasks' : List Task) (states' : List (State F)) (new : State F) (answer : Answer V) (count : ℕ)
-      → ((task : Task) → slice_get tasks number ≡ Some task → (tasks' ≡ tasks ++ subject.beneath task answer) × (count ≡ length (subject.beneath task answer)))
-      → states' ≡ slice_set (slice_set states number new) number state.Done ++ fresh_states count
-      → (quiet → paced → to_come number_of (delay context.resolver) old ≡ true ∷ [])
-      → (quiet → told' ≡ with_more told (entry_of context true ∷ []))
-      → Pacing quiet paced paced' number_of (λ task. delay (subject.call task).resolver) told told' tasks tasks' states states'
-  pacing_answered tasks' states' new answer count made states_is paid told_is =
-      let m = made t.pick.task t.pick.task_is in
-      let form : slice_set states number state.Done ++ fresh_states count ≡ states' = sym (states_is ∙ ap (λ ss. ss ++ fresh_states count) (set_set states number new state.Done)) in
-      subst (λ ss. Pacing quiet paced paced' number_of (λ task. delay (subject.call task).resolver) told told' tasks tasks' states ss) form
-      (record {
-        still = still;
-        paces = λ calm pace. one_pays number_of (λ task. delay (subject.call task).resolver) told told' tasks tasks' states (slice_set states number state.Done ++ fresh_states count) number t.pick.task old state.Done context true
-            t.pick.task_is t.pick.old_is t.context_is.task_is (told_is calm)
-            (subst (λ r. to_come number_of (delay r) old ≡ true ∷ []) resolver_is (paid calm pace))
-            (λ k task is. subst (λ ts. slice_get ts k ≡ Some task) (sym m.0) (get_append_left tasks (subject.beneath t.pick.task answer) k task is))
-            (get_append_left (slice_set states number state.Done) (fresh_states count) number state.Done (get_set_same states number state.Done t.pick.within))
-            (λ k due differs. ap (to_come_at number_of due) (sym (get_set_other states number k state.Done differs)) ∙ come_more number_of (slice_set states number state.Done) count k due);
-      })
+      some_is same = cc

@@ -12,15 +12,18 @@ use Rattle.gql_engine.specs.declared.occurrence.Occurrence.{Occurrence}
 use Rattle.gql_engine.specs.declared.scene.Scene.{Scene}
 use Rattle.gql_engine.specs.Apart.{Asked, asked_in, subject_in, placed, place_of, respond, root_of, join}
 use Rattle.gql_base.specs.Pairs.{unite_all}
-use Rattle.gql_engine.specs.ApartPlan.{seen, all_seen, Keeps, place_here, places_here}
-use Rattle.gql_engine.specs.Arena.{mark_of, marks_of, made_of, fresh_states, Subject, IsSound, IsRight}
-use Rattle.gql_engine.specs.Pace.{Pacing}
-use Rattle.gql_engine.specs.Progress.{Stage, stage_of, Agrees, story_of, Progress, Ended, RunsWhole, RunStopped}
+use Rattle.gql_engine.specs.ApartPlan.{seen as seen_as, all_seen, Keeps, place_here, places_here}
+use Rattle.std.specs.Option.{ForSome}
+use Rattle.gql_resolve.specs.declared.resolver_set.ResolverSet.{Ghosts as Resolving}
+use Rattle.gql_resolve.specs.declared.turns.Turns.{Ghosts as Choosing}
+use Rattle.gql_engine.specs.declared.given.Given.{Given}
+use Rattle.gql_engine.specs.Arena.{mark_of, marks_of, made_of, fresh_states, Subject, Fits, IsRight}
+use Rattle.gql_engine.specs.Pace.{EachPaced, EachPacedSoFar, pending_then_ready}
+use Rattle.gql_engine.specs.Parts.{Parts, Moment, due_by, delay_by}
+use Rattle.gql_engine.specs.Progress.{IsSound, Agrees, Seen, stage_of, story_at, RunsWhole, RunStopped}
 use Rattle.gql_engine.specs.Record.{Mark, untold, begun, ready, Story, Made, Ran, Stopped, waiting_from, waiting, untold_marks, fresh, after_mark, after_entry, made_at, begun_at}
 use Rattle.gql_engine.proofs.Lists.{get_map, get_at, get_within}
-use Rattle.gql_engine.proofs.PaceLemmas.{each_paced}
 use Rattle.gql_engine.proofs.RecordLemmas.{with_more_none}
-use Rattle.gql_engine.proofs.TurnLemmas.{stopped_before}
 
 module _ (V Task F : Type 0) where
   fresh_length : (n : ℕ) → length (fresh_states {F = F} n) ≡ n
@@ -32,24 +35,9 @@ module _ (V Task F : Type 0) where
   fresh_at (suc n) zero s is = cc
   fresh_at (suc n) (suc k) s is = fresh_at n k s is
 
-  pub first_sound : (is_for : F → Call V → Type 0) (subject : Subject V Task) (holds : ℕ → Answer V → Type 0) (tasks : List Task) (states : List (State F)) (waiting : List ℕ) (n : ℕ)
-      → states ≡ fresh_states n → n ≡ length tasks → waiting ≡ waiting_from 0 (marks_of states)
-      → ((number : ℕ) (task : Task) → slice_get tasks number ≡ Some task → (subject.call task).is_root ≡ false)
-      → IsSound is_for subject holds tasks states waiting
-  first_sound is_for subject holds tasks states waiting n states_is n_is waits roots =
-      subst (λ ss. waiting ≡ waiting_from 0 (marks_of ss) → IsSound is_for subject holds tasks ss waiting) (sym states_is)
-      (λ w. record {
-        lengths = fresh_length n ∙ n_is;
-        waits = w;
-        fits = λ number task s task_is state_is. elim_fresh number task s task_is (fresh_at n number s state_is);
-      }) waits
-    where
-      elim_fresh : (number : ℕ) (task : Task) (s : State F) → slice_get tasks number ≡ Some task → state.Fresh ≡ s → Rattle.gql_engine.specs.Arena.Fits is_for holds number (subject.call task) s
-      elim_fresh number task s task_is is = subst (Rattle.gql_engine.specs.Arena.Fits is_for holds number (subject.call task)) is (roots number task task_is)
-
-  pub first_right : (answers : Task → Answer V) (holds : ℕ → Answer V → Type 0) (tasks : List Task) (states : List (State F)) (n : ℕ) → states ≡ fresh_states n → IsRight answers holds tasks states
-  first_right answers holds tasks states n is = subst (IsRight answers holds tasks) (sym is)
-      (record { kept = λ number task task_is state_is. absurd (let e : state.Fresh ≡ state.Done = fresh_at n number state.Done state_is in cc) })
+  pub first_right : (answers : Task → Answer V) (holds : ℕ → Given V → Type 0) (tasks : List Task) (states : List (State F)) (n : ℕ) → states ≡ fresh_states n → IsRight 0 answers holds tasks states
+  first_right answers holds tasks states n is = subst (IsRight 0 answers holds tasks) (sym is)
+      (record { kept = λ number task above task_is state_is. absurd (let e : state.Fresh ≡ state.Done = fresh_at n number state.Done state_is in cc) })
 
   first_marks : (tasks : List Task) → marks_of (fresh_states {F = F} (length tasks)) ≡ untold_marks tasks
   first_marks [] = refl
@@ -71,10 +59,8 @@ module _ (V Task F : Type 0) where
   done_mark (state.Waiting f) is = cc
   done_mark state.Done is = refl
 
-  pub all_done : (is_for : F → Call V → Type 0) (subject : Subject V Task) (holds : ℕ → Answer V → Type 0) (tasks : List Task) (states : List (State F)) (waiting : List ℕ)
-      → IsSound is_for subject holds tasks states waiting → waiting ≡ [] → (k : ℕ) (s : State F) → slice_get states k ≡ Some s → state.Done ≡ s
-  all_done is_for subject holds tasks states waiting sound none k s is =
-      done_mark s (all_ready 0 (marks_of states) k (mark_of s) (sym sound.waits ∙ none) (get_map mark_of states k s is))
+  pub all_done : (states : List (State F)) → waiting_from 0 (marks_of states) ≡ [] → (k : ℕ) (s : State F) → slice_get states k ≡ Some s → state.Done ≡ s
+  all_done states none k s is = done_mark s (all_ready 0 (marks_of states) k (mark_of s) none (get_map mark_of states k s is))
 
   -- where nothing is beneath, the tasks stay
   pub tasks_stay : (story : Story Task) → ((t : Task) → story.beneath t ≡ []) → (made : Made Task) (entries : List RecordEntry) → (made_at story made entries).tasks ≡ made.tasks
@@ -89,102 +75,158 @@ module _ (V Task F : Type 0) where
       stays true = ap (λ ts. made.tasks ++ ts) (below (slice_get made.tasks e.task)) ∙ append-nil made.tasks
       stays false = refl
 
+-- fresh tasks stand
+module _ {R Own World Future L H P : Type 0} {e : Parts R Own World Future L H P} where
+  pub first_sound : (m : Moment R Future L H P) (n : ℕ) → m.states ≡ fresh_states n → n ≡ length (e.plan.tasks m.plan) → m.waiting ≡ waiting_from 0 (marks_of m.states)
+      → ((number : ℕ) (task : e.plan.Task) → slice_get (e.plan.tasks m.plan) number ≡ Some task → (e.plan.asks task).call.is_root ≡ false)
+      → IsSound e m
+  first_sound m n states_is n_is waits roots = record {
+    lengths = ap length states_is ∙ fresh_length Own e.plan.Task Future n ∙ n_is;
+    waits = waits;
+    fits = λ number task s task_is state_is.
+        subst (Fits e.set.is_for (e.plan.holds m.plan) number (e.plan.asks task).call)
+        (fresh_at Own e.plan.Task Future n number s (ap (λ ss. slice_get ss number) (sym states_is) ∙ state_is)) (roots number task task_is);
+  }
+
+  -- where none waits, each task has its answer
+  pub all_answered : {m : Moment R Future L H P} → IsSound e m → m.waiting ≡ [] → (k : ℕ) (task : e.plan.Task) → slice_get (e.plan.tasks m.plan) k ≡ Some task
+      → slice_get m.states k ≡ Some state.Done
+  all_answered {m = m} sound none k task is =
+      let within = get_within (e.plan.tasks m.plan) k task is in
+      let lengths = sound.lengths in
+      let at = get_at m.states k (omega arith) in
+      at.1 ∙ ap Some (sym (all_done Own e.plan.Task Future m.states (sym sound.waits ∙ none) k at.0 at.1))
+
 -- the places that are kept are those of the answers that are due
 pub all_placed : (V : Type 0) (scene : Scene V) (answer : Call V → Answer V) (os : List Occurrence)
-    → ((k : ℕ) (o : Occurrence) → slice_get os k ≡ Some o → o.place ≡ Some (place_of (seen scene o) (answer (seen scene o).call)))
+    → ((k : ℕ) (o : Occurrence) → slice_get os k ≡ Some o → o.place ≡ Some (place_of (seen_as scene o) (answer (seen_as scene o).asks.call)))
     → places_here os ≡ placed answer (all_seen scene os)
 all_placed V scene answer [] all = refl
 all_placed V scene answer (o ∷ os) all =
     ap (λ p. Rattle.gql_engine.specs.ApartPlan.place_under (Rattle.gql_engine.specs.Path.key_text o.item.now) p ++ places_here os) (all 0 o refl)
-    ∙ ap (λ ps. ((seen scene o).key, place_of (seen scene o) (answer (seen scene o).call)) ∷ ps) (all_placed V scene answer os (λ k p is. all (suc k) p is))
+    ∙ ap (λ ps. ((seen_as scene o).key, place_of (seen_as scene o) (answer (seen_as scene o).asks.call)) ∷ ps) (all_placed V scene answer os (λ k p is. all (suc k) p is))
 
 -- no occurrence is a root of a mutation, where the operation is none
 pub seen_roots : (V : Type 0) (scene : Scene V) (os : List Occurrence) → is_mutation scene.env.now.operation.node.ty ≡ false
-    → (number : ℕ) (task : Asked V) → slice_get (all_seen scene os) number ≡ Some task → task.call.is_root ≡ false
+    → (number : ℕ) (task : Asked V) → slice_get (all_seen scene os) number ≡ Some task → task.asks.call.is_root ≡ false
 seen_roots V scene [] query number task is = absurd (cc)
 seen_roots V scene (o ∷ os) query zero task is =
-    let e : seen scene o ≡ task = cc in
-    subst (λ t. t.call.is_root ≡ false) e (ap (λ b. b && true) query)
+    let e : seen_as scene o ≡ task = cc in
+    subst (λ t. t.asks.call.is_root ≡ false) e (ap (λ b. b && true) query)
 seen_roots V scene (o ∷ os) query (suc number) task is = seen_roots V scene os query number task is
 
-module _ (V F T : Type 0) (choice : T → ℕ → ℕ) (after : T → ℕ → T) (is_for : F → Call V → Type 0) (scene : Scene V) (answer : Call V → Answer V) where
-  abbrev story : Story (Asked V)
-  story = story_of subject_in (λ task. answer task.call)
+-- the execution of a flat object's fields, from its plan to its places
+module _ {R Own World Future P : Type 0} (set : Resolving R Own World Future) (turns : Choosing P) (scene : Scene Own) (old : Seen R P) where
+  -- the answers that are due
+  abbrev pub answers_due : Asked Own → Answer Own
+  answers_due task = due_by set old.set task.asks.call
 
-  right_answers : Agrees {V = V} {Task = Asked V} subject_in answer (λ task. answer task.call)
-  right_answers = record { agrees = λ task root. refl }
+  pub due_agrees : Agrees {V = Own} {Task = Asked Own} subject_in (due_by set old.set) answers_due
+  due_agrees = record { agrees = λ task root. refl }
 
-  pub stopped_none : (told : Option (List RecordEntry)) (begun : Option (List ℕ)) (turns : Option T)
-      → RunStopped choice after subject_in answer (asked_in scene) told told begun begun turns
-  stopped_none told begun_ turns = record {
-    stopped = stopped_before V (Asked V) F T choice after subject_in (λ task. answer task.call) told told begun_ begun_ turns (fresh (asked_in scene)) [] refl (omega arith) (sym (with_more_none begun_));
+  -- the plan and the arena as they are made
+  pub record Begins (first : Scene Own) (os : List Occurrence) (states : List (State Future)) : Type 0 where
+    pub n : ℕ
+    pub scene_is : first ≡ scene
+    pub asked_is : all_seen scene os ≡ asked_in scene
+    pub states_is : states ≡ fresh_states n
+    pub n_is : n ≡ length os
+
+  -- the plan and the arena as they stand in the end
+  pub record Finishes (new : Seen R P) (first last : Scene Own) (os os' : List Occurrence) (states states' : List (State Future)) : Type 0 where
+    pub lengths : length states' ≡ length (all_seen last os')
+    pub whole : waiting_from 0 (marks_of states') ≡ []
+    pub right : IsRight 0 answers_due (Keeps first os) (all_seen first os) states → IsRight 0 answers_due (Keeps last os') (all_seen last os') states'
+    pub ran : Ran turns.choice turns.after (story_at set turns subject_in old) (stage_of set turns subject_in (made_of (all_seen first os) states) old)
+        (stage_of set turns subject_in (made_of (all_seen last os') states') new)
+
+  pub stopped_none : (new : Seen R P) → set.told new.set ≡ set.told old.set → set.begun new.set ≡ set.begun old.set
+      → RunStopped set turns subject_in (asked_in scene) old new
+  stopped_none new told_is begun_is = record {
+    stopped = record {
+      entries = [];
+      told_is = told_is ∙ sym (with_more_none (set.told old.set));
+      last = [];
+      at_most_one = omega arith;
+      starts_is = begun_is ∙ sym (with_more_none (set.begun old.set));
+      turned = λ s is. tt;
+    };
+    paces = λ pace before some. record { paced = λ k task is. (pending_then_ready (delay_by set old.set task.asks.call.resolver), refl) };
   }
 
-  -- the plan as it is made, and as it stands in the end
-  module _ (lawful quiet : Type 0) (first last : Scene V) (os os' : List Occurrence) (states states' : List (State F)) (waiting' : List ℕ)
-      (told told' : Option (List RecordEntry)) (starts starts' : Option (List ℕ)) (turns turns' : Option T) (n : ℕ)
-      (scene_is : first ≡ scene) (asked_is : all_seen scene os ≡ asked_in scene) (states_is : states ≡ fresh_states n) (n_is : n ≡ length os) where
-    tasks_are : all_seen first os ≡ asked_in scene
-    tasks_are = ap (λ s. all_seen s os) scene_is ∙ asked_is
-
+  module _ (first : Scene Own) (os : List Occurrence) (states : List (State Future)) (begins : Begins first os states) where
     made_is : made_of (all_seen first os) states ≡ fresh (asked_in scene)
-    made_is = first_made V (Asked V) F (all_seen first os) states n states_is (n_is ∙ sym (length-map os (seen first))) ∙ ap fresh tasks_are
+    made_is = first_made Own (Asked Own) Future (all_seen first os) states begins.n begins.states_is (begins.n_is ∙ sym (length-map os (seen_as first)))
+        ∙ ap fresh (ap (λ s. all_seen s os) begins.scene_is ∙ begins.asked_is)
 
-    pub stopped_run : Ended lawful quiet subject_in answer choice after (stage_of (all_seen first os) states told starts turns) told' starts' → lawful → quiet
-        → RunStopped choice after subject_in answer (asked_in scene) told told' starts starts' turns
-    stopped_run ended law calm = record {
-      stopped = subst (λ m. Stopped choice after story told told' starts starts' turns m) made_is (ended.stopped law calm (λ task. answer task.call) right_answers);
-    }
+    asks_pace : (entries : List RecordEntry) → EachPacedSoFar (λ task. delay_by set old.set task.asks.call.resolver) (all_seen first os) entries
+        → EachPacedSoFar (λ task. delay_by set old.set task.asks.call.resolver) (asked_in scene) entries
+    asks_pace entries paced = subst (λ ts. EachPacedSoFar (λ (task : Asked Own). delay_by set old.set task.asks.call.resolver) ts entries)
+        (ap (λ s. all_seen s os) begins.scene_is ∙ begins.asked_is) paced
 
-    module _ (progress : Progress lawful quiet subject_in answer choice after (λ number a. Keeps first os number a) (λ number a. Keeps last os' number a)
-        (stage_of (all_seen first os) states told starts turns) (stage_of (all_seen last os') states' told' starts' turns'))
-        (sound : IsSound is_for subject_in (λ number a. Keeps last os' number a) (all_seen last os') states' waiting') (none : waiting' ≡ []) (law : lawful) (calm : quiet) where
-      ran : Ran choice after story told told' starts starts' turns turns' (fresh (asked_in scene)) (made_of (all_seen last os') states')
-      ran = subst (λ m. Ran choice after story told told' starts starts' turns turns' m (made_of (all_seen last os') states')) made_is
-          (progress.ran law calm (λ task. answer task.call) right_answers)
+    run_stopped : (new : Seen R P)
+        → Stopped turns.choice turns.after (story_at set turns subject_in old) (stage_of set turns subject_in (made_of (all_seen first os) states) old) (set.told new.set) (set.begun new.set)
+        → Stopped turns.choice turns.after (story_at set turns subject_in old) (stage_of set turns subject_in (fresh (asked_in scene)) old) (set.told new.set) (set.begun new.set)
+    run_stopped new stopped =
+        subst (λ m. Stopped turns.choice turns.after (story_at set turns subject_in old) (stage_of set turns subject_in m old) (set.told new.set) (set.begun new.set)) made_is stopped
 
-      all_answered : (k : ℕ) (task : Asked V) → slice_get (all_seen last os') k ≡ Some task → slice_get states' k ≡ Some state.Done
-      all_answered k task is =
-          let within = get_within (all_seen last os') k task is in
-          let m = sound.lengths in
-          let at = get_at states' k (omega arith) in
-          at.1 ∙ ap Some (sym (all_done V (Asked V) F is_for subject_in (λ number a. Keeps last os' number a) (all_seen last os') states' waiting' sound none k at.0 at.1))
+    pub stopped_run : (new : Seen R P)
+        → Stopped turns.choice turns.after (story_at set turns subject_in old) (stage_of set turns subject_in (made_of (all_seen first os) states) old) (set.told new.set) (set.begun new.set)
+        → ((before entries : List RecordEntry) → set.is_paced old.set → set.told old.set ≡ Some before → set.told new.set ≡ with_more (set.told old.set) entries
+        → EachPacedSoFar (λ task. delay_by set old.set task.asks.call.resolver) (all_seen first os) entries)
+        → RunStopped set turns subject_in (asked_in scene) old new
+    stopped_run new stopped paces =
+        let whole = run_stopped new stopped in
+        record {
+          stopped = whole;
+          paces = λ pace before some. asks_pace whole.entries (paces before whole.entries pace some whole.told_is);
+        }
 
-      pub runs_whole : (paced paced' : Type 0) (number_of : F → ℕ) (delay : ℕ → ℕ)
-          → Pacing quiet paced paced' number_of (λ task. delay task.call.resolver) told told' (all_seen first os) (all_seen last os') states states'
-          → RunsWhole choice after subject_in answer paced delay (asked_in scene) told told' starts starts' turns turns'
-      runs_whole paced paced' number_of delay pacing = record {
+    module _ (new : Seen R P) (last : Scene Own) (os' : List Occurrence) (states' : List (State Future)) (finishes : Finishes new first last os os' states states') where
+      pub whole_ran : Ran turns.choice turns.after (story_at set turns subject_in old) (stage_of set turns subject_in (fresh (asked_in scene)) old)
+          (stage_of set turns subject_in (made_of (all_seen last os') states') new)
+      whole_ran = subst (λ m. Ran turns.choice turns.after (story_at set turns subject_in old) (stage_of set turns subject_in m old)
+          (stage_of set turns subject_in (made_of (all_seen last os') states') new)) made_is finishes.ran
+
+      pub runs_whole : (set.is_paced old.set → ForSome (set.told old.set)
+          (λ before. EachPaced (λ task. delay_by set old.set task.asks.call.resolver) (all_seen last os') whole_ran.entries))
+          → RunsWhole set turns subject_in (asked_in scene) old new
+      runs_whole paces = record {
         made = made_of (all_seen last os') states';
-        ran = ran;
-        whole = sym sound.waits ∙ none;
-        paces = λ pace before some. each_paced number_of (λ task. delay task.call.resolver) told told' before ran.entries (all_seen first os) (all_seen last os') n states states'
-            (pacing.paces calm pace) some ran.told_is states_is all_answered;
+        ran = whole_ran;
+        whole = finishes.whole;
+        paces = paces;
       }
 
-      pub stopped_whole : RunStopped choice after subject_in answer (asked_in scene) told told' starts starts' turns
-      stopped_whole = record {
+      pub stopped_whole : ((before entries : List RecordEntry) → set.is_paced old.set → set.told old.set ≡ Some before → set.told new.set ≡ with_more (set.told old.set) entries
+          → EachPacedSoFar (λ task. delay_by set old.set task.asks.call.resolver) (all_seen first os) entries)
+          → RunStopped set turns subject_in (asked_in scene) old new
+      stopped_whole paces = record {
         stopped = record {
-          entries = ran.entries;
-          told_is = ran.told_is;
+          entries = whole_ran.entries;
+          told_is = whole_ran.told_is;
           last = [];
           at_most_one = omega arith;
-          starts_is = ran.starts_is ∙ ap (with_more starts) (sym (append-nil (begun_at story (fresh (asked_in scene)) ran.entries)));
-          turned = ran.turned;
+          starts_is = whole_ran.starts_is ∙ ap (with_more (set.begun old.set)) (sym (append-nil (begun_at (story_at set turns subject_in old) (fresh (asked_in scene)) whole_ran.entries)));
+          turned = whole_ran.turned;
         };
+        paces = λ pace before some. asks_pace whole_ran.entries (paces before whole_ran.entries pace some whole_ran.told_is);
       }
 
       tasks_end : all_seen last os' ≡ asked_in scene
-      tasks_end = ap (λ m. m.tasks) ran.made_is ∙ tasks_stay V (Asked V) F story (λ t. refl) (fresh (asked_in scene)) ran.entries
+      tasks_end = ap (λ m. m.tasks) whole_ran.made_is
+          ∙ tasks_stay Own (Asked Own) Future (story_at set turns subject_in old) (λ t. refl) (fresh (asked_in scene)) whole_ran.entries
 
-      kept_at : (k : ℕ) (o : Occurrence) → slice_get os' k ≡ Some o → o.place ≡ Some (place_of (seen last o) (answer (seen last o).call))
+      kept_at : (k : ℕ) (o : Occurrence) → slice_get os' k ≡ Some o → o.place ≡ Some (place_of (seen_as last o) (answers_due (seen_as last o)))
       kept_at k o is =
-          let right = progress.right law calm (λ task. answer task.call) right_answers (first_right V (Asked V) F (λ task. answer task.call) (λ number a. Keeps first os number a) (all_seen first os) states n states_is) in
+          let right = finishes.right (first_right Own (Asked Own) Future answers_due (Keeps first os) (all_seen first os) states begins.n begins.states_is) in
           let within = get_within os' k o is in
-          let l = length-map os' (seen last) in
-          let m = sound.lengths in
+          let l = length-map os' (seen_as last) in
+          let m = finishes.lengths in
           let at = get_at states' k (omega arith) in
-          let done = all_done V (Asked V) F is_for subject_in (λ number a. Keeps last os' number a) (all_seen last os') states' waiting' sound none k at.0 at.1 in
-          right.kept k (seen last o) (get_map (seen last) os' k o is) (at.1 ∙ ap Some (sym done)) o is
+          let done = all_done Own (Asked Own) Future states' finishes.whole k at.0 at.1 in
+          right.kept k (seen_as last o) (omega arith) (get_map (seen_as last) os' k o is) (at.1 ∙ ap Some (sym done)) o is
 
-      pub places_end : root_of scene (unite_all join [] (places_here os')) ≡ respond scene answer
-      places_end = ap (λ ps. root_of scene (unite_all join [] ps)) (all_placed V last answer os' kept_at ∙ ap (placed answer) tasks_end)
+      pub places_end : root_of scene (unite_all join [] (places_here os')) ≡ respond scene (due_by set old.set)
+      places_end = ap (λ ps. root_of scene (unite_all join [] ps))
+          (all_placed Own last (due_by set old.set) os' kept_at ∙ ap (placed (due_by set old.set)) tasks_end)

@@ -8,15 +8,24 @@ use Rattle.gql_resolve.specs.declared.answer.Answer.{Answer}
 use Rattle.gql_engine.specs.declared.arena.State.{State}
 use Rattle.gql_engine.specs.declared.arena.State.TheVariants as state
 use Rattle.gql_engine.specs.Record.{Mark, untold, begun, ready, Made, waiting_from, untold_marks, after_ready, after_pending}
-use Rattle.gql_engine.specs.Arena.{mark_of, marks_of, made_of, fresh_states, total, events_of, polls_of, events_left, polls_left, Nearer, Subject, Fits, IsSound, IsRight}
+use Rattle.gql_engine.specs.Arena.{mark_of, marks_of, made_of, fresh_states, total, events_of, polls_of, events_left, polls_left, Nearer, Subject, Fits, IsRight}
+use Rattle.gql_engine.specs.declared.given.Given.{Given}
+use Rattle.gql_engine.specs.declared.given.Given.TheVariants.{Answered}
 use Rattle.gql_engine.specs.Turn.{IsOpen, StartsWaiting, KeepsWaiting}
 use Rattle.gql_engine.proofs.Lists.{map_set, get_map, get_within, get_set_same, get_set_other, get_append, get_at, length_set}
 use Rattle.gql_engine.proofs.ArenaLemmas.{IsUnanswered, Waits, waits_at, waiting_kept}
 
+-- what stands between two turns, of plain lists
+pub record Stands {V Task F : Type 0} (is_for : F → Call V → Type 0) (subject : Subject V Task) (holds : ℕ → Given V → Type 0)
+    (tasks : List Task) (states : List (State F)) (waiting : List ℕ) : Type 0 where
+  pub lengths : length states ≡ length tasks
+  pub waits : waiting ≡ waiting_from 0 (marks_of states)
+  pub fits : (number : ℕ) (task : Task) (s : State F) → slice_get tasks number ≡ Some task → slice_get states number ≡ Some s → Fits is_for holds number (subject.call task) s
+
 module _ (V Task F : Type 0) (is_for : F → Call V → Type 0) (subject : Subject V Task) where
   -- the number that is chosen is that of a task, which may be taken up
-  pub chosen_within : (holds : ℕ → Answer V → Type 0) (tasks : List Task) (states : List (State F)) (waiting : List ℕ) (at number : ℕ)
-      → IsSound is_for subject holds tasks states waiting → slice_get waiting at ≡ Some number → number < length states
+  pub chosen_within : (holds : ℕ → Given V → Type 0) (tasks : List Task) (states : List (State F)) (waiting : List ℕ) (at number : ℕ)
+      → Stands is_for subject holds tasks states waiting → slice_get waiting at ≡ Some number → number < length states
   chosen_within holds tasks states waiting at number sound is =
       let w = waits_at 0 (marks_of states) at number (ap (λ ns. slice_get ns at) (sym sound.waits) ∙ is) in
       let e = w.number_is in
@@ -27,8 +36,8 @@ module _ (V Task F : Type 0) (is_for : F → Call V → Type 0) (subject : Subje
   unanswered : (s : State F) (m : Mark) → Some (mark_of s) ≡ Some m → IsUnanswered m → (s ≡ state.Done → ⊥)
   unanswered s m is un done = subst IsUnanswered (let e : m ≡ ready = (let f : mark_of s ≡ ready = ap mark_of done in cc) in e) un
 
-  pub chosen_open : (holds : ℕ → Answer V → Type 0) (tasks : List Task) (states : List (State F)) (waiting : List ℕ) (at number : ℕ) (task : Task) (s : State F)
-      → IsSound is_for subject holds tasks states waiting → slice_get waiting at ≡ Some number
+  pub chosen_open : (holds : ℕ → Given V → Type 0) (tasks : List Task) (states : List (State F)) (waiting : List ℕ) (at number : ℕ) (task : Task) (s : State F)
+      → Stands is_for subject holds tasks states waiting → slice_get waiting at ≡ Some number
       → slice_get tasks number ≡ Some task → slice_get states number ≡ Some s
       → ((subject.call task).is_root ≡ false) × IsOpen is_for (subject.call task) s
   chosen_open holds tasks states waiting at number task s sound is task_is state_is =
@@ -43,7 +52,7 @@ module _ (V Task F : Type 0) (is_for : F → Call V → Type 0) (subject : Subje
       by_cases (state.Waiting future) fits differs = (fits.0, fits.1)
       by_cases state.Done fits differs = absurd (differs refl)
 
-  fits_kept : (holds holds' : ℕ → Answer V → Type 0) (number : ℕ) → ((a : Answer V) → holds number a → holds' number a)
+  fits_kept : (holds holds' : ℕ → Given V → Type 0) (number : ℕ) → ((a : Given V) → holds number a → holds' number a)
       → (call : Call V) (s : State F) → Fits is_for holds number call s → Fits is_for holds' number call s
   fits_kept holds holds' number keeps call state.Fresh fits = fits
   fits_kept holds holds' number keeps call (state.Waiting future) fits = fits
@@ -59,13 +68,13 @@ module _ (V Task F : Type 0) (is_for : F → Call V → Type 0) (subject : Subje
   length_fresh (suc n) = ap suc (length_fresh n)
 
   -- a task is answered, and tasks are made beneath it
-  pub sound_settled : (holds holds' : ℕ → Answer V → Type 0) (tasks more : List Task) (states : List (State F)) (waiting waiting' : List ℕ) (number : ℕ) (answer : Answer V)
-      → IsSound is_for subject holds tasks states waiting
-      → ((other : ℕ) (a : Answer V) → (other ≡ number → ⊥) → holds other a → holds' other a) → holds' number answer
+  pub sound_settled : (holds holds' : ℕ → Given V → Type 0) (tasks more : List Task) (states : List (State F)) (waiting waiting' : List ℕ) (number : ℕ) (given : Given V)
+      → Stands is_for subject holds tasks states waiting
+      → ((other : ℕ) (a : Given V) → (other ≡ number → ⊥) → holds other a → holds' other a) → holds' number given
       → ((k : ℕ) (t : Task) → slice_get more k ≡ Some t → (subject.call t).is_root ≡ false)
       → waiting' ≡ waiting_from 0 (marks_of (slice_set states number state.Done ++ fresh_states (length more)))
-      → IsSound is_for subject holds' (tasks ++ more) (slice_set states number state.Done ++ fresh_states (length more)) waiting'
-  sound_settled holds holds' tasks more states waiting waiting' number answer sound keeps holding calls waits = record {
+      → Stands is_for subject holds' (tasks ++ more) (slice_set states number state.Done ++ fresh_states (length more)) waiting'
+  sound_settled holds holds' tasks more states waiting waiting' number given sound keeps holding calls waits = record {
     lengths = length-append (slice_set states number state.Done) (fresh_states (length more))
         ∙ (let a = length_set states number state.Done in let b = length_fresh (length more) in let d = length-append tasks more in let e = sound.lengths in omega arith);
     waits = waits;
@@ -83,7 +92,7 @@ module _ (V Task F : Type 0) (is_for : F → Call V → Type 0) (subject : Subje
     where
       old : (n : ℕ) (t : Task) (s : State F) → slice_get tasks n ≡ Some t → slice_get (slice_set states number state.Done) n ≡ Some s → Fits is_for holds' n (subject.call t) s
       old n t s at st = elim (cases_eq n number) [
-        | inl same ↦ subst (Fits is_for holds' n (subject.call t)) (done n s same st (let h = get_within tasks n t at in let l = sound.lengths in omega arith)) (answer, subst (λ k. holds' k answer) (sym same) holding)
+        | inl same ↦ subst (Fits is_for holds' n (subject.call t)) (done n s same st (let h = get_within tasks n t at in let l = sound.lengths in omega arith)) (given, subst (λ k. holds' k given) (sym same) holding)
         | inr differs ↦ fits_kept holds holds' n (λ a. keeps n a differs) (subject.call t) s (sound.fits n t s at (sym (get_set_other states number n state.Done differs) ∙ st))
       ]
         where
@@ -93,17 +102,17 @@ module _ (V Task F : Type 0) (is_for : F → Call V → Type 0) (subject : Subje
               let f : slice_get (slice_set states number state.Done) number ≡ Some s = subst (λ k. slice_get (slice_set states number state.Done) k ≡ Some s) same st in
               cc
 
-  pub right_settled : (answers : Task → Answer V) (holds holds' : ℕ → Answer V → Type 0) (tasks more : List Task) (states : List (State F)) (number : ℕ) (task : Task)
+  pub right_settled : (base : ℕ) (answers : Task → Answer V) (holds holds' : ℕ → Given V → Type 0) (tasks more : List Task) (states : List (State F)) (number : ℕ) (task : Task)
       → length states ≡ length tasks
-      → IsRight answers holds tasks states → slice_get tasks number ≡ Some task
-      → ((other : ℕ) (a : Answer V) → (other ≡ number → ⊥) → holds other a → holds' other a) → holds' number (answers task)
-      → IsRight answers holds' (tasks ++ more) (slice_set states number state.Done ++ fresh_states (length more))
-  right_settled answers holds holds' tasks more states number task lengths right task_at keeps holding = record {
-    kept = λ n t task_is state_is. elim (get_append tasks more n t task_is) [
+      → IsRight base answers holds tasks states → slice_get tasks number ≡ Some task
+      → ((other : ℕ) (a : Given V) → (other ≡ number → ⊥) → holds other a → holds' other a) → holds' number (Answered (answers task))
+      → IsRight base answers holds' (tasks ++ more) (slice_set states number state.Done ++ fresh_states (length more))
+  right_settled base answers holds holds' tasks more states number task lengths right task_at keeps holding = record {
+    kept = λ n t above task_is state_is. elim (get_append tasks more n t task_is) [
       | inl at ↦ elim (get_append (slice_set states number state.Done) (fresh_states (length more)) n state.Done state_is) [
         | inl st ↦ elim (cases_eq n number) [
-          | inl same ↦ subst (λ k. holds' k (answers t)) (sym same) (subst (λ u. holds' number (answers u)) (let e : slice_get tasks number ≡ Some t = subst (λ k. slice_get tasks k ≡ Some t) same at in cc) holding)
-          | inr differs ↦ keeps n (answers t) differs (right.kept n t at (sym (get_set_other states number n state.Done differs) ∙ st))
+          | inl same ↦ subst (λ k. holds' k (Answered (answers t))) (sym same) (subst (λ u. holds' number (Answered (answers u))) (let e : slice_get tasks number ≡ Some t = subst (λ k. slice_get tasks k ≡ Some t) same at in cc) holding)
+          | inr differs ↦ keeps n (Answered (answers t)) differs (right.kept n t above at (sym (get_set_other states number n state.Done differs) ∙ st))
         ]
         | inr st ↦ absurd (let e : state.Fresh ≡ state.Done = fresh_at (length more) st.0 state.Done st.2 in cc)
       ]
@@ -115,10 +124,10 @@ module _ (V Task F : Type 0) (is_for : F → Call V → Type 0) (subject : Subje
   }
 
   -- a future waits at a task
-  pub sound_waits : (holds : ℕ → Answer V → Type 0) (tasks : List Task) (states : List (State F)) (waiting : List ℕ) (number : ℕ) (task : Task) (old : State F) (future : F)
-      → IsSound is_for subject holds tasks states waiting → slice_get tasks number ≡ Some task → slice_get states number ≡ Some old → (old ≡ state.Done → ⊥)
+  pub sound_waits : (holds : ℕ → Given V → Type 0) (tasks : List Task) (states : List (State F)) (waiting : List ℕ) (number : ℕ) (task : Task) (old : State F) (future : F)
+      → Stands is_for subject holds tasks states waiting → slice_get tasks number ≡ Some task → slice_get states number ≡ Some old → (old ≡ state.Done → ⊥)
       → (subject.call task).is_root ≡ false → is_for future (subject.call task)
-      → IsSound is_for subject holds tasks (slice_set states number (state.Waiting future)) waiting
+      → Stands is_for subject holds tasks (slice_set states number (state.Waiting future)) waiting
   sound_waits holds tasks states waiting number task old future sound task_at old_at differs_done root fits = record {
     lengths = length_set states number (state.Waiting future) ∙ sound.lengths;
     waits = sound.waits ∙ sym (waiting_kept 0 (marks_of states) number (mark_of old) (get_map mark_of states number old old_at) (open_mark old differs_done))
@@ -143,13 +152,13 @@ module _ (V Task F : Type 0) (is_for : F → Call V → Type 0) (subject : Subje
           let u : task ≡ t = cc in
           subst (Fits is_for holds n (subject.call t)) i (subst (λ u. (subject.call u).is_root ≡ false) u root, subst (λ u. is_for future (subject.call u)) u fits)
 
-  pub right_waits : (answers : Task → Answer V) (holds : ℕ → Answer V → Type 0) (tasks : List Task) (states : List (State F)) (number : ℕ) (future : F)
+  pub right_waits : (base : ℕ) (answers : Task → Answer V) (holds : ℕ → Given V → Type 0) (tasks : List Task) (states : List (State F)) (number : ℕ) (future : F)
       → number < length states
-      → IsRight answers holds tasks states → IsRight answers holds tasks (slice_set states number (state.Waiting future))
-  right_waits answers holds tasks states number future within right = record {
-    kept = λ n t task_is state_is. elim (cases_eq n number) [
+      → IsRight base answers holds tasks states → IsRight base answers holds tasks (slice_set states number (state.Waiting future))
+  right_waits base answers holds tasks states number future within right = record {
+    kept = λ n t above task_is state_is. elim (cases_eq n number) [
       | inl same ↦ absurd (let e = get_set_same states number (state.Waiting future) within in
           let f : slice_get (slice_set states number (state.Waiting future)) number ≡ Some state.Done = subst (λ k. slice_get (slice_set states number (state.Waiting future)) k ≡ Some state.Done) same state_is in cc)
-      | inr differs ↦ right.kept n t task_is (sym (get_set_other states number n (state.Waiting future) differs) ∙ state_is)
+      | inr differs ↦ right.kept n t above task_is (sym (get_set_other states number n (state.Waiting future) differs) ∙ state_is)
     ];
   }

@@ -10,15 +10,32 @@ use Rattle.gql_resolve.specs.declared.record_entry.RecordEntry.{RecordEntry}
 use Rattle.gql_resolve.specs.declared.resolver_context.ResolverContext.{ResolverContext}
 use Rattle.gql_engine.specs.declared.arena.State.{State}
 use Rattle.gql_engine.specs.declared.arena.State.TheVariants as state
-use Rattle.gql_engine.specs.Record.{Mark, untold, begun, ready, Story, Made, waiting_from, waiting, untold_marks, beneath_of, after_ready, after_pending, after_mark, after_entry, NamesTask, Turned, begins, begun_at, state_at, made_at, Ran, Stopped}
-use Rattle.gql_engine.specs.Arena.{mark_of, marks_of, made_of, fresh_states, Subject}
-use Rattle.gql_engine.specs.Plan.{IsContextOf}
+use Rattle.gql_engine.specs.Record.{Mark, untold, begun, ready, Story, Made, waiting_from, waiting, untold_marks, beneath_of, after_ready, after_pending, after_mark, after_entry, NamesTask, Stage, Turned, begins, begun_at, state_at, made_at, Ran, Stopped}
+use Rattle.gql_base.specs.PathSegment.{path_text}
+use Rattle.gql_engine.specs.Arena.{mark_of, marks_of, made_of, fresh_states, Subject, subject_of}
+use Rattle.gql_engine.specs.Plan.{Asking, IsContextOf}
 use Rattle.gql_engine.specs.Progress.{story_of}
 use Rattle.gql_engine.specs.Turn.{begins_now}
 use Rattle.gql_engine.proofs.Lists.{map_set, get_map}
 use Rattle.gql_engine.proofs.RecordLemmas.{ran_trans, with_more_none}
 
-module _ (V Task F State_ : Type 0) (choice : State_ → ℕ → ℕ) (after : State_ → ℕ → State_) (subject : Subject V Task) (answers : Task → Answer V) where
+-- what the record sees, of plain lists
+abbrev pub staged : {Task State_ : Type 0} → Made Task → Option (List RecordEntry) → Option (List ℕ) → Option State_ → Stage Task State_
+staged made told starts turns = record { made = made; told = told; starts = starts; turns = turns }
+
+module _ (V Task F State_ : Type 0) (choice : State_ → ℕ → ℕ) (after : State_ → ℕ → State_) (asks : Task → Asking V) where
+  -- the entry of a turn is of the task that the turns chose
+  pub record Chosen (turns turns' : Option State_) (tasks : List Task) (states : List (State F)) (number : ℕ) (task : Task) (old : State F) (context : ResolverContext V) : Type 0 where
+    pub picked : ForSome turns (λ s. slice_get (waiting_from 0 (marks_of states)) (choice s (length (waiting_from 0 (marks_of states)))) ≡ Some number)
+    pub turns_is : turns' ≡ option_map (λ s. after s (length (waiting_from 0 (marks_of states)))) turns
+    pub task_is : slice_get tasks number ≡ Some task
+    pub old_is : slice_get states number ≡ Some old
+    pub context_is : IsContextOf number (asks task) context
+
+module _ (V Task F State_ : Type 0) (choice : State_ → ℕ → ℕ) (after : State_ → ℕ → State_) (asks : Task → Asking V) (beneath : Task → Answer V → List Task) (answers : Task → Answer V) where
+  abbrev story : Story Task
+  story = story_of (subject_of asks beneath) answers
+
   marks_fresh : (tasks : List Task) → marks_of (fresh_states {F = F} (length tasks)) ≡ untold_marks tasks
   marks_fresh [] = refl
   marks_fresh (t ∷ tasks) = ap (λ ms. untold ∷ ms) (marks_fresh tasks)
@@ -28,88 +45,69 @@ module _ (V Task F State_ : Type 0) (choice : State_ → ℕ → ℕ) (after : S
   begins_is number (state.Waiting f) = refl
   begins_is number state.Done = refl
 
-  -- the entry of a turn is of the task that the turns chose
-  pub record Chosen (told told' : Option (List RecordEntry)) (starts starts' : Option (List ℕ)) (turns turns' : Option State_)
-      (tasks : List Task) (states : List (State F)) (number : ℕ) (task : Task) (old : State F) (context : ResolverContext V) : Type 0 where
-    pub picked : ForSome turns (λ s. slice_get (waiting_from 0 (marks_of states)) (choice s (length (waiting_from 0 (marks_of states)))) ≡ Some number)
-    pub turns_is : turns' ≡ option_map (λ s. after s (length (waiting_from 0 (marks_of states)))) turns
-    pub task_is : slice_get tasks number ≡ Some task
-    pub old_is : slice_get states number ≡ Some old
-    pub context_is : IsContextOf number (subject.call task) (subject.path task) context
-    pub starts_is : starts' ≡ with_more starts (begins_now context.task old)
+  module _ (turns turns' : Option State_) (tasks : List Task) (states : List (State F)) (number : ℕ) (task : Task) (old : State F) (context : ResolverContext V)
+      (chosen : Chosen V Task F State_ choice after asks turns turns' tasks states number task old context) (told told' : Option (List RecordEntry)) (starts starts' : Option (List ℕ))
+      (starts_is : starts' ≡ with_more starts (begins_now context.task old)) where
+    names : (is_ready : Bool) → NamesTask story (slice_get tasks context.task) (entry_of context is_ready)
+    names is_ready = subst (λ t. NamesTask story t (entry_of context is_ready)) (sym (ap (slice_get tasks) chosen.context_is.task_is ∙ chosen.task_is))
+        (ap (λ c. c.resolver) chosen.context_is.call_is, ap path_text chosen.context_is.segments_is)
 
-  one_entry : (told told' : Option (List RecordEntry)) (starts starts' : Option (List ℕ)) (turns turns' : Option State_)
-      (tasks : List Task) (states : List (State F)) (number : ℕ) (task : Task) (old : State F) (context : ResolverContext V) (is_ready : Bool) (made' : Made Task)
-      → Chosen told told' starts starts' turns turns' tasks states number task old context
-      → told' ≡ with_more told (entry_of context is_ready ∷ [])
-      → made' ≡ after_mark (story_of subject answers) (made_of tasks states) number is_ready
-      → Ran choice after (story_of subject answers) told told' starts starts' turns turns' (made_of tasks states) made'
-  one_entry told told' starts starts' turns turns' tasks states number task old context is_ready made' chosen told_is made_is = record {
-    entries = entry_of context is_ready ∷ [];
-    told_is = told_is;
-    starts_is = chosen.starts_is ∙ ap (with_more starts)
-        (ap (λ n. begins_now n old) chosen.context_is.task_is ∙ sym (begins_is number old)
-        ∙ ap (begins number) (sym (get_map mark_of states number old chosen.old_is))
-        ∙ ap (λ n. begins n (slice_get (marks_of states) n)) (sym chosen.context_is.task_is)
-        ∙ sym (append-nil (begins context.task (slice_get (marks_of states) context.task))));
-    turned = λ s is. (chosen.picked s is ∙ ap Some (sym chosen.context_is.task_is), names, tt);
-    state_is = chosen.turns_is;
-    made_is = made_is ∙ ap (λ n. after_mark (story_of subject answers) (made_of tasks states) n is_ready) (sym chosen.context_is.task_is);
-  }
-    where
-      names : NamesTask (story_of subject answers) (slice_get tasks context.task) (entry_of context is_ready)
-      names = subst (λ t. NamesTask (story_of subject answers) t (entry_of context is_ready)) (sym (ap (slice_get tasks) chosen.context_is.task_is ∙ chosen.task_is))
-          (ap (λ c. c.resolver) chosen.context_is.call_is, chosen.context_is.path_is)
+    one_entry : (is_ready : Bool) (made' : Made Task) → told' ≡ with_more told (entry_of context is_ready ∷ [])
+        → made' ≡ after_mark story (made_of tasks states) number is_ready
+        → Ran choice after story (staged (made_of tasks states) told starts turns) (staged made' told' starts' turns')
+    one_entry is_ready made' told_is made_is = record {
+      entries = entry_of context is_ready ∷ [];
+      told_is = told_is;
+      starts_is = starts_is ∙ ap (with_more starts)
+          (ap (λ n. begins_now n old) chosen.context_is.task_is ∙ sym (begins_is number old)
+          ∙ ap (begins number) (sym (get_map mark_of states number old chosen.old_is))
+          ∙ ap (λ n. begins n (slice_get (marks_of states) n)) (sym chosen.context_is.task_is)
+          ∙ sym (append-nil (begins context.task (slice_get (marks_of states) context.task))));
+      turned = λ s is. (chosen.picked s is ∙ ap Some (sym chosen.context_is.task_is), names is_ready, tt);
+      state_is = chosen.turns_is;
+      made_is = made_is ∙ ap (λ n. after_mark story (made_of tasks states) n is_ready) (sym chosen.context_is.task_is);
+    }
 
-  pub ran_pending : (told told' : Option (List RecordEntry)) (starts starts' : Option (List ℕ)) (turns turns' : Option State_)
-      (tasks : List Task) (states : List (State F)) (number : ℕ) (task : Task) (old : State F) (context : ResolverContext V) (future : F)
-      → Chosen told told' starts starts' turns turns' tasks states number task old context
-      → told' ≡ with_more told (entry_of context false ∷ [])
-      → Ran choice after (story_of subject answers) told told' starts starts' turns turns' (made_of tasks states) (made_of tasks (slice_set states number (state.Waiting future)))
-  ran_pending told told' starts starts' turns turns' tasks states number task old context future chosen told_is =
-      one_entry told told' starts starts' turns turns' tasks states number task old context false (made_of tasks (slice_set states number (state.Waiting future))) chosen told_is
-      (ap (λ ms. let made : Made Task = record { tasks = tasks; marks = ms } in made) (map_set mark_of states number (state.Waiting future)))
+    pub ran_pending : (future : F) → told' ≡ with_more told (entry_of context false ∷ [])
+        → Ran choice after story (staged (made_of tasks states) told starts turns) (staged (made_of tasks (slice_set states number (state.Waiting future))) told' starts' turns')
+    ran_pending future told_is = one_entry false (made_of tasks (slice_set states number (state.Waiting future))) told_is
+        (ap (λ ms. let made : Made Task = record { tasks = tasks; marks = ms } in made) (map_set mark_of states number (state.Waiting future)))
 
-  pub ran_ready : (told told' : Option (List RecordEntry)) (starts starts' : Option (List ℕ)) (turns turns' : Option State_)
-      (tasks : List Task) (states : List (State F)) (number : ℕ) (task : Task) (old : State F) (context : ResolverContext V) (more : List Task)
-      → Chosen told told' starts starts' turns turns' tasks states number task old context
-      → told' ≡ with_more told (entry_of context true ∷ [])
-      → more ≡ subject.beneath task (answers task)
-      → Ran choice after (story_of subject answers) told told' starts starts' turns turns' (made_of tasks states) (made_of (tasks ++ more) (slice_set states number state.Done ++ fresh_states (length more)))
-  ran_ready told told' starts starts' turns turns' tasks states number task old context more chosen told_is more_is =
-      one_entry told told' starts starts' turns turns' tasks states number task old context true (made_of (tasks ++ more) (slice_set states number state.Done ++ fresh_states (length more))) chosen told_is
-      (ap (λ ms. let made : Made Task = record { tasks = tasks ++ more; marks = ms } in made)
-      (map-append mark_of (slice_set states number state.Done) (fresh_states (length more))
-      ∙ ap (λ ms. ms ++ marks_of (fresh_states {F = F} (length more))) (map_set mark_of states number state.Done)
-      ∙ ap (λ ms. slice_set (marks_of states) number ready ++ ms) (marks_fresh more))
-      ∙ ap (λ ts. after_ready (made_of tasks states) number ts)
-      (more_is ∙ ap (beneath_of (story_of subject answers)) (sym chosen.task_is)))
+    pub ran_ready : (more : List Task) → told' ≡ with_more told (entry_of context true ∷ []) → more ≡ beneath task (answers task)
+        → Ran choice after story (staged (made_of tasks states) told starts turns)
+        (staged (made_of (tasks ++ more) (slice_set states number state.Done ++ fresh_states (length more))) told' starts' turns')
+    ran_ready more told_is more_is = one_entry true (made_of (tasks ++ more) (slice_set states number state.Done ++ fresh_states (length more))) told_is
+        (ap (λ ms. let made : Made Task = record { tasks = tasks ++ more; marks = ms } in made)
+        (map-append mark_of (slice_set states number state.Done) (fresh_states (length more))
+        ∙ ap (λ ms. ms ++ marks_of (fresh_states {F = F} (length more))) (map_set mark_of states number state.Done)
+        ∙ ap (λ ms. slice_set (marks_of states) number ready ++ ms) (marks_fresh more))
+        ∙ ap (λ ts. after_ready (made_of tasks states) number ts)
+        (more_is ∙ ap (beneath_of story) (sym chosen.task_is)))
 
-  -- a turn that ended for want of memory after its entry, or before it
-  pub stopped_after : (told told' : Option (List RecordEntry)) (starts starts' : Option (List ℕ)) (turns turns' : Option State_)
-      (tasks : List Task) (states : List (State F)) (number : ℕ) (task : Task) (old : State F) (context : ResolverContext V) (is_ready : Bool)
-      → Chosen told told' starts starts' turns turns' tasks states number task old context
-      → told' ≡ with_more told (entry_of context is_ready ∷ [])
-      → Stopped choice after (story_of subject answers) told told' starts starts' turns (made_of tasks states)
-  stopped_after told told' starts starts' turns turns' tasks states number task old context is_ready chosen told_is =
-      let ran = one_entry told told' starts starts' turns turns' tasks states number task old context is_ready (after_mark (story_of subject answers) (made_of tasks states) number is_ready) chosen told_is refl in
-      record {
-        entries = ran.entries;
-        told_is = ran.told_is;
-        last = [];
-        at_most_one = omega arith;
-        starts_is = ran.starts_is ∙ ap (with_more starts) (sym (append-nil (begun_at (story_of subject answers) (made_of tasks states) ran.entries)));
-        turned = ran.turned;
-      }
+    -- a turn that ended for want of memory after its entry
+    pub stopped_after : (is_ready : Bool) → told' ≡ with_more told (entry_of context is_ready ∷ [])
+        → Stopped choice after story (staged (made_of tasks states) told starts turns) told' starts'
+    stopped_after is_ready told_is =
+        let ran = one_entry is_ready (after_mark story (made_of tasks states) number is_ready) told_is refl in
+        record {
+          entries = ran.entries;
+          told_is = ran.told_is;
+          last = [];
+          at_most_one = omega arith;
+          starts_is = ran.starts_is ∙ ap (with_more starts) (sym (append-nil (begun_at story (made_of tasks states) ran.entries)));
+          turned = ran.turned;
+        }
 
-  pub stopped_before : (told told' : Option (List RecordEntry)) (starts starts' : Option (List ℕ)) (turns : Option State_) (made : Made Task) (last : List ℕ)
-      → told' ≡ told → length last ≤ 1 → starts' ≡ with_more starts last
-      → Stopped choice after (story_of subject answers) told told' starts starts' turns made
-  stopped_before told told' starts starts' turns made last told_is most starts_is = record {
-    entries = [];
-    told_is = told_is ∙ sym (with_more_none told);
-    last = last;
-    at_most_one = most;
-    starts_is = starts_is;
-    turned = λ s is. tt;
-  }
+-- a turn that ended for want of memory before its entry
+pub stopped_before : {Task T : Type 0} (choice : T → ℕ → ℕ) (after : T → ℕ → T) (tale : Story Task) (stage : Stage Task T)
+    (told : Option (List RecordEntry)) (starts : Option (List ℕ)) (last : List ℕ)
+    → told ≡ stage.told → length last ≤ 1 → starts ≡ with_more stage.starts last
+    → Stopped choice after tale stage told starts
+stopped_before choice after tale stage told starts last told_is most starts_is = record {
+  entries = [];
+  told_is = told_is ∙ sym (with_more_none stage.told);
+  last = last;
+  at_most_one = most;
+  starts_is = starts_is;
+  turned = λ s is. tt;
+}

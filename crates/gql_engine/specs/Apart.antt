@@ -3,7 +3,6 @@
 use Rattle.std.specs.Prelude.{ℕ, ◌++◌, ◌&&◌, not, Bool, false, List, [], ◌∷◌, Option, Some, None, map, codes, length}
 use Rattle.std.specs.List.{flat_map}
 use Rattle.gql_base.specs.Pairs.{under, unite_all}
-use Rattle.gql_base.specs.PathSegment.{path_text}
 use Rattle.gql_base.specs.TypeRef.{is_nullable}
 use Rattle.gql_base.specs.declared.pos.Pos.{Pos}
 use Rattle.gql_base.specs.declared.type_ref.TypeRef.{TypeRef}
@@ -20,8 +19,12 @@ use Rattle.gql_schema.specs.Field.{field_type, resolver_of}
 use Rattle.gql_schema.specs.Object.{fields_of}
 use Rattle.gql_schema.specs.declared.field.Field.{Field as SchemaField}
 use Rattle.gql_engine.specs.Arena.{Subject, subject_of}
-use Rattle.gql_engine.specs.Completion.{shape_of}
+use Rattle.gql_engine.specs.Completion.{shape_given}
+use Rattle.gql_engine.specs.Given.{added_of, headers_of}
 use Rattle.gql_engine.specs.Path.{key_text, path_of}
+use Rattle.gql_engine.specs.Plan.{Asking}
+use Rattle.gql_engine.specs.declared.given.Given.{Given}
+use Rattle.gql_engine.specs.declared.given.Given.TheVariants.{Answered}
 use Rattle.gql_engine.specs.declared.place.Place.{Place}
 use Rattle.gql_engine.specs.declared.place.Tree.{Tree}
 use Rattle.gql_engine.specs.declared.place.Tree.TheVariants as tree
@@ -35,22 +38,24 @@ field_here (Selection-F.Field field) = field ∷ []
 field_here (Selection-F.FragmentSpread spread) = []
 field_here (Selection-F.InlineFragment fragment) = []
 
+-- those of a whole set
 abbrev pub collected : SelectionSet → List (Positioned Field)
 collected set = flat_map (λ selection. field_here (out-Selection selection.node)) (out-SelectionSet set).items
 
+-- the name of an occurrence's field
 abbrev pub name_of : Positioned Field → List ℕ
 name_of occurrence = (out-Field occurrence.node).name.node
 
--- an occurrence that asks an answer: its call, the text of its path, and what its place shows of it
+-- an occurrence that asks an answer: what it asks, and what its place shows of it
 pub record Asked (V : Type 0) : Type 0 where
-  pub call : Call V
-  pub path : List ℕ
+  pub asks : Asking V
   pub key : List ℕ
   pub place : Pos
   pub ty : TypeRef
 
-abbrev pub asked_of : {V : Type 0} → Scene V → Positioned Field → SchemaField → Asked V
-asked_of scene occurrence declared = record {
+-- what an occurrence of a declared field asks
+abbrev pub asking_of : {V : Type 0} → Scene V → Positioned Field → SchemaField → Asking V
+asking_of scene occurrence declared = record {
   call = record {
     is_root = is_mutation scene.env.now.operation.node.ty && is_single (path_of occurrence);
     resolver = resolver_of declared;
@@ -58,12 +63,21 @@ asked_of scene occurrence declared = record {
     arguments = [];
     layers = layers_of scene.layers;
   };
-  path = path_text (path_of occurrence);
+  segments = path_of occurrence;
+  item = occurrence.node;
+  env = scene.env.now;
+}
+
+-- such an occurrence as a task
+abbrev pub asked_of : {V : Type 0} → Scene V → Positioned Field → SchemaField → Asked V
+asked_of scene occurrence declared = record {
+  asks = asking_of scene occurrence declared;
   key = key_text occurrence;
   place = occurrence.pos;
   ty = field_type declared;
 }
 
+-- an occurrence is asked where the object has its field
 abbrev pub asked_at : {V : Type 0} → Scene V → Positioned Field → Option SchemaField → List (Asked V)
 asked_at scene occurrence None = []
 asked_at scene occurrence (Some declared) = asked_of scene occurrence declared ∷ []
@@ -72,39 +86,52 @@ asked_at scene occurrence (Some declared) = asked_of scene occurrence declared �
 abbrev pub asked : {V : Type 0} → Scene V → List (Positioned Field) → List (Asked V)
 asked scene occurrences = flat_map (λ occurrence. asked_at scene occurrence (under (name_of occurrence) (fields_of scene.object.now))) occurrences
 
+-- the occurrences of a scene's operation that ask an answer
 abbrev pub asked_in : {V : Type 0} → Scene V → List (Asked V)
 asked_in scene = asked scene (collected scene.env.now.operation.node.selection_set.node)
 
 -- nothing is beneath a flat object's fields
-abbrev pub subject_in : {V : Type 0} → Subject V (Asked V)
-subject_in = subject_of (λ task. task.call) (λ task. task.path) (λ task answer. [])
+abbrev pub nothing_beneath : {V : Type 0} → Asked V → Answer V → List (Asked V)
+nothing_beneath task answer = []
 
--- the place of an occurrence (section 6.4)
+-- what is fixed of them as tasks
+abbrev pub subject_in : {V : Type 0} → Subject V (Asked V)
+subject_in = subject_of (λ task. task.asks) nothing_beneath
+
+-- what a shape is as a place (section 6.4)
 abbrev pub fill : Shape → Tree
 fill shape.Absent = tree.Absent
 fill (shape.Leaf value) = tree.Leaf value
 fill (shape.Fault error) = tree.Fault error
 
-abbrev pub place_with : {V : Type 0} → Pos → TypeRef → Answer V → Place
-place_with place ty answer = record {
+-- the place of an occurrence at its field's type, with what it was given
+abbrev pub place_with : {V : Type 0} → Pos → TypeRef → Given V → Place
+place_with place ty given = record {
   pos = place;
   non_null = not (is_nullable ty);
-  added = answer.added;
-  headers = answer.headers;
-  tree = fill (shape_of ty answer.result);
+  added = added_of given;
+  headers = headers_of given;
+  tree = fill (shape_given ty given);
 }
 
+-- the place of a task with what it was given
+abbrev pub place_given : {V : Type 0} → Asked V → Given V → Place
+place_given task given = place_with task.place task.ty given
+
+-- the place of an occurrence with its answer
 abbrev pub place_of : {V : Type 0} → Asked V → Answer V → Place
-place_of task answer = place_with task.place task.ty answer
+place_of task answer = place_given task (Answered answer)
 
 -- two places of one key: of leaves, faults and absences the first stays
 abbrev pub join : Place → Place → Place
 join first second = first
 
+-- the places of all tasks under their keys, with these answers
 abbrev pub placed : {V : Type 0} → (Call V → Answer V) → List (Asked V) → List (List ℕ × Place)
 placed answer [] = []
-placed answer (task ∷ tasks) = (task.key, place_of task (answer task.call)) ∷ placed answer tasks
+placed answer (task ∷ tasks) = (task.key, place_of task (answer task.asks.call)) ∷ placed answer tasks
 
+-- the place at the root, of its members
 abbrev pub root_of : {V : Type 0} → Scene V → List (List ℕ × Place) → Place
 root_of scene members = record {
   pos = scene.env.now.operation.pos;

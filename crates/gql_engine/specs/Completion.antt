@@ -1,15 +1,20 @@
 -- What an answer comes to by the type of its field (GraphQL, October 2021, sections 6.4.3 and 3.5). Lists and objects are to come.
-use Rattle.std.specs.Prelude.{ℕ, ℤ, pos, negsuc, ◌^◌, ◌-◌, ◌≤◌, ◌&&◌, ◌++◌, Bool, false, List, Option, Some, None, Result, Ok, Err, if◌then◌else◌, codes, int_le}
+use Rattle.std.specs.Prelude.{ℕ, ◌++◌, Bool, false, List, Option, Some, None, Result, Ok, Err, if◌then◌else◌, codes}
+use Rattle.std.specs.Option.{option_map_or}
 use Rattle.std.specs.Str.{bytes_eq}
 use Rattle.gql_base.specs.Kinds.{is_null}
 use Rattle.gql_base.specs.declared.error.Error.{Error}
 use Rattle.gql_base.specs.declared.type_ref.TypeRef.{TypeRef}
 use Rattle.gql_base.specs.declared.type_ref.TypeRef.TheOpen.{TypeRef-F}
 use Rattle.gql_base.specs.declared.type_ref.TypeRef.TheFolds.{fold-TypeRef}
-use Rattle.gql_base.specs.declared.value.Value.{Value, out-Value}
-use Rattle.gql_base.specs.declared.value.Value.TheOpen.{Value-F}
+use Rattle.gql_base.specs.declared.value.Value.{Value}
 use Rattle.gql_resolve.specs.declared.field_value.FieldValue.{FieldValue}
 use Rattle.gql_resolve.specs.FieldValue.{value_in}
+use Rattle.gql_schema.specs.ScalarRule.{takes as takes_by}
+use Rattle.gql_schema.specs.declared.scalar_rule.ScalarRule.{ScalarRule}
+use Rattle.gql_schema.specs.declared.scalar_rule.ScalarRule.TheVariants as rules
+use Rattle.gql_engine.specs.declared.given.Given.{Given}
+use Rattle.gql_engine.specs.declared.given.Given.TheVariants.{Answered, Put}
 use Rattle.gql_engine.specs.declared.shape.Shape.{Shape}
 use Rattle.gql_engine.specs.declared.shape.Shape.TheVariants as shape
 
@@ -17,45 +22,45 @@ use Rattle.gql_engine.specs.declared.shape.Shape.TheVariants as shape
 abbrev pub fault : List ℕ → Shape
 fault message = shape.Fault (record { message = message; extensions = None })
 
+-- the fault of null at a non-null type
 abbrev pub no_value : List ℕ
 no_value = codes "internal: non-null types require a return value"
 
+-- the fault of what is no list
 abbrev pub no_array : List ℕ
 no_array = codes "internal: expects an array"
 
+-- the fault of what the scalar doesn't take
 abbrev pub no_scalar : List ℕ → List ℕ
 no_scalar name = codes "internal: invalid value for scalar \"" ++ (name ++ codes "\", expected \"FieldValue::Value\"")
 
--- the whole numbers of 32 bits with a sign
-abbrev pub is_int32 : ℤ → Bool
-is_int32 number = int_le (negsuc (2 ^ 31 - 1)) number && int_le number (pos (2 ^ 31 - 1))
+-- the rule of a scalar by its name; those without a rule here are to come
+abbrev pub rule_named : List ℕ → Option ScalarRule
+rule_named name =
+    if bytes_eq name (codes "Int") then Some rules.Int
+    else (if bytes_eq name (codes "String") then Some rules.Text else (if bytes_eq name (codes "Boolean") then Some rules.Bool else None))
 
--- whether a scalar's rule takes a value (section 3.5); null is none of the scalar's business
-abbrev pub takes_here : List ℕ → Value-F Value → Bool
-takes_here name Value-F.Null = false
-takes_here name (Value-F.Boolean truth) = bytes_eq name (codes "Boolean")
-takes_here name (Value-F.Number number) = bytes_eq name (codes "Int") && is_int32 number
-takes_here name (Value-F.String text) = bytes_eq name (codes "String")
-takes_here name (Value-F.Enum item) = false
-takes_here name (Value-F.List items) = false
-takes_here name (Value-F.Object members) = false
-
+-- whether that rule takes a value; null is none of the scalar's business
 abbrev pub takes : List ℕ → Value → Bool
-takes name value = takes_here name (out-Value value)
+takes name value = option_map_or (λ rule. takes_by rule value) (rule_named name) false
 
+-- a value at the scalar of this name
 abbrev pub leaf_at : List ℕ → Option Value → Shape
 leaf_at name None = fault (no_scalar name)
 leaf_at name (Some value) = if is_null value then shape.Absent else (if takes name value then shape.Leaf value else fault (no_scalar name))
 
+-- a value at a list type, until lists are completed
 abbrev pub list_at : Option Value → Shape
 list_at None = fault no_array
 list_at (Some value) = if is_null value then shape.Absent else fault no_array
 
 module _ {V : Type 0} where
+  -- what a resolver gave, at a scalar
   abbrev pub scalar_at : List ℕ → Option (FieldValue V) → Shape
   scalar_at name None = shape.Absent
   scalar_at name (Some given) = leaf_at name (value_in given)
 
+  -- what a resolver gave, at a list type
   abbrev pub items_at : Option (FieldValue V) → Shape
   items_at None = shape.Absent
   items_at (Some given) = list_at (value_in given)
@@ -67,14 +72,28 @@ required (shape.Leaf value) = shape.Leaf value
 required (shape.Fault error) = shape.Fault error
 
 module _ {V : Type 0} where
+  -- one layer of a type
   abbrev pub completed_step : TypeRef-F (Option (FieldValue V) → Shape) → Option (FieldValue V) → Shape
   completed_step (TypeRef-F.Named name) given = scalar_at name given
   completed_step (TypeRef-F.NonNull inner) given = required (inner given)
   completed_step (TypeRef-F.List inner) given = items_at given
 
+  -- what a resolver gave, at its field's type
   abbrev pub completed : TypeRef → Option (FieldValue V) → Shape
   completed = fold-TypeRef (Option (FieldValue V) → Shape) completed_step
 
+  -- a resolver's result, at its field's type
   abbrev pub shape_of : TypeRef → Result (Option (FieldValue V)) Error → Shape
   shape_of ty (Err error) = shape.Fault error
   shape_of ty (Ok given) = completed ty given
+
+-- what a hook puts in a place is not completed
+abbrev pub shape_put : Result (Option Value) Error → Shape
+shape_put (Err error) = shape.Fault error
+shape_put (Ok None) = shape.Absent
+shape_put (Ok (Some value)) = shape.Leaf value
+
+-- what a task is given, at its field's type
+abbrev pub shape_given : {V : Type 0} → TypeRef → Given V → Shape
+shape_given ty (Answered answer) = shape_of ty answer.result
+shape_given ty (Put put) = shape_put put

@@ -2,9 +2,12 @@ pub mod Apart
 pub mod ApartPlan
 pub mod Arena
 pub mod Completion
+pub mod Given
 pub mod Pace
+pub mod Parts
 pub mod Path
 pub mod Plan
 pub mod Progress
 pub mod Record
 pub mod Turn
+pub mod Waiting

@@ -1,7 +1,6 @@
 -- The pace of an execution over a set whose futures take as many polls as the delays of their resolvers: the entries of each
 -- task, in their order, are as many pending ones as the delay of its resolver, and then its ready one.
 use Rattle.std.specs.Prelude.{ℕ, zero, suc, ◌≡◌, ◌==◌, Bool, true, false, if◌then◌else◌, List, [], ◌∷◌, ◌++◌, Option, Some, None, slice_get}
-use Rattle.gql_resolve.specs.Record.{with_more}
 use Rattle.gql_resolve.specs.declared.record_entry.RecordEntry.{RecordEntry}
 use Rattle.gql_engine.specs.declared.arena.State.{State}
 use Rattle.gql_engine.specs.declared.arena.State.TheVariants as state
@@ -35,21 +34,11 @@ abbrev pub told_of : ℕ → List RecordEntry → List Bool
 told_of task [] = []
 told_of task (entry ∷ entries) = (if entry.task == task then entry.ready ∷ [] else []) ++ told_of task entries
 
--- a stretch of turns: what is to come of each task before it is its entries that the set was told, and what is to come after
-pub record Paces {Task F : Type 0} (number : F → ℕ) (delay : Task → ℕ) (told told' : Option (List RecordEntry))
-    (tasks tasks' : List Task) (states states' : List (State F)) : Type 0 where
-  pub entries : List RecordEntry
-  pub told_is : told' ≡ with_more told entries
-  pub stays : (k : ℕ) (task : Task) → slice_get tasks k ≡ Some task → slice_get tasks' k ≡ Some task
-  pub splits : (k due : ℕ) → ((task : Task) → slice_get tasks' k ≡ Some task → due ≡ delay task)
-      → to_come_at number due (slice_get states k) ≡ told_of k entries ++ to_come_at number due (slice_get states' k)
-
--- such a stretch over a paced set, which stays paced
-pub record Pacing {Task F : Type 0} (quiet paced paced' : Type 0) (number : F → ℕ) (delay : Task → ℕ) (told told' : Option (List RecordEntry))
-    (tasks tasks' : List Task) (states states' : List (State F)) : Type 0 where
-  pub still : paced → paced'
-  pub paces : quiet → paced → Paces number delay told told' tasks tasks' states states'
-
 -- in a whole record, each task has as many pending entries as its delay, then its ready entry, and no other
 pub record EachPaced {Task : Type 0} (delay : Task → ℕ) (tasks : List Task) (entries : List RecordEntry) : Type 0 where
   pub paced : (k : ℕ) (task : Task) → slice_get tasks k ≡ Some task → told_of k entries ≡ pending_then_ready (delay task)
+
+-- in a record that ended for want of memory, the entries of each of these tasks are a front of those
+pub record EachPacedSoFar {Task : Type 0} (delay : Task → ℕ) (tasks : List Task) (entries : List RecordEntry) : Type 0 where
+  pub paced : (k : ℕ) (task : Task) → slice_get tasks k ≡ Some task
+      → (rest : List Bool) × (pending_then_ready (delay task) ≡ told_of k entries ++ rest)

@@ -6,8 +6,10 @@ use Rattle.gql_doc.specs.Document.{key_of}
 use Rattle.gql_doc.specs.declared.document.Positioned.{Positioned}
 use Rattle.gql_doc.specs.declared.document.Field.{Field}
 
+-- the key of an occurrence in the response
 abbrev pub key_text : Positioned Field → List ℕ
 key_text occurrence = (key_of occurrence.node).node
 
+-- the path to it
 abbrev pub path_of : Positioned Field → List PathSegment
 path_of occurrence = segment.Field (key_text occurrence) ∷ []

@@ -1,36 +1,25 @@
--- What stands between two turns, and what lies between two such stages.
-use Rattle.std.specs.Prelude.{ℕ, ◌≡◌, List, [], Option, false}
+-- What stands between two turns, and what lies between two such moments.
+use Rattle.std.specs.Prelude.{ℕ, Bool, ◌≡◌, ◌++◌, List, [], Option, Some, false, length, slice_get}
 use Rattle.std.specs.Option.{ForSome}
 use Rattle.gql_resolve.specs.Call.{Call}
+use Rattle.gql_resolve.specs.Record.{with_more}
 use Rattle.gql_resolve.specs.declared.answer.Answer.{Answer}
 use Rattle.gql_resolve.specs.declared.record_entry.RecordEntry.{RecordEntry}
+use Rattle.gql_resolve.specs.declared.resolver_set.ResolverSet.{Ghosts as Resolving}
+use Rattle.gql_resolve.specs.declared.turns.Turns.{Ghosts as Choosing}
 use Rattle.gql_engine.specs.declared.arena.State.{State}
-use Rattle.gql_engine.specs.Pace.{EachPaced}
-use Rattle.gql_engine.specs.Record.{Story, Made, Ran, Stopped, fresh, waiting}
-use Rattle.gql_engine.specs.Arena.{Subject, IsRight, made_of}
-
--- the tasks and their states, what the set told, and the state of the turns
-pub record Stage (Task F T : Type 0) : Type 0 where
-  pub tasks : List Task
-  pub states : List (State F)
-  pub told : Option (List RecordEntry)
-  pub starts : Option (List ℕ)
-  pub turns : Option T
-
-abbrev pub stage_of : {Task F T : Type 0} → List Task → List (State F) → Option (List RecordEntry) → Option (List ℕ) → Option T → Stage Task F T
-stage_of tasks states told starts turns = record { tasks = tasks; states = states; told = told; starts = starts; turns = turns }
-
--- what a stretch of turns keeps of the set and the hooks, whether it ends well or not
-pub record Kept {Rules World : Type 0} (lawful lawful' quiet quiet' : Type 0) (rules rules' : Rules) (world world' : World) : Type 0 where
-  pub rules_is : rules' ≡ rules
-  pub lawful_is : lawful → lawful'
-  pub world_is : lawful → world' ≡ world
-  pub quiet_is : quiet → quiet'
+use Rattle.gql_engine.specs.declared.arena.State.TheVariants.{Done}
+use Rattle.gql_engine.specs.declared.given.Given.{Given}
+use Rattle.gql_engine.specs.Arena.{Subject, Fits, IsRight, marks_of}
+use Rattle.gql_engine.specs.Pace.{EachPaced, EachPacedSoFar, to_come_at, told_of}
+use Rattle.gql_engine.specs.Parts.{Parts, Moment, due_by, delay_by, delay_at, stage, subject}
+use Rattle.gql_engine.specs.Record.{Story, Made, Stage, Ran, Stopped, fresh, waiting, waiting_from}
 
 -- answers that agree with those that are due, but for the roots of a mutation, which are asked in a world of their own
 pub record Agrees {V Task : Type 0} (subject : Subject V Task) (due : Call V → Answer V) (answers : Task → Answer V) : Type 0 where
   pub agrees : (task : Task) → (subject.call task).is_root ≡ false → answers task ≡ due (subject.call task)
 
+-- what the record needs to know of the tasks, where these are their answers
 abbrev pub story_of : {V Task : Type 0} → Subject V Task → (Task → Answer V) → Story Task
 story_of subject answers = record {
   resolver = λ task. (subject.call task).resolver;
@@ -38,29 +27,101 @@ story_of subject answers = record {
   beneath = λ task. subject.beneath task (answers task);
 }
 
--- over a lawful set and quiet hooks: the answers that are kept are those that are due, and the record is turned
-pub record Progress {V Task F T : Type 0} (lawful quiet : Type 0) (subject : Subject V Task) (due : Call V → Answer V)
-    (choice : T → ℕ → ℕ) (after : T → ℕ → T) (holds holds' : ℕ → Answer V → Type 0) (old new : Stage Task F T) : Type 0 where
-  pub right : lawful → quiet → (answers : Task → Answer V) → Agrees subject due answers
-      → IsRight answers holds old.tasks old.states → IsRight answers holds' new.tasks new.states
-  pub ran : lawful → quiet → (answers : Task → Answer V) → Agrees subject due answers
-      → Ran choice after (story_of subject answers) old.told new.told old.starts new.starts old.turns new.turns (made_of old.tasks old.states) (made_of new.tasks new.states)
+module _ {R Own World Future L H P : Type 0} (e : Parts R Own World Future L H P) where
+  -- every set and all hooks keep it: each task has a state, those without an answer wait in the order of making, and the futures
+  -- are for the calls of their tasks
+  pub record IsSound (m : Moment R Future L H P) : Type 0 where
+    pub lengths : length m.states ≡ length (e.plan.tasks m.plan)
+    pub waits : m.waiting ≡ waiting_from 0 (marks_of m.states)
+    pub fits : (number : ℕ) (task : e.plan.Task) (s : State Future) → slice_get (e.plan.tasks m.plan) number ≡ Some task
+        → slice_get m.states number ≡ Some s → Fits e.set.is_for (e.plan.holds m.plan) number (e.plan.asks task).call s
 
-pub record Ended {V Task F T : Type 0} (lawful quiet : Type 0) (subject : Subject V Task) (due : Call V → Answer V)
-    (choice : T → ℕ → ℕ) (after : T → ℕ → T) (old : Stage Task F T) (told : Option (List RecordEntry)) (starts : Option (List ℕ)) : Type 0 where
-  pub stopped : lawful → quiet → (answers : Task → Answer V) → Agrees subject due answers
-      → Stopped choice after (story_of subject answers) old.told told old.starts starts old.turns (made_of old.tasks old.states)
+  -- what turns keep of the set and the hooks, whether they end well or not
+  pub record Kept (old new : Moment R Future L H P) : Type 0 where
+    pub rules_is : e.set.rules new.set ≡ e.set.rules old.set
+    pub lawful_is : e.set.is_lawful old.set → e.set.is_lawful new.set
+    pub world_is : e.set.is_lawful old.set → e.set.world new.set ≡ e.set.world old.set
+    pub paced_is : e.set.is_paced old.set → e.set.is_paced new.set
+    pub quiet_is : e.hooks.are_quiet old.hooks → e.hooks.are_quiet new.hooks
 
--- a whole execution of tasks that are fresh: a turned record that leaves none waiting. Where the set is paced and tells its
--- record, the entries of each task are as many pending ones as the delay of its resolver, and then its ready one
-pub record RunsWhole {V Task T : Type 0} (choice : T → ℕ → ℕ) (after : T → ℕ → T) (subject : Subject V Task) (due : Call V → Answer V) (paced : Type 0) (delay : ℕ → ℕ) (tasks : List Task)
-    (told told' : Option (List RecordEntry)) (starts starts' : Option (List ℕ)) (turns turns' : Option T) : Type 0 where
-  pub made : Made Task
-  pub ran : Ran choice after (story_of subject (λ task. due (subject.call task))) told told' starts starts' turns turns' (fresh tasks) made
-  pub whole : waiting made ≡ []
-  pub paces : paced → ForSome told (λ before. EachPaced (λ task. delay (subject.call task).resolver) made.tasks ran.entries)
+  -- over a lawful set and quiet hooks: the answers that are kept are those that are due, and the record is turned
+  pub record Progress (old new : Moment R Future L H P) (answers : e.plan.Task → Answer Own) : Type 0 where
+    pub right : (base : ℕ) → IsRight base answers (e.plan.holds old.plan) (e.plan.tasks old.plan) old.states
+        → IsRight base answers (e.plan.holds new.plan) (e.plan.tasks new.plan) new.states
+    pub ran : Ran e.turns.choice e.turns.after (story_of (subject e) answers) (stage e old) (stage e new)
 
--- an execution that ended for want of memory
-pub record RunStopped {V Task T : Type 0} (choice : T → ℕ → ℕ) (after : T → ℕ → T) (subject : Subject V Task) (due : Call V → Answer V) (tasks : List Task)
-    (told told' : Option (List RecordEntry)) (starts starts' : Option (List ℕ)) (turns : Option T) : Type 0 where
-  pub stopped : Stopped choice after (story_of subject (λ task. due (subject.call task))) told told' starts starts' turns (fresh tasks)
+  -- over a paced set and quiet hooks: what was to come of each task is its entries that the set was told, and what is to come after
+  pub record Paces (old new : Moment R Future L H P) : Type 0 where
+    pub entries : List RecordEntry
+    pub told_is : e.set.told new.set ≡ with_more (e.set.told old.set) entries
+    pub stays : (k : ℕ) (task : e.plan.Task) → slice_get (e.plan.tasks old.plan) k ≡ Some task → slice_get (e.plan.tasks new.plan) k ≡ Some task
+    pub splits : (k due : ℕ) → ((task : e.plan.Task) → slice_get (e.plan.tasks new.plan) k ≡ Some task → due ≡ delay_at e old task)
+        → to_come_at e.set.number due (slice_get old.states k) ≡ told_of k entries ++ to_come_at e.set.number due (slice_get new.states k)
+
+  -- the same where memory was wanting: the entries of each task are a front of those that were to come of it
+  pub record PacesSoFar (old : Moment R Future L H P) (set : R) : Type 0 where
+    pub entries : List RecordEntry
+    pub told_is : e.set.told set ≡ with_more (e.set.told old.set) entries
+    pub made : List e.plan.Task
+    pub stays : (k : ℕ) (task : e.plan.Task) → slice_get (e.plan.tasks old.plan) k ≡ Some task → slice_get made k ≡ Some task
+    pub splits : (k due : ℕ) → ((task : e.plan.Task) → slice_get made k ≡ Some task → due ≡ delay_at e old task)
+        → (rest : List Bool) × (to_come_at e.set.number due (slice_get old.states k) ≡ told_of k entries ++ rest)
+
+  -- a task that has its answer keeps it
+  pub record StaysDone (old new : Moment R Future L H P) (number : ℕ) : Type 0 where
+    pub done : slice_get new.states number ≡ Some Done
+    pub held : (given : Given Own) → e.plan.holds old.plan number given → e.plan.holds new.plan number given
+
+  -- a stretch of turns that ended well
+  pub record Went (old new : Moment R Future L H P) : Type 0 where
+    pub sound : IsSound new
+    pub stays : (number : ℕ) → slice_get old.states number ≡ Some Done → StaysDone old new number
+    pub progress : e.set.is_lawful old.set → e.hooks.are_quiet old.hooks → (answers : e.plan.Task → Answer Own)
+        → Agrees (subject e) (due_by e.set old.set) answers → Progress old new answers
+    pub paces : e.set.is_paced old.set → e.hooks.are_quiet old.hooks → Paces old new
+
+  -- a stretch of turns that ended for want of memory: what the set has told by then
+  pub record Ended (old : Moment R Future L H P) (set : R) : Type 0 where
+    pub stopped : e.set.is_lawful old.set → e.hooks.are_quiet old.hooks → (answers : e.plan.Task → Answer Own)
+        → Agrees (subject e) (due_by e.set old.set) answers
+        → Stopped e.turns.choice e.turns.after (story_of (subject e) answers) (stage e old) (e.set.told set) (e.set.begun set)
+    pub paces : e.set.is_paced old.set → e.hooks.are_quiet old.hooks → PacesSoFar old set
+
+-- a resolver set and turns at one moment
+pub record Seen (R P : Type 0) : Type 0 where
+  pub set : R
+  pub turns : P
+
+-- the same, as a contract names it
+abbrev pub seen : {R P : Type 0} → R → P → Seen R P
+seen set turns = record { set = set; turns = turns }
+
+module _ {R Own World Future P Task : Type 0} (set : Resolving R Own World Future) (turns : Choosing P) (subject : Subject Own Task) where
+  -- the story of the tasks over a lawful set at a moment
+  abbrev pub story_at : Seen R P → Story Task
+  story_at old = story_of subject (λ task. due_by set old.set (subject.call task))
+
+  -- what the record sees of a moment, with the tasks and their marks
+  abbrev pub stage_of : Made Task → Seen R P → Stage Task turns.State
+  stage_of made m = record {
+    made = made;
+    told = set.told m.set;
+    starts = set.begun m.set;
+    turns = turns.state m.turns;
+  }
+
+  -- a whole execution of tasks that are fresh: a turned record that leaves none waiting. Where the set is paced and tells its
+  -- record, the entries of each task are as many pending ones as the delay of its resolver, and then its ready one
+  pub record RunsWhole (tasks : List Task) (old new : Seen R P) : Type 0 where
+    pub made : Made Task
+    pub ran : Ran turns.choice turns.after (story_at old) (stage_of (fresh tasks) old) (stage_of made new)
+    pub whole : waiting made ≡ []
+    pub paces : set.is_paced old.set → ForSome (set.told old.set)
+        (λ before. EachPaced (λ task. delay_by set old.set (subject.call task).resolver) made.tasks ran.entries)
+
+  -- an execution of such tasks that ended for want of memory. Where the set is paced and tells its record, the entries of each of
+  -- these tasks are a front of those
+  pub record RunStopped (tasks : List Task) (old new : Seen R P) : Type 0 where
+    pub stopped : Stopped turns.choice turns.after (story_at old) (stage_of (fresh tasks) old) (set.told new.set) (set.begun new.set)
+    pub paces : set.is_paced old.set → ForSome (set.told old.set)
+        (λ before. EachPacedSoFar (λ task. delay_by set old.set (subject.call task).resolver) tasks stopped.entries)

@@ -29,6 +29,7 @@ waiting_from n (untold ∷ marks) = n ∷ waiting_from (suc n) marks
 waiting_from n (begun ∷ marks) = n ∷ waiting_from (suc n) marks
 waiting_from n (ready ∷ marks) = waiting_from (suc n) marks
 
+-- the numbers of the tasks without a ready entry
 abbrev pub waiting : {Task : Type 0} → Made Task → List ℕ
 waiting made = waiting_from 0 made.marks
 
@@ -37,23 +38,28 @@ abbrev pub untold_marks : {Task : Type 0} → List Task → List Mark
 untold_marks [] = []
 untold_marks (task ∷ tasks) = untold ∷ untold_marks tasks
 
+-- tasks without an entry
 abbrev pub fresh : {Task : Type 0} → List Task → Made Task
 fresh tasks = record { tasks = tasks; marks = untold_marks tasks }
 
+-- the tasks beneath the answer of a task, where it is made
 abbrev pub beneath_of : {Task : Type 0} → Story Task → Option Task → List Task
 beneath_of story None = []
 beneath_of story (Some task) = story.beneath task
 
--- a pending entry marks its task; a ready entry marks it too, and the tasks beneath its answer are made
+-- a pending entry marks its task
 abbrev pub after_pending : {Task : Type 0} → Made Task → ℕ → Made Task
 after_pending made task = record { tasks = made.tasks; marks = slice_set made.marks task begun }
 
+-- a ready entry marks it too, and the tasks beneath its answer are made
 abbrev pub after_ready : {Task : Type 0} → Made Task → ℕ → List Task → Made Task
 after_ready made task more = record { tasks = made.tasks ++ more; marks = slice_set made.marks task ready ++ untold_marks more }
 
+-- an entry does one of the two
 abbrev pub after_mark : {Task : Type 0} → Story Task → Made Task → ℕ → Bool → Made Task
 after_mark story made task is_ready = if is_ready then after_ready made task (beneath_of story (slice_get made.tasks task)) else after_pending made task
 
+-- the tasks and marks after one entry
 abbrev pub after_entry : {Task : Type 0} → Story Task → Made Task → RecordEntry → Made Task
 after_entry story made entry = after_mark story made entry.task entry.ready
 
@@ -70,42 +76,51 @@ Turned choice after story state made (entry ∷ entries) =
     × NamesTask story (slice_get made.tasks entry.task) entry
     × Turned choice after story (after state (length (waiting made))) (after_entry story made entry) entries
 
--- the state of the turns after a record, and the tasks and marks after it
+-- the state of the turns after a record
 abbrev pub state_at : {Task State : Type 0} → (State → ℕ → State) → Story Task → State → Made Task → List RecordEntry → State
 state_at after story state made [] = state
 state_at after story state made (entry ∷ entries) = state_at after story (after state (length (waiting made))) (after_entry story made entry) entries
 
+-- the tasks and marks after a record
 abbrev pub made_at : {Task : Type 0} → Story Task → Made Task → List RecordEntry → Made Task
 made_at story made [] = made
 made_at story made (entry ∷ entries) = made_at story (after_entry story made entry) entries
 
--- the tasks that begin in a record, each at its first entry
+-- the task of an entry, where it is its first one
 abbrev pub begins : ℕ → Option Mark → List ℕ
 begins task None = []
 begins task (Some untold) = task ∷ []
 begins task (Some begun) = []
 begins task (Some ready) = []
 
+-- the tasks that begin in a record, each at its first entry
 abbrev pub begun_at : {Task : Type 0} → Story Task → Made Task → List RecordEntry → List ℕ
 begun_at story made [] = []
 begun_at story made (entry ∷ entries) = begins entry.task (slice_get made.marks entry.task) ++ begun_at story (after_entry story made entry) entries
 
--- one stretch of an execution: the entries that the set was told, which the turns chose, and what stands after them
-pub record Ran {Task State : Type 0} (choice : State → ℕ → ℕ) (after : State → ℕ → State) (story : Story Task)
-    (told told' : Option (List RecordEntry)) (starts starts' : Option (List ℕ)) (state state' : Option State) (made made' : Made Task) : Type 0 where
-  pub entries : List RecordEntry
-  pub told_is : told' ≡ with_more told entries
-  pub starts_is : starts' ≡ with_more starts (begun_at story made entries)
-  pub turned : ForSome state (λ s. Turned choice after story s made entries)
-  pub state_is : state' ≡ option_map (λ s. state_at after story s made entries) state
-  pub made_is : made' ≡ made_at story made entries
+-- what the record sees of an execution between two turns: the tasks with their marks, what the set told of entries and of tasks
+-- that began, and the state of the turns
+pub record Stage (Task State : Type 0) : Type 0 where
+  pub made : Made Task
+  pub told : Option (List RecordEntry)
+  pub starts : Option (List ℕ)
+  pub turns : Option State
 
--- what an execution that ended for want of memory has told: such a stretch, and at most one task more has begun
-pub record Stopped {Task State : Type 0} (choice : State → ℕ → ℕ) (after : State → ℕ → State) (story : Story Task)
-    (told told' : Option (List RecordEntry)) (starts starts' : Option (List ℕ)) (state : Option State) (made : Made Task) : Type 0 where
-  pub entries : List RecordEntry
-  pub told_is : told' ≡ with_more told entries
-  pub last : List ℕ
-  pub at_most_one : length last ≤ 1
-  pub starts_is : starts' ≡ with_more starts (begun_at story made entries ++ last)
-  pub turned : ForSome state (λ s. Turned choice after story s made entries)
+module _ {Task State : Type 0} (choice : State → ℕ → ℕ) (after : State → ℕ → State) (story : Story Task) where
+  -- one stretch of an execution: the entries that the set was told, which the turns chose, and what stands after them
+  pub record Ran (old new : Stage Task State) : Type 0 where
+    pub entries : List RecordEntry
+    pub told_is : new.told ≡ with_more old.told entries
+    pub starts_is : new.starts ≡ with_more old.starts (begun_at story old.made entries)
+    pub turned : ForSome old.turns (λ s. Turned choice after story s old.made entries)
+    pub state_is : new.turns ≡ option_map (λ s. state_at after story s old.made entries) old.turns
+    pub made_is : new.made ≡ made_at story old.made entries
+
+  -- what an execution that ended for want of memory has told: such a stretch, and at most one task more has begun
+  pub record Stopped (old : Stage Task State) (told : Option (List RecordEntry)) (starts : Option (List ℕ)) : Type 0 where
+    pub entries : List RecordEntry
+    pub told_is : told ≡ with_more old.told entries
+    pub last : List ℕ
+    pub at_most_one : length last ≤ 1
+    pub starts_is : starts ≡ with_more old.starts (begun_at story old.made entries ++ last)
+    pub turned : ForSome old.turns (λ s. Turned choice after story s old.made entries)

@@ -6,15 +6,16 @@ use Rattle.gql_resolve.specs.declared.resolver_context.ResolverContext.{Resolver
 use Rattle.gql_resolve.specs.Record.{entry_of, with_more}
 use Rattle.gql_engine.specs.declared.rounds.Entered.{Entered}
 use Rattle.gql_engine.specs.declared.rounds.Entered.TheVariants as entered
+use Rattle.gql_engine.specs.declared.given.Given.TheVariants.{Answered}
 use Rattle.gql_engine.specs.declared.arena.State.{State}
 use Rattle.gql_engine.specs.declared.arena.State.TheVariants as state
 use Rattle.gql_engine.specs.declared.arena.Turn.{Turn}
 use Rattle.gql_engine.specs.declared.arena.Turn.TheVariants as turn
 
 -- the hooks answer nothing themselves
-abbrev pub GoesOn : {V E : Type 0} → Result (Entered V) E → Type 0
+abbrev pub GoesOn : {T E : Type 0} → Result (Entered T) E → Type 0
 GoesOn (Ok entered.Go) = Unit {0}
-GoesOn (Ok (entered.Answer answer)) = ⊥
+GoesOn (Ok (entered.Answer put)) = ⊥
 GoesOn (Err e) = Unit {0}
 
 -- a state whose task may be taken up: its future, where it has one, is for its call
@@ -23,7 +24,7 @@ IsOpen is_for call state.Fresh = Unit {0}
 IsOpen is_for call (state.Waiting future) = is_for future call
 IsOpen is_for call state.Done = ⊥
 
--- what stands after a turn without an answer: a future for the call, which is new, or whose number fell
+-- after a first turn without an answer there is a future for the call
 abbrev pub StartsWaiting : {F C : Type 0} → (F → C → Type 0) → C → State F → State F → Type 0
 StartsWaiting is_for call state.Fresh (state.Waiting new) = is_for new call
 StartsWaiting is_for call state.Fresh state.Fresh = ⊥
@@ -31,6 +32,7 @@ StartsWaiting is_for call state.Fresh state.Done = ⊥
 StartsWaiting is_for call (state.Waiting old) new = ⊥
 StartsWaiting is_for call state.Done new = ⊥
 
+-- after a later one the future is for the call still, and its number fell
 abbrev pub KeepsWaiting : {F C : Type 0} → (F → C → Type 0) → (F → ℕ) → C → State F → State F → Type 0
 KeepsWaiting is_for number call (state.Waiting old) (state.Waiting new) = is_for new call × (number new < number old)
 KeepsWaiting is_for number call (state.Waiting old) state.Fresh = ⊥
@@ -38,25 +40,27 @@ KeepsWaiting is_for number call (state.Waiting old) state.Done = ⊥
 KeepsWaiting is_for number call state.Fresh new = ⊥
 KeepsWaiting is_for number call state.Done new = ⊥
 
+-- what a turn does to the state of its task
 abbrev pub TurnOf : {V F C : Type 0} → (F → C → Type 0) → (F → ℕ) → C → State F → State F → Turn V → Type 0
-TurnOf is_for number call old new (turn.Answered answer) = Unit {0}
+TurnOf is_for number call old new (turn.Answered given) = Unit {0}
 TurnOf is_for number call old new turn.Begun = StartsWaiting is_for call old new
 TurnOf is_for number call old new turn.Pending = KeepsWaiting is_for number call old new
 
--- an answer is the one that is due
+-- where a turn gives something, it is the answer that is due
 abbrev pub AnswersRightly : {V E : Type 0} → Answer V → Result (Turn V) E → Type 0
-AnswersRightly due (Ok (turn.Answered answer)) = answer ≡ due
+AnswersRightly due (Ok (turn.Answered given)) = given ≡ Answered due
 AnswersRightly due (Ok turn.Begun) = Unit {0}
 AnswersRightly due (Ok turn.Pending) = Unit {0}
 AnswersRightly due (Err e) = Unit {0}
 
--- the entry that a turn adds to the record, and the task that it begins
+-- the entry that a turn adds to the record
 abbrev pub told_by_turn : {V E : Type 0} → ResolverContext V → Result (Turn V) E → List RecordEntry
-told_by_turn context (Ok (turn.Answered answer)) = entry_of context true ∷ []
+told_by_turn context (Ok (turn.Answered given)) = entry_of context true ∷ []
 told_by_turn context (Ok turn.Begun) = entry_of context false ∷ []
 told_by_turn context (Ok turn.Pending) = entry_of context false ∷ []
 told_by_turn context (Err e) = []
 
+-- the task that a turn begins: its own, where it is fresh
 abbrev pub begins_now : {F : Type 0} → ℕ → State F → List ℕ
 begins_now task state.Fresh = task ∷ []
 begins_now task (state.Waiting future) = []

@@ -3,12 +3,13 @@ ghost use Rattle.gql_base.specs.Pairs.{unite_all};
 ghost use Rattle.gql_resolve.specs.Call.{is_mutation};
 ghost use Rattle.gql_engine.specs.Apart.{respond, asked_in, subject_in, root_of, join};
 ghost use Rattle.gql_engine.specs.ApartPlan.{places_here};
-ghost use Rattle.gql_engine.specs.Progress.{RunsWhole, RunStopped};
+ghost use Rattle.gql_engine.specs.Parts.{due_by};
+ghost use Rattle.gql_engine.specs.Progress.{RunsWhole, RunStopped, seen};
 
 use crate::apart_plan::ApartPlan;
 use crate::arena::Arena;
 use crate::assembling::members_of;
-use crate::gathering::plan_of;
+use crate::collect_fields::plan_of;
 use crate::place::{Place, Tree};
 use crate::scene::Scene;
 use crate::scheduler::finish;
@@ -28,14 +29,17 @@ pub fn run_apart<R: ResolverSet, P: Turns>(
     turns: &mut P,
 ) -> Result<Place, NoMemory>
     requires { is_mutation scene.now.env.now.operation.node.ty ≡ false }
-    ensures places { R.is_lawful resolvers.old → IfOk result (λ place. place ≡ respond scene.now (λ call. R.answer (R.rules resolvers.old) call (R.world resolvers.old))) }
+    ensures places { R.is_lawful resolvers.old → IfOk result (λ place. place
+        ≡ respond scene.now (due_by R.ResolverSet resolvers.old)) }
     ensures rules { R.rules resolvers.new ≡ R.rules resolvers.old }
     ensures lawful { R.is_lawful resolvers.old → R.is_lawful resolvers.new }
     ensures world { R.is_lawful resolvers.old → R.world resolvers.new ≡ R.world resolvers.old }
-    ensures record { R.is_lawful resolvers.old → OnOk result (RunsWhole P.choice P.after subject_in (λ call. R.answer (R.rules resolvers.old) call (R.world resolvers.old)) (R.is_paced resolvers.old) (R.delay (R.rules resolvers.old)) (asked_in scene.now)
-        (R.told resolvers.old) (R.told resolvers.new) (R.begun resolvers.old) (R.begun resolvers.new) (P.state turns.old) (P.state turns.new)) }
-    ensures stopped { R.is_lawful resolvers.old → OnErr result (RunStopped P.choice P.after subject_in (λ call. R.answer (R.rules resolvers.old) call (R.world resolvers.old)) (asked_in scene.now)
-        (R.told resolvers.old) (R.told resolvers.new) (R.begun resolvers.old) (R.begun resolvers.new) (P.state turns.old)) }
+    ensures record { R.is_lawful resolvers.old → OnOk result
+        (RunsWhole R.ResolverSet P.Turns subject_in (asked_in scene.now)
+        (seen resolvers.old turns.old) (seen resolvers.new turns.new)) }
+    ensures stopped { R.is_lawful resolvers.old → OnErr result
+        (RunStopped R.ResolverSet P.Turns subject_in (asked_in scene.now)
+        (seen resolvers.old turns.old) (seen resolvers.new turns.new)) }
     ensures roots { IfErr result (λ want. want.roots ≡ 0) }
 {
     let mut plan = plan_of(alloc, scene)?;
@@ -46,7 +50,8 @@ pub fn run_apart<R: ResolverSet, P: Turns>(
 
 /// The place of the root, of the places of its fields.
 fn root_place<V: Drop>(alloc: Global, scene: &Scene<'_, V>, plan: ApartPlan<'_, V>) -> Made<Place>
-    ensures { IfOk result (λ place. place ≡ root_of scene.now (unite_all join [] (places_here plan.entry.occurrences.items))) }
+    ensures { IfOk result (λ place. place
+        ≡ root_of scene.now (unite_all join [] (places_here plan.entry.occurrences.items))) }
 {
     let ApartPlan {
         scene: _,

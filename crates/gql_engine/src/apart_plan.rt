@@ -1,6 +1,7 @@
 ghost use Rattle.std.specs.Prelude.{◌≡◌, [], false};
 ghost use Rattle.gql_resolve.specs.Call.{is_mutation};
 
+use crate::given::Given;
 use crate::occurrence::Occurrence;
 use crate::placing::place_at;
 use crate::plan::Plan;
@@ -8,7 +9,7 @@ use crate::scene::Scene;
 use gql_base::{Made, Pairs, Value};
 use gql_input::ObjectAccessor;
 use gql_request::QueryPathNode;
-use gql_resolve::{Answer, ResolverContext};
+use gql_resolve::ResolverContext;
 use std::alloc::Global;
 
 /// The occurrences of a flat object's fields, each with its place once it is answered.
@@ -22,8 +23,11 @@ pub struct ApartPlan<'a, V> {
 }
 
 impl<'a, V: Drop> Plan<V> for ApartPlan<'a, V> {
-    ghost use Rattle.std.specs.Prelude.{ℕ, ◌<◌, ◌++◌, false, Some, List, length, slice_get, IfOk, OnOk};
-    ghost use Rattle.gql_engine.specs.Apart.{Asked};
+    ghost use Rattle.std.specs.Prelude.{ℕ, ◌<◌, false, Some, List, length, slice_get, IfOk, OnOk};
+    ghost use Rattle.gql_engine.specs.Apart.{Asked, nothing_beneath};
+    ghost use Rattle.gql_engine.specs.Given.{beneath_given};
+    ghost use Rattle.gql_engine.specs.Plan.{HasMade};
+    ghost use Rattle.gql_engine.specs.declared.given.Given.{Given as GivenTo};
     ghost use Rattle.gql_engine.specs.ApartPlan.{all_seen, Keeps};
     ghost use Rattle.std.proofs.Common.{rules};
 
@@ -31,13 +35,11 @@ impl<'a, V: Drop> Plan<V> for ApartPlan<'a, V> {
 
     ghost tasks = { λ plan. all_seen plan.scene.now plan.occurrences.items };
 
-    ghost call = { λ task. task.call };
+    ghost asks = { λ task. task.asks };
 
-    ghost path = { λ task. task.path };
+    ghost beneath = { λ task answer. nothing_beneath task answer };
 
-    ghost beneath = { λ task answer. [] };
-
-    ghost holds = { λ plan number answer. Keeps plan.scene.now plan.occurrences.items number answer };
+    ghost holds = { λ plan number given. Keeps plan.scene.now plan.occurrences.items number given };
 
     ghost never_roots = { λ task answer place below is. Prim.search rules };
 
@@ -57,16 +59,21 @@ impl<'a, V: Drop> Plan<V> for ApartPlan<'a, V> {
         }
     }
 
-    fn complete(&mut self, alloc: Global, number: usize, answer: Answer<V>) -> Made<usize>
+    fn complete(&mut self, alloc: Global, number: usize, given: Given<V>) -> Made<usize>
         requires { number < length (all_seen self.old.scene.now self.old.occurrences.items) }
-        ensures made { (task : Asked V) → slice_get (all_seen self.old.scene.now self.old.occurrences.items) number ≡ Some task
-            → IfOk result (λ count. (all_seen self.new.scene.now self.new.occurrences.items ≡ all_seen self.old.scene.now self.old.occurrences.items ++ []) × (count ≡ 0)) }
-        ensures holds { OnOk result (Keeps self.new.scene.now self.new.occurrences.items number answer) }
-        ensures keeps { OnOk result ((other : ℕ) (a : Answer V) → (other ≡ number → ⊥) → Keeps self.old.scene.now self.old.occurrences.items other a
-            → Keeps self.new.scene.now self.new.occurrences.items other a) }
+        ensures made { (task : Asked V)
+            → slice_get (all_seen self.old.scene.now self.old.occurrences.items) number ≡ Some task
+            → IfOk result (HasMade (all_seen self.old.scene.now self.old.occurrences.items)
+            (all_seen self.new.scene.now self.new.occurrences.items)
+            (beneath_given nothing_beneath task given)) }
+        ensures holds { OnOk result
+            (Keeps self.new.scene.now self.new.occurrences.items number given) }
+        ensures keeps { OnOk result ((other : ℕ) (g : GivenTo V) → (other ≡ number → ⊥)
+            → Keeps self.old.scene.now self.old.occurrences.items other g
+            → Keeps self.new.scene.now self.new.occurrences.items other g) }
     {
         let occurrence = &self.occurrences[number];
-        let place = place_at(alloc, occurrence, answer)?;
+        let place = place_at(alloc, occurrence, given)?;
         self.occurrences[number].place = Some(place);
         Ok(0)
     }

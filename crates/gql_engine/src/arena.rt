@@ -1,5 +1,5 @@
-use gql_resolve::Answer;
-use std::collections::VecDeque;
+use crate::given::Given;
+use crate::waiting::Waiting;
 
 /// How far a task has come: it was never begun, its resolver's future waits, or it has its answer.
 #[derive(Debug, Drop)]
@@ -13,13 +13,13 @@ pub enum State<F> {
 #[derive(Debug, Drop)]
 pub struct Arena<F> {
     pub states: Vec<State<F>>,
-    pub waiting: VecDeque<usize>,
+    pub waiting: Waiting,
 }
 
-/// What one turn gave: the task's answer, its first pending poll, or a later one.
+/// What one turn gave: what the task is given, its first pending poll, or a later one.
 #[derive(Debug, Drop)]
 pub enum Turn<V> {
-    Answered(Answer<V>),
+    Answered(Given<V>),
     Begun,
     Pending,
 }

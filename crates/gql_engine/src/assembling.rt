@@ -10,7 +10,8 @@ use std::alloc::Global;
 
 /// The members of an object: the places of its occurrences under their keys, those under one key joined.
 pub(crate) fn members_of(alloc: Global, occurrences: Vec<Occurrence<'_>>) -> Made<Pairs<Place>>
-    ensures { IfOk result (λ members. members ≡ unite_all join [] (places_here occurrences.entry.items)) }
+    ensures { IfOk result (λ members. members
+        ≡ unite_all join [] (places_here occurrences.entry.items)) }
 {
     let mut members = Pairs::new(alloc);
     for occurrence in occurrences {

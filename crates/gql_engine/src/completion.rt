@@ -1,11 +1,24 @@
 ghost use Rattle.std.specs.Prelude.{◌≡◌, IfOk, Some};
 ghost use Rattle.gql_base.specs.Kinds.{is_null};
-ghost use Rattle.gql_engine.specs.Completion.{fault, takes, is_int32, scalar_at, leaf_at, list_at, items_at, required, completed, shape_of, no_value, no_array, no_scalar};
+ghost use Rattle.gql_engine.specs.Completion.{fault, takes, rule_named, scalar_at, leaf_at, list_at, items_at, required, completed};
+ghost use Rattle.gql_engine.specs.Completion.{shape_of, shape_put, no_value, no_array, no_scalar};
 
 use crate::shape::Shape;
-use gql_base::{Error, Made, Number, Text, TypeRef, Value};
+use gql_base::{Error, Made, Text, TypeRef, Value};
 use gql_resolve::FieldValue;
+use gql_schema::ScalarRule;
 use std::alloc::Global;
+
+/// What hooks put in a place, which is not completed.
+pub(crate) fn shape_of_put(put: Result<Option<Value>, Error>) -> Shape
+    ensures { result ≡ shape_put put }
+{
+    match put {
+        Err(error) => Shape::Fault(error),
+        Ok(None) => Shape::Absent,
+        Ok(Some(value)) => Shape::Leaf(value),
+    }
+}
 
 /// What a resolver's result comes to at a type.
 pub(crate) fn complete<V: Drop>(
@@ -94,21 +107,26 @@ fn is_null_value(value: &Value) -> bool
 pub fn takes_value(name: &str, value: &Value) -> bool
     ensures { result ≡ takes name.now value.now }
 {
-    match value {
-        Value::Boolean(_) => name == "Boolean",
-        Value::Number(number) => name == "Int" && is_int(*number),
-        Value::String(_) => name == "String",
-        _ => false,
+    match rule_by_name(name) {
+        Some(rule) => rule.takes(value),
+        None => false,
     }
 }
 
-fn is_int(number: Number) -> bool
-    ensures { result ≡ is_int32 number }
+/// The rule of a scalar by its name.
+fn rule_by_name(name: &str) -> Option<ScalarRule>
+    ensures { result ≡ rule_named name.now }
 {
-    match number.as_i64() {
-        Some(whole) => -2147483648 <= whole && whole <= 2147483647,
-        None => false,
+    if name == "Int" {
+        return Some(ScalarRule::Int);
     }
+    if name == "String" {
+        return Some(ScalarRule::Text);
+    }
+    if name == "Boolean" {
+        return Some(ScalarRule::Bool);
+    }
+    None
 }
 
 fn scalar_fault(alloc: Global, name: &str) -> Made<Shape>

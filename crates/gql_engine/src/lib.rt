@@ -5,8 +5,9 @@ mod apart;
 mod apart_plan;
 mod arena;
 mod assembling;
+mod collect_fields;
 mod completion;
-mod gathering;
+mod given;
 #[cfg(test)]
 mod meeting;
 mod occurrence;
@@ -23,13 +24,16 @@ mod shared;
 #[cfg(test)]
 mod tests;
 mod turning;
+mod waiting;
 
 pub use apart::run_apart;
 pub use arena::{Arena, State, Turn};
 pub use completion::takes_value;
+pub use given::Given;
 pub use place::{Place, Tree};
 pub use plan::Plan;
 pub use rounds::{Entered, Rounds};
 pub use scene::Scene;
 pub use scheduler::finish;
 pub use settling::fresh_arena;
+pub use waiting::Waiting;

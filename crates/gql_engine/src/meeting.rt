@@ -30,7 +30,8 @@ impl Meeting {
     }
 
     fn note(&mut self, alloc: Global, call: &ResolverContext<'_, u32>, ready: bool) -> Made<()>
-        ensures ok { OnOk result (self.new ≡ record self.old { entries = self.old.entries ++ entry_of call.now ready ∷ [] }) }
+        ensures ok { OnOk result (self.new
+            ≡ record self.old { entries = self.old.entries ++ entry_of call.now ready ∷ [] }) }
         ensures err { OnErr result (self.new ≡ self.old) }
     {
         self.entries.push(RecordEntry::of(alloc, call, ready)?)

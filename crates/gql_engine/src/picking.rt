@@ -13,14 +13,16 @@ pub(crate) struct Picked {
 
 /// Picks the task that the turns choose among those that wait.
 pub(crate) fn pick_task<F, P: Turns>(arena: &Arena<F>, turns: &mut P) -> Picked
-    requires { 0 < length arena.now.waiting.items }
-    ensures stands { slice_get arena.now.waiting.items result.place ≡ Some result.number }
-    ensures choice { ForSome (P.state turns.old) (λ s. result.place ≡ P.choice s (length arena.now.waiting.items)) }
-    ensures after { P.state turns.new ≡ option_map (λ s. P.after s (length arena.now.waiting.items)) (P.state turns.old) }
+    requires { 0 < length arena.now.waiting }
+    ensures stands { slice_get arena.now.waiting result.place ≡ Some result.number }
+    ensures choice { ForSome (P.state turns.old)
+        (λ s. result.place ≡ P.choice s (length arena.now.waiting)) }
+    ensures after { P.state turns.new
+        ≡ option_map (λ s. P.after s (length arena.now.waiting)) (P.state turns.old) }
 {
     let place = turns.pick(arena.waiting.len());
     Picked {
         place,
-        number: arena.waiting[place],
+        number: arena.waiting.at(place),
     }
 }

@@ -1,10 +1,12 @@
-ghost use Rattle.std.specs.Prelude.{ℕ, false, ◌≡◌, ◌<◌, ◌++◌, List, Some, length, slice_get, OnOk, IfOk, OnErr};
-ghost use Rattle.gql_resolve.specs.Call.{Call, call_of};
+ghost use Rattle.std.specs.Prelude.{ℕ, false, ◌≡◌, ◌<◌, List, Some, length, slice_get, OnOk, IfOk};
 ghost use Rattle.gql_resolve.specs.declared.answer.Answer.{Answer};
-ghost use Rattle.gql_engine.specs.Plan.{IsContextOf};
+ghost use Rattle.gql_engine.specs.Given.{beneath_given};
+ghost use Rattle.gql_engine.specs.Plan.{Asking, HasMade, IsContextOf};
+ghost use Rattle.gql_engine.specs.declared.given.Given.{Given};
 
+use crate::given::Given;
 use gql_base::Made;
-use gql_resolve::{Answer, ResolverContext};
+use gql_resolve::ResolverContext;
 use std::alloc::Global;
 
 /// A growing list of tasks: what each asks, and what its answer makes beneath. The engine knows nothing else of GraphQL.
@@ -15,29 +17,30 @@ pub trait Plan<V> {
     ghost tasks: { Self → List Task };
 
     /// What a task asks.
-    ghost call: { Task → Call V };
-
-    /// The text of a task's path.
-    ghost path: { Task → List ℕ };
+    ghost asks: { Task → Asking V };
 
     /// The tasks that an answer makes beneath a task.
     ghost beneath: { Task → Answer V → List Task };
 
-    /// What is kept of the answer to the task of a number.
-    ghost holds: { Self → ℕ → Answer V → Type 0 };
+    /// What is kept of what the task of a number was given.
+    ghost holds: { Self → ℕ → Given V → Type 0 };
 
     /// The context of a task's call.
     fn context<'a>(&'a self, number: usize) -> ResolverContext<'a, V>
         requires { number < length (tasks self.now) }
-        ensures { (task : Task) → slice_get (tasks self.now) number ≡ Some task → IsContextOf number (call task) (path task) result };
+        ensures { (task : Task) → slice_get (tasks self.now) number ≡ Some task
+            → IsContextOf number (asks task) result };
 
-    /// Keeps what a task was answered, makes the tasks beneath, and tells their number.
-    fn complete(&mut self, alloc: Global, number: usize, answer: Answer<V>) -> Made<usize>
+    /// Keeps what a task was given, makes the tasks beneath, and tells their number.
+    fn complete(&mut self, alloc: Global, number: usize, given: Given<V>) -> Made<usize>
         requires { number < length (tasks self.old) }
-        ensures made { (task : Task) → slice_get (tasks self.old) number ≡ Some task → IfOk result (λ count. (tasks self.new ≡ tasks self.old ++ beneath task answer) × (count ≡ length (beneath task answer))) }
-        ensures holds { OnOk result (holds self.new number answer) }
-        ensures keeps { OnOk result ((other : ℕ) (a : Answer V) → (other ≡ number → ⊥) → holds self.old other a → holds self.new other a) };
+        ensures made { (task : Task) → slice_get (tasks self.old) number ≡ Some task
+            → IfOk result (HasMade (tasks self.old) (tasks self.new) (beneath_given beneath task given)) }
+        ensures holds { OnOk result (holds self.new number given) }
+        ensures keeps { OnOk result ((other : ℕ) (g : Given V) → (other ≡ number → ⊥)
+            → holds self.old other g → holds self.new other g) };
 
     /// What is beneath an answer is no root of a mutation.
-    ghost never_roots: { (task : Task) (answer : Answer V) (place : ℕ) (below : Task) → slice_get (beneath task answer) place ≡ Some below → (call below).is_root ≡ false };
+    ghost never_roots: { (task : Task) (answer : Answer V) (place : ℕ) (below : Task)
+        → slice_get (beneath task answer) place ≡ Some below → (asks below).call.is_root ≡ false };
 }

@@ -1,15 +1,14 @@
-ghost use Rattle.std.specs.Prelude.{OnOk, IfOk};
 ghost use Rattle.gql_engine.specs.Turn.{GoesOn};
 
-use gql_base::Made;
+use gql_base::{Error, Made, Value};
 use gql_request::Hooks;
-use gql_resolve::{Answer, ResolverContext};
+use gql_resolve::ResolverContext;
 
-/// Whether the hooks of a task let its resolver be called, or answer in its place.
+/// Whether hooks let the work go on, or answer in its place.
 #[derive(Debug, Drop)]
-pub enum Entered<V> {
+pub enum Entered<T> {
     Go,
-    Answer(Answer<V>),
+    Answer(T),
 }
 
 /// The rounds of the hooks of a task: what the engine knows of hooks.
@@ -17,8 +16,12 @@ pub trait Rounds<V> {
     /// That the hooks change no answer.
     ghost are_quiet: { Self → Type 0 };
 
-    /// The hooks before a task's resolver is called.
-    fn enter(&mut self, context: &ResolverContext<'_, V>) -> Made<Entered<V>>
+    /// The hooks before a task's resolver is called. What they answer is put in the place of its answer: a leaf, nothing, or a
+    /// fault.
+    fn enter(
+        &mut self,
+        context: &ResolverContext<'_, V>,
+    ) -> Made<Entered<Result<Option<Value>, Error>>>
         ensures quiet { are_quiet self.old → are_quiet self.new × GoesOn result };
 }
 
@@ -26,7 +29,10 @@ pub trait Rounds<V> {
 impl<V> Rounds<V> for Hooks {
     ghost are_quiet = { λ hooks. Unit {0} };
 
-    fn enter(&mut self, _context: &ResolverContext<'_, V>) -> Made<Entered<V>>
+    fn enter(
+        &mut self,
+        _context: &ResolverContext<'_, V>,
+    ) -> Made<Entered<Result<Option<Value>, Error>>>
         ensures { GoesOn result }
     {
         Ok(Entered::Go)

@@ -1,7 +1,7 @@
-ghost use Rattle.std.specs.Prelude.{ℕ, ◌≡◌, ◌<◌, [], false, Ok, length, IfOk, OnOk, OnErr};
-ghost use Rattle.gql_engine.specs.Arena.{IsSound, Nearer, events_left, subject_of};
-ghost use Rattle.gql_engine.specs.Pace.{Pacing};
-ghost use Rattle.gql_engine.specs.Progress.{Kept, Progress, Ended, stage_of};
+ghost use Rattle.std.specs.Prelude.{◌≡◌, ◌<◌, [], false, Ok, length, IfOk, OnOk, OnErr};
+ghost use Rattle.gql_engine.specs.Arena.{Nearer, events_left};
+ghost use Rattle.gql_engine.specs.Parts.{parts, at};
+ghost use Rattle.gql_engine.specs.Progress.{IsSound, Kept, Went, Ended};
 
 use crate::arena::{Arena, Turn};
 use crate::picking::pick_task;
@@ -23,19 +23,20 @@ fn advance<R: ResolverSet, L: Plan<R::Own>, H: Rounds<R::Own>, P: Turns>(
     hooks: &mut H,
     turns: &mut P,
 ) -> Made<bool>
-    requires sound { IsSound R.is_for (subject_of L.call L.path L.beneath) (L.holds plan.old) (L.tasks plan.old) arena.old.states.items arena.old.waiting.items }
-    requires some { 0 < length arena.old.waiting.items }
-    ensures kept { Kept (R.is_lawful resolvers.old) (R.is_lawful resolvers.new) (H.are_quiet hooks.old) (H.are_quiet hooks.new) (R.rules resolvers.old) (R.rules resolvers.new) (R.world resolvers.old) (R.world resolvers.new) }
-    ensures sound { OnOk result (IsSound R.is_for (subject_of L.call L.path L.beneath) (L.holds plan.new) (L.tasks plan.new) arena.new.states.items arena.new.waiting.items) }
-    ensures nearer { IfOk result (λ over. Nearer R.number over arena.old.states.items arena.new.states.items) }
-    ensures progress { OnOk result (Progress (R.is_lawful resolvers.old) (H.are_quiet hooks.old) (subject_of L.call L.path L.beneath) (λ call. R.answer (R.rules resolvers.old) call (R.world resolvers.old)) P.choice P.after (L.holds plan.old) (L.holds plan.new)
-        (stage_of (L.tasks plan.old) arena.old.states.items (R.told resolvers.old) (R.begun resolvers.old) (P.state turns.old))
-        (stage_of (L.tasks plan.new) arena.new.states.items (R.told resolvers.new) (R.begun resolvers.new) (P.state turns.new))) }
-    ensures paced { OnOk result (Pacing (H.are_quiet hooks.old) (R.is_paced resolvers.old) (R.is_paced resolvers.new) R.number (λ task. R.delay (R.rules resolvers.old) (L.call task).resolver)
-        (R.told resolvers.old) (R.told resolvers.new) (L.tasks plan.old) (L.tasks plan.new) arena.old.states.items arena.new.states.items) }
-    ensures ended { OnErr result (Ended (R.is_lawful resolvers.old) (H.are_quiet hooks.old) (subject_of L.call L.path L.beneath) (λ call. R.answer (R.rules resolvers.old) call (R.world resolvers.old)) P.choice P.after
-        (stage_of (L.tasks plan.old) arena.old.states.items (R.told resolvers.old) (R.begun resolvers.old) (P.state turns.old)) (R.told resolvers.new) (R.begun resolvers.new)) }
-    ensures still { result ≡ Ok false → arena.new.waiting.items ≡ arena.old.waiting.items }
+    requires sound { IsSound (parts R.ResolverSet L.Plan H.Rounds P.Turns)
+        (at plan.old arena.old resolvers.old hooks.old turns.old) }
+    requires some { 0 < length arena.old.waiting }
+    ensures kept { Kept (parts R.ResolverSet L.Plan H.Rounds P.Turns)
+        (at plan.old arena.old resolvers.old hooks.old turns.old)
+        (at plan.new arena.new resolvers.new hooks.new turns.new) }
+    ensures went { OnOk result (Went (parts R.ResolverSet L.Plan H.Rounds P.Turns)
+        (at plan.old arena.old resolvers.old hooks.old turns.old)
+        (at plan.new arena.new resolvers.new hooks.new turns.new)) }
+    ensures ended { OnErr result (Ended (parts R.ResolverSet L.Plan H.Rounds P.Turns)
+        (at plan.old arena.old resolvers.old hooks.old turns.old) resolvers.new) }
+    ensures nearer { IfOk result
+        (λ over. Nearer R.number over arena.old.states.items arena.new.states.items) }
+    ensures still { result ≡ Ok false → arena.new.waiting ≡ arena.old.waiting }
 {
     let picked = pick_task(arena, turns);
     let turn = {
@@ -51,8 +52,8 @@ fn advance<R: ResolverSet, L: Plan<R::Own>, H: Rounds<R::Own>, P: Turns>(
     match turn {
         Turn::Begun => Ok(true),
         Turn::Pending => Ok(false),
-        Turn::Answered(answer) => {
-            let count = plan.complete(alloc, picked.number, answer)?;
+        Turn::Answered(given) => {
+            let count = plan.complete(alloc, picked.number, given)?;
             settle(arena, picked.place, picked.number, count)?;
             Ok(true)
         }
@@ -68,18 +69,19 @@ fn reach_event<R: ResolverSet, L: Plan<R::Own>, H: Rounds<R::Own>, P: Turns>(
     hooks: &mut H,
     turns: &mut P,
 ) -> Made<()>
-    requires sound { IsSound R.is_for (subject_of L.call L.path L.beneath) (L.holds plan.old) (L.tasks plan.old) arena.old.states.items arena.old.waiting.items }
-    requires some { 0 < length arena.old.waiting.items }
-    ensures kept { Kept (R.is_lawful resolvers.old) (R.is_lawful resolvers.new) (H.are_quiet hooks.old) (H.are_quiet hooks.new) (R.rules resolvers.old) (R.rules resolvers.new) (R.world resolvers.old) (R.world resolvers.new) }
-    ensures sound { OnOk result (IsSound R.is_for (subject_of L.call L.path L.beneath) (L.holds plan.new) (L.tasks plan.new) arena.new.states.items arena.new.waiting.items) }
-    ensures nearer { OnOk result (events_left arena.new.states.items < events_left arena.old.states.items) }
-    ensures progress { OnOk result (Progress (R.is_lawful resolvers.old) (H.are_quiet hooks.old) (subject_of L.call L.path L.beneath) (λ call. R.answer (R.rules resolvers.old) call (R.world resolvers.old)) P.choice P.after (L.holds plan.old) (L.holds plan.new)
-        (stage_of (L.tasks plan.old) arena.old.states.items (R.told resolvers.old) (R.begun resolvers.old) (P.state turns.old))
-        (stage_of (L.tasks plan.new) arena.new.states.items (R.told resolvers.new) (R.begun resolvers.new) (P.state turns.new))) }
-    ensures paced { OnOk result (Pacing (H.are_quiet hooks.old) (R.is_paced resolvers.old) (R.is_paced resolvers.new) R.number (λ task. R.delay (R.rules resolvers.old) (L.call task).resolver)
-        (R.told resolvers.old) (R.told resolvers.new) (L.tasks plan.old) (L.tasks plan.new) arena.old.states.items arena.new.states.items) }
-    ensures ended { OnErr result (Ended (R.is_lawful resolvers.old) (H.are_quiet hooks.old) (subject_of L.call L.path L.beneath) (λ call. R.answer (R.rules resolvers.old) call (R.world resolvers.old)) P.choice P.after
-        (stage_of (L.tasks plan.old) arena.old.states.items (R.told resolvers.old) (R.begun resolvers.old) (P.state turns.old)) (R.told resolvers.new) (R.begun resolvers.new)) }
+    requires sound { IsSound (parts R.ResolverSet L.Plan H.Rounds P.Turns)
+        (at plan.old arena.old resolvers.old hooks.old turns.old) }
+    requires some { 0 < length arena.old.waiting }
+    ensures kept { Kept (parts R.ResolverSet L.Plan H.Rounds P.Turns)
+        (at plan.old arena.old resolvers.old hooks.old turns.old)
+        (at plan.new arena.new resolvers.new hooks.new turns.new) }
+    ensures went { OnOk result (Went (parts R.ResolverSet L.Plan H.Rounds P.Turns)
+        (at plan.old arena.old resolvers.old hooks.old turns.old)
+        (at plan.new arena.new resolvers.new hooks.new turns.new)) }
+    ensures ended { OnErr result (Ended (parts R.ResolverSet L.Plan H.Rounds P.Turns)
+        (at plan.old arena.old resolvers.old hooks.old turns.old) resolvers.new) }
+    ensures nearer { OnOk result
+        (events_left arena.new.states.items < events_left arena.old.states.items) }
 {
     'polls: loop {
         if advance(alloc, plan, arena, resolvers, hooks, turns)? {
@@ -97,17 +99,17 @@ pub fn finish<R: ResolverSet, L: Plan<R::Own>, H: Rounds<R::Own>, P: Turns>(
     hooks: &mut H,
     turns: &mut P,
 ) -> Made<()>
-    requires sound { IsSound R.is_for (subject_of L.call L.path L.beneath) (L.holds plan.old) (L.tasks plan.old) arena.old.states.items arena.old.waiting.items }
-    ensures kept { Kept (R.is_lawful resolvers.old) (R.is_lawful resolvers.new) (H.are_quiet hooks.old) (H.are_quiet hooks.new) (R.rules resolvers.old) (R.rules resolvers.new) (R.world resolvers.old) (R.world resolvers.new) }
-    ensures sound { OnOk result (IsSound R.is_for (subject_of L.call L.path L.beneath) (L.holds plan.new) (L.tasks plan.new) arena.new.states.items arena.new.waiting.items) }
-    ensures answered { OnOk result (arena.new.waiting.items ≡ []) }
-    ensures progress { OnOk result (Progress (R.is_lawful resolvers.old) (H.are_quiet hooks.old) (subject_of L.call L.path L.beneath) (λ call. R.answer (R.rules resolvers.old) call (R.world resolvers.old)) P.choice P.after (L.holds plan.old) (L.holds plan.new)
-        (stage_of (L.tasks plan.old) arena.old.states.items (R.told resolvers.old) (R.begun resolvers.old) (P.state turns.old))
-        (stage_of (L.tasks plan.new) arena.new.states.items (R.told resolvers.new) (R.begun resolvers.new) (P.state turns.new))) }
-    ensures paced { OnOk result (Pacing (H.are_quiet hooks.old) (R.is_paced resolvers.old) (R.is_paced resolvers.new) R.number (λ task. R.delay (R.rules resolvers.old) (L.call task).resolver)
-        (R.told resolvers.old) (R.told resolvers.new) (L.tasks plan.old) (L.tasks plan.new) arena.old.states.items arena.new.states.items) }
-    ensures ended { OnErr result (Ended (R.is_lawful resolvers.old) (H.are_quiet hooks.old) (subject_of L.call L.path L.beneath) (λ call. R.answer (R.rules resolvers.old) call (R.world resolvers.old)) P.choice P.after
-        (stage_of (L.tasks plan.old) arena.old.states.items (R.told resolvers.old) (R.begun resolvers.old) (P.state turns.old)) (R.told resolvers.new) (R.begun resolvers.new)) }
+    requires sound { IsSound (parts R.ResolverSet L.Plan H.Rounds P.Turns)
+        (at plan.old arena.old resolvers.old hooks.old turns.old) }
+    ensures kept { Kept (parts R.ResolverSet L.Plan H.Rounds P.Turns)
+        (at plan.old arena.old resolvers.old hooks.old turns.old)
+        (at plan.new arena.new resolvers.new hooks.new turns.new) }
+    ensures went { OnOk result (Went (parts R.ResolverSet L.Plan H.Rounds P.Turns)
+        (at plan.old arena.old resolvers.old hooks.old turns.old)
+        (at plan.new arena.new resolvers.new hooks.new turns.new)) }
+    ensures ended { OnErr result (Ended (parts R.ResolverSet L.Plan H.Rounds P.Turns)
+        (at plan.old arena.old resolvers.old hooks.old turns.old) resolvers.new) }
+    ensures answered { OnOk result (arena.new.waiting ≡ []) }
 {
     'events: while !arena.waiting.is_empty() {
         reach_event(alloc, plan, arena, resolvers, hooks, turns)?;

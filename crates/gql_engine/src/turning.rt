@@ -3,9 +3,11 @@ ghost use Rattle.gql_resolve.specs.Record.{with_more};
 ghost use Rattle.gql_resolve.specs.Lawful.{plain_answer};
 ghost use Rattle.gql_resolve.specs.Call.{call_of};
 ghost use Rattle.gql_engine.specs.Pace.{TurnPaced};
+ghost use Rattle.gql_engine.specs.Parts.{due_by, delay_by};
 ghost use Rattle.gql_engine.specs.Turn.{BeginsAtMost, IsOpen, TurnOf, AnswersRightly, told_by_turn, begins_now};
 
 use crate::arena::{State, Turn};
+use crate::given::Given;
 use crate::rounds::{Entered, Rounds};
 use gql_base::{Items, Made};
 use gql_resolve::{Answer, FieldFuture, FieldValue, Polled, ResolverContext, ResolverSet};
@@ -22,21 +24,28 @@ pub fn take_turn<R: ResolverSet, H: Rounds<R::Own>>(
 ) -> Made<Turn<R::Own>>
     requires { IsOpen R.is_for (call_of context.now) state.old }
     ensures rules { R.rules resolvers.new ≡ R.rules resolvers.old }
-    ensures promise { IfOk result (TurnOf R.is_for R.number (call_of context.now) state.old state.new) }
+    ensures promise { IfOk result
+        (TurnOf R.is_for R.number (call_of context.now) state.old state.new) }
     ensures lawful { R.is_lawful resolvers.old → R.is_lawful resolvers.new }
     ensures world { R.is_lawful resolvers.old → R.world resolvers.new ≡ R.world resolvers.old }
     ensures quiet { H.are_quiet hooks.old → H.are_quiet hooks.new }
-    ensures answer { R.is_lawful resolvers.old → H.are_quiet hooks.old → AnswersRightly (R.answer (R.rules resolvers.old) (call_of context.now) (R.world resolvers.old)) result }
+    ensures answer { R.is_lawful resolvers.old → H.are_quiet hooks.old → AnswersRightly
+        (due_by R.ResolverSet resolvers.old (call_of context.now)) result }
     ensures pace { R.is_paced resolvers.old → R.is_paced resolvers.new }
-    ensures paced { H.are_quiet hooks.old → R.is_paced resolvers.old → IfOk result (TurnPaced R.number (R.delay (R.rules resolvers.old) context.now.resolver) state.old state.new) }
-    ensures told { H.are_quiet hooks.old → R.told resolvers.new ≡ with_more (R.told resolvers.old) (told_by_turn context.now result) }
-    ensures begun { H.are_quiet hooks.old → OnOk result (R.begun resolvers.new ≡ with_more (R.begun resolvers.old) (begins_now context.now.task state.old)) }
-    ensures unbegun { H.are_quiet hooks.old → OnErr result (BeginsAtMost context.now.task (R.begun resolvers.old) (R.begun resolvers.new)) }
+    ensures paced { H.are_quiet hooks.old → R.is_paced resolvers.old → IfOk result
+        (TurnPaced R.number (delay_by R.ResolverSet resolvers.old context.now.resolver)
+        state.old state.new) }
+    ensures told { H.are_quiet hooks.old → R.told resolvers.new
+        ≡ with_more (R.told resolvers.old) (told_by_turn context.now result) }
+    ensures begun { H.are_quiet hooks.old → OnOk result (R.begun resolvers.new
+        ≡ with_more (R.begun resolvers.old) (begins_now context.now.task state.old)) }
+    ensures unbegun { H.are_quiet hooks.old → OnErr result
+        (BeginsAtMost context.now.task (R.begun resolvers.old) (R.begun resolvers.new)) }
 {
     match state {
         State::Fresh => begin(alloc, resolvers, hooks, state, context),
         State::Waiting(future) => match resolvers.poll(alloc, future, context)? {
-            Polled::Ready(answer) => Ok(Turn::Answered(answer)),
+            Polled::Ready(answer) => Ok(Turn::Answered(Given::Answered(answer))),
             Polled::Pending => Ok(Turn::Pending),
         },
         State::Done => unreachable!(),
@@ -52,21 +61,30 @@ fn begin<R: ResolverSet, H: Rounds<R::Own>>(
     context: &ResolverContext<'_, R::Own>,
 ) -> Made<Turn<R::Own>>
     ensures rules { R.rules resolvers.new ≡ R.rules resolvers.old }
-    ensures promise { IfOk result (TurnOf R.is_for R.number (call_of context.now) State.Fresh state.new) }
+    ensures promise { IfOk result
+        (TurnOf R.is_for R.number (call_of context.now) State.Fresh state.new) }
     ensures lawful { R.is_lawful resolvers.old → R.is_lawful resolvers.new }
     ensures world { R.is_lawful resolvers.old → R.world resolvers.new ≡ R.world resolvers.old }
     ensures quiet { H.are_quiet hooks.old → H.are_quiet hooks.new }
-    ensures answer { R.is_lawful resolvers.old → H.are_quiet hooks.old → AnswersRightly (R.answer (R.rules resolvers.old) (call_of context.now) (R.world resolvers.old)) result }
+    ensures answer { R.is_lawful resolvers.old → H.are_quiet hooks.old → AnswersRightly
+        (due_by R.ResolverSet resolvers.old (call_of context.now)) result }
     ensures pace { R.is_paced resolvers.old → R.is_paced resolvers.new }
-    ensures paced { H.are_quiet hooks.old → R.is_paced resolvers.old → IfOk result (TurnPaced R.number (R.delay (R.rules resolvers.old) context.now.resolver) State.Fresh state.new) }
-    ensures told { H.are_quiet hooks.old → R.told resolvers.new ≡ with_more (R.told resolvers.old) (told_by_turn context.now result) }
-    ensures begun { H.are_quiet hooks.old → OnOk result (R.begun resolvers.new ≡ with_more (R.begun resolvers.old) (context.now.task ∷ [])) }
-    ensures unbegun { H.are_quiet hooks.old → OnErr result (BeginsAtMost context.now.task (R.begun resolvers.old) (R.begun resolvers.new)) }
+    ensures paced { H.are_quiet hooks.old → R.is_paced resolvers.old → IfOk result
+        (TurnPaced R.number (delay_by R.ResolverSet resolvers.old context.now.resolver)
+        State.Fresh state.new) }
+    ensures told { H.are_quiet hooks.old → R.told resolvers.new
+        ≡ with_more (R.told resolvers.old) (told_by_turn context.now result) }
+    ensures begun { H.are_quiet hooks.old → OnOk result
+        (R.begun resolvers.new ≡ with_more (R.begun resolvers.old) (context.now.task ∷ [])) }
+    ensures unbegun { H.are_quiet hooks.old → OnErr result
+        (BeginsAtMost context.now.task (R.begun resolvers.old) (R.begun resolvers.new)) }
 {
     match hooks.enter(context)? {
-        Entered::Answer(answer) => Ok(Turn::Answered(answer)),
+        Entered::Answer(put) => Ok(Turn::Answered(Given::Put(put))),
         Entered::Go => match resolvers.start(alloc, context)? {
-            FieldFuture::Value(value) => Ok(Turn::Answered(answer_of(alloc, value))),
+            FieldFuture::Value(value) => Ok(Turn::Answered(Given::Answered(answer_of(
+                alloc, value,
+            )))),
             FieldFuture::Future(future) => poll_first(alloc, resolvers, state, future, context),
         },
     }
@@ -82,18 +100,22 @@ fn poll_first<R: ResolverSet>(
 ) -> Made<Turn<R::Own>>
     requires { R.is_for future (call_of context.now) }
     ensures rules { R.rules resolvers.new ≡ R.rules resolvers.old }
-    ensures promise { IfOk result (TurnOf R.is_for R.number (call_of context.now) State.Fresh state.new) }
+    ensures promise { IfOk result
+        (TurnOf R.is_for R.number (call_of context.now) State.Fresh state.new) }
     ensures lawful { R.is_lawful resolvers.old → R.is_lawful resolvers.new }
     ensures world { R.is_lawful resolvers.old → R.world resolvers.new ≡ R.world resolvers.old }
-    ensures answer { R.is_lawful resolvers.old → AnswersRightly (R.answer (R.rules resolvers.old) (call_of context.now) (R.world resolvers.old)) result }
+    ensures answer { R.is_lawful resolvers.old → AnswersRightly
+        (due_by R.ResolverSet resolvers.old (call_of context.now)) result }
     ensures pace { R.is_paced resolvers.old → R.is_paced resolvers.new }
-    ensures paced { R.is_paced resolvers.old → IfOk result (TurnPaced R.number (R.number future) State.Fresh state.new) }
-    ensures told { R.told resolvers.new ≡ with_more (R.told resolvers.old) (told_by_turn context.now result) }
+    ensures paced { R.is_paced resolvers.old
+        → IfOk result (TurnPaced R.number (R.number future) State.Fresh state.new) }
+    ensures told { R.told resolvers.new ≡ with_more (R.told resolvers.old)
+        (told_by_turn context.now result) }
     ensures begun { R.begun resolvers.new ≡ R.begun resolvers.old }
 {
     let mut future = future;
     match resolvers.poll(alloc, &mut future, context)? {
-        Polled::Ready(answer) => Ok(Turn::Answered(answer)),
+        Polled::Ready(answer) => Ok(Turn::Answered(Given::Answered(answer))),
         Polled::Pending => {
             *state = State::Waiting(future);
             Ok(Turn::Begun)

@@ -1,4 +1,6 @@
-use Rattle.std.proofs.Common.{Some, ap, ◌∙◌}
+use Rattle.std.proofs.Common.{ℤ, [], Some, ap, ◌∙◌}
+use Rattle.gql_engine.specs.Apart.{Asked}
+use Rattle.gql_engine.specs.Parts.{due_by}
 use Rattle.gql_request.specs.declared.query_env.QueryEnv.{QueryEnv}
 use Rattle.gql_cli.specs.Shown.{data_of}
 use Rattle.gql_cli.proofs.RecordLemmas.{told-record}
@@ -16,6 +18,7 @@ returns-in-Ok g c =
       «record» = λ lawful paced delays told names asks tasks asked.
           told-record c.args.bench.now c.scene_of-scene.result c.scene_of-scene.ensures.object
           c.args.env.now.operation.node (ap (λ (env : QueryEnv). env.operation.node) c.scene_of-scene.ensures.env) names asks tasks asked
-          _ _ _ _ _ _ _ _ _ (c.in-Ok.ensures.«record» lawful) told
-          (c.new-turns.ensures ∙ ap (λ numbers. Some (numbers, 0)) c.in_ok-try_clone.ensures) paced delays;
+          (λ (task : Asked ℤ). due_by g.S.ResolverSet c.args.set.now task.asks.call) (g.S.ResolverSet.delay (g.S.ResolverSet.rules c.args.set.now)) _ _ _ _ (c.in-Ok.ensures.«record» lawful).ran
+          (c.in-Ok.ensures.«record» lawful).whole ((c.in-Ok.ensures.«record» lawful).paces paced [] told) told
+          (c.new-turns.ensures ∙ ap (λ numbers. Some (numbers, 0)) c.in_ok-try_clone.ensures) delays;
     }

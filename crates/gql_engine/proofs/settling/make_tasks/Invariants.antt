@@ -6,5 +6,5 @@ use Rattle.gql_engine.proofs.settling.make_tasks.Given as goal
 abbrev pub invariant-loop-i : goal.invariant-loop-i
 invariant-loop-i g l = record {
   states : l.arena.states.items ≡ l.initial.arena.states.items ++ fresh_states l.i;
-  waits : l.arena.waiting.items ≡ waiting_from 0 (marks_of l.arena.states.items);
+  waits : l.arena.waiting ≡ waiting_from 0 (marks_of l.arena.states.items);
 }

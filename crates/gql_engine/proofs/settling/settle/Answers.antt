@@ -1,11 +1,12 @@
-use Rattle.std.proofs.Common.{rules, ◌≡◌, ◌<◌, length, ◌∙◌}
+use Rattle.std.proofs.Common.{rules, ◌≡◌, ◌<◌, length, ◌∙◌, arith}
 use Rattle.std.specs.List.{remove}
 use Rattle.gql_engine.proofs.ArenaLemmas.{one_less}
 use Rattle.gql_engine.proofs.Lists.{get_within}
 use Rattle.gql_engine.proofs.settling.settle.Goals as goal
 
+pub take-requires : goal.take-requires
+take-requires g c = get_within c.args.arena.now.waiting c.args.place c.args.number c.requires.stands
+
 pub make_tasks-requires : goal.make_tasks-requires
 make_tasks-requires g c =
-    let within = get_within c.args.arena.now.waiting.items c.args.place c.args.number c.requires.stands in
-    let removed : c.remove.new.self.items ≡ remove c.args.arena.now.waiting.items c.args.place = search rules in
-    record { waits = removed ∙ one_less g.row.F.Denot c.args.arena.now.waiting.items c.args.arena.now.states.items c.args.place c.args.number c.requires.waits c.requires.stands }
+    record { waits = c.take.ensures ∙ one_less g.row.F.Denot c.args.arena.now.waiting c.args.arena.now.states.items c.args.place c.args.number c.requires.waits c.requires.stands }

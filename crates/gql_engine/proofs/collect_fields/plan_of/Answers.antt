@@ -4,7 +4,7 @@ use Rattle.gql_doc.specs.declared.document.Selection.{Selection}
 use Rattle.gql_engine.specs.ApartPlan.{all_seen}
 use Rattle.gql_engine.specs.Apart.{asked_in}
 use Rattle.gql_engine.proofs.ApartLemmas.{gathered}
-use Rattle.gql_engine.proofs.gathering.plan_of.Goals as goal
+use Rattle.gql_engine.proofs.collect_fields.plan_of.Goals as goal
 
 pub loop-selection-preserved : goal.loop-selection-preserved
 loop-selection-preserved g c =

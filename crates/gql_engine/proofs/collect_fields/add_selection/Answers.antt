@@ -3,7 +3,7 @@ use Rattle.gql_doc.proofs.DepthLaws.{field_nests}
 use Rattle.gql_doc.specs.declared.document.Selection.{the_lemmas, out-Selection}
 use Rattle.gql_doc.specs.declared.document.Selection.TheOpen.{Selection-F}
 use Rattle.gql_request.specs.QueryEnv.{levels_of}
-use Rattle.gql_engine.proofs.gathering.add_selection.Goals as goal
+use Rattle.gql_engine.proofs.collect_fields.add_selection.Goals as goal
 
 pub add_occurrence-requires-clause-nests : goal.add_occurrence-requires-clause-nests
 add_occurrence-requires-clause-nests g c =

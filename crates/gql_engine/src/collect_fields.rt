@@ -19,7 +19,8 @@ use std::alloc::Global;
 pub(crate) fn plan_of<'a, V: Drop>(alloc: Global, scene: &'a Scene<'a, V>) -> Made<ApartPlan<'a, V>>
     requires { is_mutation scene.now.env.now.operation.node.ty ≡ false }
     ensures scene { IfOk result (λ plan. plan.scene.now ≡ scene.entry.now) }
-    ensures asked { IfOk result (λ plan. all_seen scene.entry.now plan.occurrences.items ≡ asked_in scene.entry.now) }
+    ensures asked { IfOk result (λ plan.
+        all_seen scene.entry.now plan.occurrences.items ≡ asked_in scene.entry.now) }
 {
     let mut occurrences = Vec::new(alloc);
     for selection in scene.env.operation.node.selection_set.node.items.as_slice() {
@@ -40,8 +41,10 @@ fn add_selection<'a, V: Drop>(
     occurrences: &mut Vec<Occurrence<'a>>,
 ) -> Made<()>
     requires query { is_mutation scene.now.env.now.operation.node.ty ≡ false }
-    requires stands { Contains (selections_of scene.now.env.now.operation.node.selection_set) selection.now }
-    ensures { OnOk result (all_seen scene.entry.now occurrences.new.items ≡ all_seen scene.entry.now occurrences.old.items
+    requires stands { Contains
+        (selections_of scene.now.env.now.operation.node.selection_set) selection.now }
+    ensures { OnOk result (all_seen scene.entry.now occurrences.new.items
+        ≡ all_seen scene.entry.now occurrences.old.items
         ++ asked scene.entry.now (field_here (out-Selection selection.entry.now.node))) }
 {
     match &selection.node {
@@ -60,8 +63,10 @@ fn add_occurrence<'a, V: Drop>(
 ) -> Made<()>
     requires query { is_mutation scene.now.env.now.operation.node.ty ≡ false }
     requires nests { NestsIn scene.now.env.now (field_set item.now) }
-    ensures { OnOk result (all_seen scene.entry.now occurrences.new.items ≡ all_seen scene.entry.now occurrences.old.items
-        ++ asked_at scene.entry.now item.entry.now (under (name_of item.entry.now) (fields_of scene.entry.now.object.now))) }
+    ensures { OnOk result (all_seen scene.entry.now occurrences.new.items
+        ≡ all_seen scene.entry.now occurrences.old.items
+        ++ asked_at scene.entry.now item.entry.now
+        (under (name_of item.entry.now) (fields_of scene.entry.now.object.now))) }
 {
     match scene.object.get(item.node.name.node.as_str()) {
         None => Ok(()),

@@ -3,7 +3,7 @@ use Rattle.std.specs.List.{flat_map}
 use Rattle.gql_doc.specs.declared.document.Selection.{out-Selection}
 use Rattle.gql_engine.specs.Apart.{asked, asked_in, field_here}
 use Rattle.gql_engine.specs.ApartPlan.{all_seen}
-use Rattle.gql_engine.proofs.gathering.plan_of.Given as goal
+use Rattle.gql_engine.proofs.collect_fields.plan_of.Given as goal
 
 abbrev pub invariant-loop-selection : goal.invariant-loop-selection
 invariant-loop-selection g l =

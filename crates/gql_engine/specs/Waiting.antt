@@ -1,0 +1,21 @@
+-- A long list in blocks, and where in them a place of the list is.
+use Rattle.std.specs.Prelude.{◌≡◌, ℕ, ◌+◌, ◌<◌, List, length, take, drop, slice_get, Some}
+use Rattle.std.specs.List.{flat_map}
+use Rattle.std.specs.declared.collections.VecDeque.{VecDeque}
+use Rattle.std.specs.declared.alloc.Global.{Global}
+
+abbrev pub Block : Type 0
+Block = VecDeque ℕ Global
+
+abbrev pub numbers_in : Block → List ℕ
+numbers_in block = block.items
+
+-- the numbers of all blocks
+abbrev pub all_in : List Block → List ℕ
+all_in blocks = flat_map numbers_in blocks
+
+-- the place of all blocks' numbers stands at this index in this block
+pub record IsSpot (blocks : List Block) (place block index : ℕ) : Type 0 where
+  pub there : block < length blocks
+  pub place_is : place ≡ length (all_in (take block blocks)) + index
+  pub within : (b : Block) → slice_get blocks block ≡ Some b → index < length b.items

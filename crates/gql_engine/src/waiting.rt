@@ -1,0 +1,158 @@
+//! The numbers of those that wait, in blocks, so that taking one out of many moves few.
+ghost use Rattle.std.specs.Prelude.{◌≡◌, ◌↔◌, ◌<◌, ◌++◌, ◌∷◌, [], Some, IsTrue, length, slice_get, OnOk, OnErr};
+ghost use Rattle.std.specs.List.{remove};
+ghost use Rattle.gql_engine.specs.Waiting.{all_in, IsSpot};
+
+use std::alloc::{AllocError, Global};
+use std::collections::VecDeque;
+use std::marker::Model;
+
+/// How many numbers a block has at most.
+const BLOCK: usize = 256;
+
+/// Numbers in an order. Contracts see their list.
+#[derive(Debug, Drop)]
+pub struct Waiting {
+    blocks: VecDeque<VecDeque<usize>>,
+    count: usize,
+}
+
+impl Model for Waiting {
+    ghost use Rattle.std.specs.Prelude.{ℕ, List, length, ◌≡◌};
+    ghost use Rattle.gql_engine.specs.Waiting.{all_in};
+
+    ghost Value = { List ℕ };
+
+    ghost view = { λ waiting. all_in waiting.blocks.items };
+
+    ghost invariant = { λ waiting. waiting.count ≡ length (all_in waiting.blocks.items) };
+}
+
+impl Waiting {
+    /// No numbers.
+    pub fn new(alloc: Global) -> Waiting
+        ensures { result ≡ [] }
+    {
+        Waiting {
+            blocks: VecDeque::new(alloc),
+            count: 0,
+        }
+    }
+
+    /// How many numbers there are.
+    pub fn len(&self) -> usize
+        ensures { result ≡ length self.now }
+    {
+        self.count
+    }
+
+    /// Whether there are none.
+    pub fn is_empty(&self) -> bool
+        ensures { IsTrue result ↔ (self.now ≡ []) }
+    {
+        self.count == 0
+    }
+
+    /// The number at a place.
+    pub fn at(&self, place: usize) -> usize
+        requires { place < length self.now }
+        ensures { slice_get self.now place ≡ Some result }
+    {
+        let spot = find(&self.blocks, place);
+        self.blocks[spot.block][spot.index]
+    }
+
+    /// Adds a number at the end.
+    pub fn push(&mut self, number: usize) -> Result<(), AllocError>
+        ensures pushed { OnOk result (self.new ≡ self.old ++ number ∷ []) }
+        ensures same { OnErr result (self.new ≡ self.old) }
+    {
+        let Some(count) = self.count.checked_add(1) else {
+            return Err(AllocError);
+        };
+        push_number(&mut self.blocks, number)?;
+        self.count = count;
+        Ok(())
+    }
+
+    /// Takes the number at a place out.
+    pub fn take(&mut self, place: usize)
+        requires { place < length self.old }
+        ensures { self.new ≡ remove self.old place }
+    {
+        let spot = find(&self.blocks, place);
+        take_out(&mut self.blocks, place, spot);
+        self.count -= 1;
+    }
+}
+
+/// A place as a block and an index in it.
+#[derive(Clone, Copy)]
+struct Spot {
+    block: usize,
+    index: usize,
+}
+
+/// Finds a place.
+fn find(blocks: &VecDeque<VecDeque<usize>>, place: usize) -> Spot
+    requires { place < length (all_in blocks.now.items) }
+    ensures { IsSpot blocks.now.items place result.block result.index }
+{
+    let mut block = 0;
+    let mut index = place;
+    'blocks: while index >= blocks[block].len() {
+        index -= blocks[block].len();
+        block += 1;
+    }
+    Spot { block, index }
+}
+
+/// Takes the number at a spot out. A first block without numbers goes.
+fn take_out(blocks: &mut VecDeque<VecDeque<usize>>, place: usize, spot: Spot)
+    requires { IsSpot blocks.old.items place spot.block spot.index }
+    ensures { all_in blocks.new.items ≡ remove (all_in blocks.old.items) place }
+{
+    let _ = blocks[spot.block].remove(spot.index);
+    if blocks[0].is_empty() {
+        let _ = blocks.pop_front();
+    }
+}
+
+/// Adds a number at the end, in a new block where the last one is full.
+fn push_number(blocks: &mut VecDeque<VecDeque<usize>>, number: usize) -> Result<(), AllocError>
+    ensures pushed { OnOk result
+        (all_in blocks.new.items ≡ all_in blocks.old.items ++ number ∷ []) }
+    ensures same { OnErr result
+        (all_in blocks.new.items ≡ all_in blocks.old.items) }
+{
+    if !has_room(blocks) {
+        let block = VecDeque::new(*blocks.allocator());
+        blocks.push_back(block)?;
+    }
+    push_last(blocks, number)
+}
+
+/// Whether there is a last block with room.
+fn has_room(blocks: &VecDeque<VecDeque<usize>>) -> bool
+    ensures { IsTrue result → 0 < length blocks.now.items }
+{
+    match blocks.back() {
+        Some(block) => block.len() < BLOCK,
+        None => false,
+    }
+}
+
+/// Adds a number to the last block.
+fn push_last(blocks: &mut VecDeque<VecDeque<usize>>, number: usize) -> Result<(), AllocError>
+    requires { 0 < length blocks.old.items }
+    ensures pushed { OnOk result
+        (all_in blocks.new.items ≡ all_in blocks.old.items ++ number ∷ []) }
+    ensures same { OnErr result
+        (all_in blocks.new.items ≡ all_in blocks.old.items) }
+{
+    let last = blocks.len() - 1;
+    match blocks[last].push_back(number) {
+        Ok(()) => Ok(()),
+        Err(_) => Err(AllocError),
+    }
+}
