@@ -1,5 +1,6 @@
 pub mod PairLemmas
 pub mod NamesLemmas
+pub mod PlacesLemmas
 pub mod SeparatedLemmas
 pub mod JsonLemmas
 pub mod ErrorJsonLemmas

@@ -1,18 +1,11 @@
 -- Lists of distinct names, and the place of each.
-use Rattle.std.proofs.Common.{◌≡◌, ℕ, zero, suc, ◌+◌, ◌<◌, Bool, true, false, cond, List, [], ◌∷◌, ◌++◌, length, take, Option, Some, None, slice_get, slice_index_or, le_of_lt, length-take-le, IfSome, OnOk, OnErr, Result, Ok, Err, String, string_bytes, Global, refl, ap, sym, ◌∙◌, arith}
+use Rattle.std.proofs.Common.{◌≡◌, ℕ, zero, suc, ◌+◌, ◌<◌, Bool, true, false, cond, List, [], ◌∷◌, ◌++◌, length, take, Option, Some, None, slice_get, slice_index_or, le_of_lt, length-take-le, IfSome, OnOk, OnErr, Result, Ok, Err, refl, ap, sym, ◌∙◌, arith}
 use Rattle.std.specs.Option.{option_map, option_map_or}
 use Rattle.std.specs.Str.{bytes_eq}
-use Rattle.std.specs.String.{string_cmp}
-use Rattle.std.specs.Cmp.Lexicographic.{bytes_decides, nat_list_eq_equiv, slice_cmp}
-use Rattle.std.specs.BTreeMap.{BTreeMap, Updates, get_by_text, is_at}
-use Rattle.std.specs.Map.{lookup}
-use Rattle.std.specs.List.{AllZip}
-use Rattle.std.specs.Ordering.{is_eq, nat_cmp}
-use Rattle.std.proofs.lemmas.Map.Text.{btree_map_updates_text}
+use Rattle.std.specs.Cmp.Lexicographic.{bytes_decides, nat_list_eq_equiv}
 use Rattle.std.proofs.lemmas.List.{take_more}
 use Rattle.std.proofs.lemmas.Option.{slice_get_within, slice_get_read, get_or_from_slice_get}
 use Rattle.gql_base.specs.Names.{place_of, AreDistinct}
-use Rattle.gql_base.specs.Places.{HasPlaces}
 
 abbrev pub next : Option ℕ → Option ℕ
 next o = option_map (λ place. suc place) o
@@ -39,7 +32,7 @@ within_if name names None found = tt
 within_if name names (Some i) found = place_within name names i (sym found)
 
 -- a place before, or else this one
-abbrev or_at : Option ℕ → Bool → ℕ → Option ℕ
+abbrev pub or_at : Option ℕ → Bool → ℕ → Option ℕ
 or_at None here i = cond here (Some i) None
 or_at (Some j) here i = Some j
 
@@ -48,11 +41,11 @@ next_or_at None true i = refl
 next_or_at None false i = refl
 next_or_at (Some j) here i = refl
 
-or_at_none : (o : Option ℕ) (i : ℕ) → or_at o false i ≡ o
+pub or_at_none : (o : Option ℕ) (i : ℕ) → or_at o false i ≡ o
 or_at_none None i = refl
 or_at_none (Some j) i = refl
 
-place_pushed : (m n : List ℕ) (names : List (List ℕ)) → place_of m (names ++ n ∷ []) ≡ or_at (place_of m names) (bytes_eq m n) (length names)
+pub place_pushed : (m n : List ℕ) (names : List (List ℕ)) → place_of m (names ++ n ∷ []) ≡ or_at (place_of m names) (bytes_eq m n) (length names)
 place_pushed m n [] = refl
 place_pushed m n (x ∷ xs) =
     let P : Bool → Type 0 = λ b. cond b (Some 0) (next (place_of m (xs ++ n ∷ []))) ≡ or_at (cond b (Some 0) (next (place_of m xs))) (bytes_eq m n) (suc (length xs)) in
@@ -77,21 +70,6 @@ distinct_pushed n (x ∷ xs) (fresh, distinct) none =
     let other : bytes_eq x n ≡ false = nat_list_eq_equiv.symm x n ∙ each.0 in
     (place_pushed x n xs ∙ (λ i. or_at (fresh i) (other i) (length xs)), distinct_pushed n xs distinct each.1)
 
--- what a tree of places finds once the next name is in it
-pub has_places_pushed : (m n : BTreeMap (String Global) ℕ) (names : List (List ℕ)) (name : List ℕ) (key : String Global) (i : ℕ) → string_bytes key ≡ name
-    → i ≡ length names → place_of name names ≡ None → HasPlaces m names → Updates string_cmp m n key (Some i) → HasPlaces n (names ++ name ∷ [])
-has_places_pushed m n names name key i named at none has updates cs =
-    let told : get_by_text n cs ≡ cond (bytes_eq name cs) (Some i) (get_by_text m cs)
-    = btree_map_updates_text (string_bytes key) m n (Some i) updates cs ∙ ap (λ k. cond (bytes_eq k cs) (Some i) (get_by_text m cs)) named in
-    let P : Bool → Type 0 = λ b. (b ≡ true → name ≡ cs) → bytes_eq cs name ≡ b
-    → cond b (Some i) (get_by_text m cs) ≡ or_at (place_of cs names) (bytes_eq cs name) (length names) in
-    told
-    ∙ (elim (bytes_eq name cs) as P [
-      | true ↦ λ same here. (let gone : place_of cs names ≡ None = ap (λ k. place_of k names) (sym (same refl)) ∙ none in rw (gone, here, at) refl)
-      | false ↦ λ same here. rw here (has cs ∙ sym (or_at_none (place_of cs names) (length names)))
-    ]) (bytes_decides name cs).0 (nat_list_eq_equiv.symm cs name)
-    ∙ sym (place_pushed cs name names)
-
 -- a name that stands in a list has a place there
 place_present : (names : List (List ℕ)) (i : ℕ) (n : List ℕ) → slice_get names i ≡ Some n → place_of n names ≡ None → ⊥
 place_present [] i n at none = cc
@@ -115,21 +93,12 @@ place_front (x ∷ xs) (suc i) n (fresh, distinct) at =
       | false ↦ λ same. ap next (place_front xs i n distinct at)
     ]) (bytes_decides n x).0
 
-names_taken : (names : List (List ℕ)) (i : ℕ) (n : List ℕ) → slice_get names i ≡ Some n → take (i + 1) names ≡ take i names ++ n ∷ []
+pub names_taken : (names : List (List ℕ)) (i : ℕ) (n : List ℕ) → slice_get names i ≡ Some n → take (i + 1) names ≡ take i names ++ n ∷ []
 names_taken names i n at =
     take_more names i n (slice_get_within names i n at) ∙ ap (λ m. take i names ++ m ∷ []) (get_or_from_slice_get names i n n at)
 
-length_taken : (names : List (List ℕ)) (i : ℕ) (n : List ℕ) → slice_get names i ≡ Some n → i ≡ length (take i names)
+pub length_taken : (names : List (List ℕ)) (i : ℕ) (n : List ℕ) → slice_get names i ≡ Some n → i ≡ length (take i names)
 length_taken names i n at = sym (length-take-le i names (le_of_lt (slice_get_within names i n at)))
-
--- a tree of the first places once the next name is in it
-pub has_places_more : (m n : BTreeMap (String Global) ℕ) (names : List (List ℕ)) (name : List ℕ) (key : String Global) (i : ℕ) → AreDistinct names
-    → i < length names → name ≡ slice_index_or names i name → string_bytes key ≡ name → HasPlaces m (take i names) → Updates string_cmp m n key (Some i)
-    → HasPlaces n (take (i + 1) names)
-has_places_more m n names name key i distinct within read named has updates =
-    let at : slice_get names i ≡ Some name = slice_get_read names (length names) i name refl within read in
-    rw (names_taken names i name at)
-    (has_places_pushed m n (take i names) name key i named (length_taken names i name at) (place_front names i name distinct at) has updates)
 
 -- the search in order: no name before this place, and this one
 pub place_here : (name : List ℕ) (names : List (List ℕ)) (i : ℕ) → place_of name (take i names) ≡ None → slice_get names i ≡ Some name
@@ -155,20 +124,3 @@ pub distinct_added : {X E : Type 0} (r : Result X E) (name : List ℕ) (old new 
     → OnOk r (new ≡ old ++ name ∷ []) → OnErr r (new ≡ old) → AreDistinct new
 distinct_added (Ok x) name old new distinct none ok err = rw ok (distinct_pushed name old distinct none)
 distinct_added (Err e) name old new distinct none ok err = rw err distinct
-
-abbrev IsCopy : String Global × ℕ → String Global × ℕ → Type 0
-IsCopy p q = (string_bytes q.0 ≡ string_bytes p.0) × (q.1 ≡ p.1)
-
-lookup_copied : (name : List ℕ) (es fs : List (String Global × ℕ)) → AllZip IsCopy es fs
-    → lookup (is_at (λ k. slice_cmp nat_cmp name (string_bytes k))) fs ≡ lookup (is_at (λ k. slice_cmp nat_cmp name (string_bytes k))) es
-lookup_copied name [] [] same = refl
-lookup_copied name [] (f ∷ fs) same = absurd same
-lookup_copied name (e ∷ es) [] same = absurd same
-lookup_copied name (e ∷ es) (f ∷ fs) (here, rest) =
-    λ i. cond (is_eq (slice_cmp nat_cmp name (here.0 i))) (Some (here.1 i)) (lookup_copied name es fs rest i)
-
--- a copy of a tree of places has the same places
-pub has_places_copied : (m n : BTreeMap (String Global) ℕ) (names others : List (List ℕ)) → AllZip IsCopy m.entries n.entries → others ≡ names
-    → HasPlaces m names → HasPlaces n others
-has_places_copied m n names others copied same has name =
-    lookup_copied name m.entries n.entries copied ∙ has name ∙ ap (place_of name) (sym same)

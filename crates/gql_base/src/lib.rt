@@ -27,6 +27,7 @@ mod pairs;
 #[cfg(test)]
 mod pairs_tests;
 mod path_segment;
+mod places;
 mod pos;
 mod read_json;
 mod result;

@@ -1,12 +1,12 @@
 ghost use Rattle.std.specs.Prelude.{◌≡◌, [], ◌∷◌, ◌++◌, ◌<◌, length, slice_get, IfOk, IfSome, OnOk, OnErr, Some, None};
 ghost use Rattle.gql_base.specs.Names.{place_of, AreDistinct};
-ghost use Rattle.gql_base.specs.Places.{HasPlaces};
+ghost use Rattle.gql_base.specs.Places.{IsIndex};
 
 use crate::copied::{Copied, copies};
 use crate::made::Made;
 use crate::name::Name;
+use crate::places::Places;
 use std::alloc::Global;
-use std::collections::BTreeMap;
 use std::marker::Model;
 use std::mem;
 
@@ -19,7 +19,7 @@ pub struct Names {
     kept: Kept,
 }
 
-/// A few names are searched in order; more have the place of each in a tree, which no choice of names makes slow.
+/// A few names are searched in order; more stand beside an index of their places.
 #[derive(Debug, Drop)]
 enum Kept {
     Few(Vec<Name>),
@@ -30,7 +30,7 @@ enum Kept {
 #[derive(Debug, Drop)]
 struct Indexed {
     list: Vec<Name>,
-    places: BTreeMap<String, usize>,
+    places: Places,
 }
 
 impl Model for Names {
@@ -107,7 +107,7 @@ impl Names {
     {
         match &self.kept {
             Kept::Few(list) => place_in(list.as_slice(), name),
-            Kept::Many(indexed) => indexed.places.get(name).copied(),
+            Kept::Many(indexed) => indexed.places.get(name),
         }
     }
 
@@ -120,7 +120,7 @@ impl Names {
     }
 
     /// Adds a name that isn't there, at the end, and looks no name up. Where memory is wanting the names stay as they were.
-    #[tactic(auto, using(crate::proofs::NamesLemmas::distinct_added, crate::proofs::NamesLemmas::distinct_pushed))]
+    #[tactic(auto, using(crate::proofs::NamesLemmas::distinct_added, crate::proofs::NamesLemmas::distinct_pushed, crate::proofs::PlacesLemmas::bounded_less))]
     pub fn add_fresh(&mut self, name: Name) -> Made<()>
         requires { place_of name self.old ≡ None }
         ensures ok { OnOk result (self.new ≡ self.old ++ name ∷ []) }
@@ -133,7 +133,7 @@ impl Names {
                     return Ok(());
                 }
                 let alloc = *list.allocator();
-                let places = places_in(alloc, list.as_slice())?;
+                let places = Places::of(alloc, list.as_slice())?;
                 let mut indexed = Box::new(
                     alloc,
                     Indexed {
@@ -151,7 +151,7 @@ impl Names {
     }
 }
 
-/// A copy keeps the tree of places, and looks no name up.
+/// A copy keeps the index of places, and looks no name up.
 impl Copied for Names {
     fn try_clone(&self, alloc: Global) -> Made<Names> {
         let list = copies(alloc, self.as_slice())?;
@@ -160,7 +160,7 @@ impl Copied for Names {
                 kept: Kept::Few(list),
             }),
             Kept::Many(indexed) => {
-                let places = indexed.places.clone()?;
+                let places = indexed.places.try_clone()?;
                 let indexed = Box::new(alloc, Indexed { list, places })?;
                 Ok(Names {
                     kept: Kept::Many(indexed),
@@ -187,17 +187,17 @@ impl PartialEq for Names {
 
 impl Indexed {
     /// Adds a name that isn't there, with its place.
-    #[tactic(auto, using(crate::proofs::NamesLemmas::has_places_pushed))]
     fn add(&mut self, name: Name) -> Made<()>
         requires fresh { place_of name self.old.list.items ≡ None }
-        requires places { HasPlaces self.old.places self.old.list.items }
+        requires distinct { AreDistinct self.old.list.items }
+        requires index { IsIndex self.old.places self.old.list.items }
         ensures ok { OnOk result (self.new.list.items ≡ self.old.list.items ++ name ∷ []) }
         ensures err { OnErr result (self.new.list.items ≡ self.old.list.items) }
-        ensures places { HasPlaces self.new.places self.new.list.items }
+        ensures index { IsIndex self.new.places self.new.list.items }
     {
         self.list.reserve(1)?;
-        let key = String::from_str(*self.list.allocator(), name.as_str())?;
-        self.places.insert(key, self.list.len())?;
+        let alloc = *self.list.allocator();
+        self.places.add(alloc, self.list.as_slice(), name.as_str())?;
         self.list.push_reserved(name);
         Ok(())
     }
@@ -213,17 +213,4 @@ fn place_in(names: &[Name], name: &str) -> Option<usize>
         }
     }
     None
-}
-
-/// The place of each of the names.
-fn places_in(alloc: Global, names: &[Name]) -> Made<BTreeMap<String, usize>>
-    requires { AreDistinct names.now }
-    ensures { IfOk result (λ places. HasPlaces places names.now) }
-{
-    let mut places = BTreeMap::new(alloc);
-    for (place, name) in names.iter().enumerate() {
-        let key = String::from_str(alloc, name.as_str())?;
-        places.insert(key, place)?;
-    }
-    Ok(places)
 }

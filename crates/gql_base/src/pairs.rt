@@ -1,4 +1,4 @@
-ghost use Rattle.std.specs.Prelude.{◌≡◌, ◌↔◌, [], ◌∷◌, ◌++◌, ◌<◌, IsTrue, length, slice_get, slice_set, IfOk, IfSome, OnOk, OnErr, Some, None};
+ghost use Rattle.std.specs.Prelude.{◌≡◌, ◌↔◌, [], ◌∷◌, ◌++◌, ◌<◌, IsTrue, length, slice_get, slice_set, IfOk, IfSome, OnOk, OnErr, Some, None, vec_len};
 ghost use Rattle.std.specs.Borrow.{Lends, LendsIf, sem};
 ghost use Rattle.std.specs.List.{zip};
 ghost use Rattle.std.specs.Option.{option_copied, option_copied_mut};
@@ -170,7 +170,7 @@ impl<T: Drop> Pairs<T> {
         ensures err { OnErr result (self.new ≡ self.old) }
     {
         match self.names.place_of(name.as_str()) {
-            Some(place) => Ok(Some(mem::replace(&mut self.values[place], value))),
+            Some(place) => Ok(Some(replaced(&mut self.values, place, value))),
             None => {
                 self.add_fresh(name, value)?;
                 Ok(None)
@@ -186,6 +186,15 @@ impl<T: Drop> Pairs<T> {
         drop(self.insert(name, value)?);
         Ok(())
     }
+}
+
+/// Sets the value at a place, and gives what stood there.
+fn replaced<T>(values: &mut Vec<T>, place: usize, value: T) -> T
+    requires { place < vec_len values.old }
+    ensures set { values.new.items ≡ slice_set values.old.items place value }
+    ensures old { slice_get values.old.items place ≡ Some result }
+{
+    mem::replace(&mut values[place], value)
 }
 
 impl<T: Copied + Drop> Copied for Pairs<T> {

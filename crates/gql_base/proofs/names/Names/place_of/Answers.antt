@@ -6,4 +6,4 @@ pub returns-in-Few-clause-within : goal.returns-in-Few-clause-within
 returns-in-Few-clause-within c = within_if c.args.name.now c.args.self.now c.place_in.result (search rules)
 
 pub returns-in-Many-clause-within : goal.returns-in-Many-clause-within
-returns-in-Many-clause-within c = within_if c.args.name.now c.args.self.now c.copied.result (search rules)
+returns-in-Many-clause-within c = within_if c.args.name.now c.args.self.now c.get.result (search rules)

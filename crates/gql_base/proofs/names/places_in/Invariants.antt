@@ -1,6 +1,0 @@
-use Rattle.std.proofs.Common.{take}
-use Rattle.gql_base.specs.Places.{HasPlaces}
-use Rattle.gql_base.proofs.names.places_in.Given as goal
-
-abbrev pub invariant-loop-place : goal.invariant-loop-place
-invariant-loop-place l = HasPlaces l.places (take l.place l.names)
