@@ -1,6 +1,13 @@
 mod ByNameLemmas
+mod CovarianceRows
+mod Example
+mod FaultRows
+mod FinishedLemmas
 mod FitsLemmas
+mod FitsRows
 mod ListLemmas
 mod NameSetLemmas
+mod PossibleLemmas
+mod RankLemmas
 mod ReachLemmas
 mod SoundLemmas

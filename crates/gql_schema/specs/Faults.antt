@@ -22,7 +22,7 @@ use Rattle.gql_schema.specs.InterfaceField.{promised_name, promised_type, promis
 use Rattle.gql_schema.specs.Object.{object_name, fields_of, interfaces_of}
 use Rattle.gql_schema.specs.Subscription.{subscription_name, event_fields}
 use Rattle.gql_schema.specs.SubscriptionField.{event_name, event_type, event_arguments}
-use Rattle.gql_schema.specs.TableReading.{TypeTable, is_object}
+use Rattle.gql_schema.specs.TableReading.{TypeTable, is_known_object}
 use Rattle.gql_schema.specs.Texts.{dotted, not_found_text, misplaced_text, doubled_text, not_nullable_text, has_default_text, unsatisfied_text, no_object_text, self_containing_text, unsupported_text, unfit_text}
 use Rattle.gql_schema.specs.Types.{type_name}
 use Rattle.gql_schema.specs.Union.{union_name, members_of}
@@ -152,10 +152,6 @@ promises_fault table object name _ = misplaced_fault true name
 abbrev pub implemented_fault : TypeTable → Object → List ℕ → Option SchemaError
 implemented_fault table object name = option_or (name_fault table name) (promises_fault table object name (under name table))
 
-abbrev pub is_known_object : Option SchemaType → Bool
-is_known_object None = false
-is_known_object (Some ty) = is_object ty
-
 -- a member of a union
 abbrev pub member_fault : TypeTable → Union → List ℕ → Option SchemaError
 member_fault table union name =
@@ -168,10 +164,13 @@ oneof_fault input field =
     (fault_if (is_oneof input && not (is_nullable (input_type field))) 4 (not_nullable_text (dotted (input_object_name input) (input_name field))))
     (fault_if (is_oneof input && is_some (default_of field)) 4 (has_default_text (dotted (input_object_name input) (input_name field))))
 
+-- what follows the faults of a field's type
+abbrev pub input_rest_fault : TypeTable → InputObject → InputValue → Option SchemaError
+input_rest_fault table input field = option_or (oneof_fault input field) (default_fault table (input_object_name input) field)
+
+-- a field of an input object
 abbrev pub input_field_fault : TypeTable → InputObject → InputValue → Option SchemaError
-input_field_fault table input field =
-    option_or (input_fault table (input_type field))
-    (option_or (oneof_fault input field) (default_fault table (input_object_name input) field))
+input_field_fault table input field = option_or (input_fault table (input_type field)) (input_rest_fault table input field)
 
 -- the parts of the kinds of types, each in its order
 abbrev pub object_fields_fault : TypeTable → Object → Option SchemaError
@@ -179,6 +178,10 @@ object_fields_fault table object = first_found (λ p. object_field_fault table (
 
 abbrev pub interfaces_fault : TypeTable → Object → Option SchemaError
 interfaces_fault table object = first_found (implemented_fault table object) (interfaces_of object)
+
+-- an object: its fields, then the interfaces that it implements
+abbrev pub object_fault : TypeTable → Object → Option SchemaError
+object_fault table object = option_or (object_fields_fault table object) (interfaces_fault table object)
 
 abbrev pub promised_field_fault : TypeTable → List ℕ → InterfaceField → Option SchemaError
 promised_field_fault table owner field = field_fault table owner (promised_name field) (promised_type field) (promised_arguments field)
@@ -201,13 +204,16 @@ input_fields_fault table input = first_found (λ p. input_field_fault table inpu
 abbrev pub self_containing_fault : Bool → List ℕ → Option SchemaError
 self_containing_fault contains name = fault_if contains 7 (self_containing_text name)
 
+-- an input object, of which it is known whether it contains itself
+abbrev pub input_object_fault : TypeTable → Bool → InputObject → Option SchemaError
+input_object_fault table contains input = option_or (self_containing_fault contains (input_object_name input)) (input_fields_fault table input)
+
 -- the first fault of a type's parts; whether an input object contains itself is given
 abbrev pub parts_fault : TypeTable → Bool → SchemaType → Option SchemaError
-parts_fault table contains (types.Object object) = option_or (object_fields_fault table object) (interfaces_fault table object)
+parts_fault table contains (types.Object object) = object_fault table object
 parts_fault table contains (types.Interface interface) = promised_fields_fault table interface
 parts_fault table contains (types.Union union) = members_fault table union
-parts_fault table contains (types.InputObject input) =
-    option_or (self_containing_fault contains (input_object_name input)) (input_fields_fault table input)
+parts_fault table contains (types.InputObject input) = input_object_fault table contains input
 parts_fault table contains (types.Subscription subscription) = event_fields_fault table subscription
 parts_fault table contains (types.Scalar scalar) = None
 parts_fault table contains (types.Enum enum) = None

@@ -1,7 +1,10 @@
 pub mod Covariance
+pub mod DeclaredField
+pub mod Entities
 pub mod Enum
 pub mod Faults
 pub mod Field
+pub mod Finished
 pub mod Fits
 pub mod InputObject
 pub mod InputValue
@@ -10,6 +13,7 @@ pub mod InterfaceField
 pub mod Keyed
 pub mod NameSet
 pub mod Object
+pub mod Ranks
 pub mod Scalar
 pub mod ScalarRule
 pub mod Sound
@@ -20,4 +24,3 @@ pub mod TableReading
 pub mod Texts
 pub mod Types
 pub mod Union
-pub mod Finished

@@ -1,6 +1,6 @@
 -- What a table of types tells: fields, the objects that a type can be, and conditions on types (GraphQL, October 2021, sections 3.6
 -- to 3.8 and 5.5.2.3). A table is a list of types under their names.
-use Rattle.std.specs.Prelude.{◌≡◌, ℕ, Bool, true, false, ◌&&◌, ◌||◌, List, [], ◌∷◌, codes, refl, Option, Some, None, option_map, option_and_then, filter, is_some}
+use Rattle.std.specs.Prelude.{◌≡◌, ℕ, Bool, true, false, ◌&&◌, ◌||◌, List, [], ◌∷◌, codes, refl, Option, Some, None, option_map, option_and_then, filter, is_some, if◌then◌else◌}
 use Rattle.std.specs.Str.{bytes_eq}
 use Rattle.gql_base.specs.Pairs.{under, names_of}
 use Rattle.gql_base.specs.declared.type_ref.TypeRef.{TypeRef}
@@ -55,6 +55,10 @@ abbrev pub is_object : SchemaType → Bool
 is_object (types.Object object) = true
 is_object _ = false
 
+abbrev pub is_known_object : Option SchemaType → Bool
+is_known_object None = false
+is_known_object (Some ty) = is_object ty
+
 -- whether a type that isn't the object itself has the object O: an interface that O implements, or a union that holds O
 abbrev pub has_object : List ℕ → SchemaType → SchemaType → Bool
 has_object name object (types.Interface interface) = object_implements (interface_name interface) object
@@ -74,9 +78,21 @@ abbrev pub covers : TypeTable → Option (List ℕ) → List ℕ → Bool
 covers table None object = true
 covers table (Some condition) object = has_type table condition object
 
+-- whether a type under its name is an object that the type T can be
+abbrev pub is_possible_object : TypeTable → List ℕ → List ℕ × SchemaType → Bool
+is_possible_object table type (name, ty) = is_object ty && has_type table type name
+
 -- the objects that a type can be, in the order of their registration
 abbrev pub possible : TypeTable → List ℕ → List (List ℕ)
-possible table type = names_of (filter (λ p. is_object p.1 && has_type table type p.0) table)
+possible table type = names_of (filter (is_possible_object table type) table)
+
+-- whether the object O is one that the type T can be
+abbrev pub is_possible : TypeTable → List ℕ → List ℕ → Bool
+is_possible table type object = is_among object (possible table type)
+
+-- a name where it is chosen
+abbrev pub chosen : Bool → List ℕ → List (List ℕ)
+chosen is_chosen name = if is_chosen then name ∷ [] else []
 
 -- two types of an example: an object O that implements an interface I
 abbrev example : TypeTable

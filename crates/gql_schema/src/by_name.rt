@@ -1,5 +1,6 @@
-ghost use Rattle.std.specs.Prelude.{◌≡◌, [], ◌∷◌, ◌++◌, ◌<◌, length, slice_get, map, None, OnOk, OnErr, Some};
+ghost use Rattle.std.specs.Prelude.{◌≡◌, [], ◌∷◌, ◌++◌, ◌<◌, length, slice_get, map, None, OnOk, OnErr, IfSome, Some};
 ghost use Rattle.std.specs.Option.{option_copied};
+ghost use Rattle.gql_base.specs.Names.{place_of};
 ghost use Rattle.gql_base.specs.Pairs.{under, put};
 
 use crate::named::Named;
@@ -54,6 +55,14 @@ impl<T: Named> ByName<T> {
         ensures { option_copied result ≡ under name.now self.now }
     {
         self.pairs.get(name)
+    }
+
+    /// The place of the item of this name, counted from 0, or none where there is no such item.
+    pub fn place_of(&self, name: &str) -> Option<usize>
+        ensures place { result ≡ place_of name.now (names_of self.now) }
+        ensures within { IfSome result (λ place. place < length self.now) }
+    {
+        self.pairs.place_of(name)
     }
 
     /// The item at a place, counted from 0, under its name.

@@ -1,19 +1,21 @@
 //! The rules of a whole type: its name's, then those of its parts in their order.
 ghost use Rattle.std.specs.Prelude.{◌≡◌, IfOk};
-ghost use Rattle.std.specs.Option.{option_copied, option_or};
-ghost use Rattle.gql_schema.specs.Faults.{default_fault, event_fields_fault, fault_of, input_field_fault, input_fields_fault, interfaces_fault, is_known_object, member_fault, members_fault, object_fields_fault, oneof_fault, parts_fault, promised_fields_fault, self_containing_fault};
-ghost use Rattle.gql_schema.specs.InputObject.{input_object_name};
+ghost use Rattle.gql_schema.specs.Faults.{event_fields_fault, fault_of, input_field_fault, input_fields_fault};
+ghost use Rattle.gql_schema.specs.Faults.{input_object_fault, input_rest_fault, interfaces_fault, member_fault, members_fault};
+ghost use Rattle.gql_schema.specs.Faults.{object_fault, object_fields_fault, oneof_fault, parts_fault, promised_fields_fault};
+ghost use Rattle.gql_schema.specs.Ranks.{AreRanks};
 ghost use Rattle.gql_schema.specs.Sound.{IsFaultOf, IsFaultOfAll};
 ghost use Rattle.gql_schema.specs.Table.{types_of};
 
 use crate::containment::type_contains_itself;
-use crate::covariance::is_object_type;
+use crate::covariance::is_known_object_type;
 use crate::input_object::InputObject;
 use crate::input_value::InputValue;
 use crate::interface::Interface;
 use crate::object::Object;
 use crate::places::{check_default, check_field, check_input, check_name, check_support};
 use crate::promises::check_implemented;
+use crate::ranks::ranks_of;
 use crate::schema_error::SchemaError;
 use crate::schema_type::SchemaType;
 use crate::subscription::Subscription;
@@ -59,7 +61,7 @@ fn check_interfaces(alloc: Global, types: &Types, object: &Object) -> Made<Optio
 }
 
 fn check_object(alloc: Global, types: &Types, object: &Object) -> Made<Option<SchemaError>>
-    ensures { IfOk result (λ found. found ≡ option_or (object_fields_fault (types_of types.now) object.now) (interfaces_fault (types_of types.now) object.now)) }
+    ensures { IfOk result (λ found. found ≡ object_fault (types_of types.now) object.now) }
 {
     match check_object_fields(alloc, types, object)? {
         Some(fault) => Ok(Some(fault)),
@@ -113,16 +115,6 @@ fn check_subscription(
     Ok(None)
 }
 
-/// True exactly where there is an object.
-fn is_some_object(ty: Option<&SchemaType>) -> bool
-    ensures { result ≡ is_known_object (option_copied ty.entry) }
-{
-    match ty {
-        Some(ty) => is_object_type(ty),
-        None => false,
-    }
-}
-
 fn check_member(
     alloc: Global,
     types: &Types,
@@ -134,7 +126,7 @@ fn check_member(
     if let Some(fault) = check_name(alloc, types, name)? {
         return Ok(Some(fault));
     }
-    if is_some_object(types.get(name)) {
+    if is_known_object_type(types.get(name)) {
         return Ok(None);
     }
     let member = text_around(alloc, "\" has member \"", name, "\" that is no object")?;
@@ -197,7 +189,7 @@ fn check_input_rest(
     input: &InputObject,
     field: &InputValue,
 ) -> Made<Option<SchemaError>>
-    ensures { IfOk result (λ found. found ≡ option_or (oneof_fault input.now field.now) (default_fault (types_of types.now) (input_object_name input.now) field.now)) }
+    ensures { IfOk result (λ found. found ≡ input_rest_fault (types_of types.now) input.now field.now) }
 {
     match check_oneof(alloc, input, field)? {
         Some(fault) => Ok(Some(fault)),
@@ -244,7 +236,7 @@ fn check_input_object(
     contains: bool,
     input: &InputObject,
 ) -> Made<Option<SchemaError>>
-    ensures { IfOk result (λ found. found ≡ option_or (self_containing_fault contains (input_object_name input.now)) (input_fields_fault (types_of types.now) input.now)) }
+    ensures { IfOk result (λ found. found ≡ input_object_fault (types_of types.now) contains input.now) }
 {
     match fault_where(
         alloc,
@@ -293,10 +285,16 @@ fn check_known(
 }
 
 /// The first fault of a type, or none.
-fn check_schema_type(alloc: Global, types: &Types, ty: &SchemaType) -> Made<Option<SchemaError>>
+fn check_schema_type(
+    alloc: Global,
+    types: &Types,
+    ranks: &[usize],
+    ty: &SchemaType,
+) -> Made<Option<SchemaError>>
+    requires { AreRanks (types_of types.now) ranks.now }
     ensures { IfOk result (λ found. IsFaultOf (types_of types.now) ty.now found) }
 {
-    let contains = type_contains_itself(alloc, types, ty)?;
+    let contains = type_contains_itself(alloc, types, ranks, ty)?;
     check_known(alloc, types, contains, ty)
 }
 
@@ -304,8 +302,16 @@ fn check_schema_type(alloc: Global, types: &Types, ty: &SchemaType) -> Made<Opti
 pub fn first_refusal(alloc: Global, types: &Types) -> Made<Option<SchemaError>>
     ensures { IfOk result (λ found. IsFaultOfAll (types_of types.now) found) }
 {
+    let ranks = ranks_of(alloc, types)?;
+    first_fault(alloc, types, ranks.as_slice())
+}
+
+fn first_fault(alloc: Global, types: &Types, ranks: &[usize]) -> Made<Option<SchemaError>>
+    requires { AreRanks (types_of types.now) ranks.now }
+    ensures { IfOk result (λ found. IsFaultOfAll (types_of types.now) found) }
+{
     for place in 0..types.len() {
-        let found = check_schema_type(alloc, types, types.at(place))?;
+        let found = check_schema_type(alloc, types, ranks, types.at(place))?;
         if found.is_some() {
             return Ok(found);
         }

@@ -3,24 +3,46 @@ ghost use Rattle.std.specs.Prelude.{◌≡◌, IfOk, OnOk};
 ghost use Rattle.std.specs.Bool.{Decides};
 ghost use Rattle.std.specs.Option.{option_copied};
 ghost use Rattle.gql_schema.specs.NameSet.{with_names, with_optional};
+ghost use Rattle.gql_schema.specs.Ranks.{AreRanks};
 ghost use Rattle.gql_schema.specs.Sound.{ContainsItself, Reaches, needed_in, needed_names, needed_of};
 ghost use Rattle.gql_schema.specs.Table.{types_of};
 
 use crate::input_object::InputObject;
 use crate::name_set::NameSet;
+use crate::ranks::{needs_at_most, rank_of};
 use crate::schema_type::SchemaType;
 use crate::types::Types;
 use gql_base::{Made, Name, TypeRef};
 use std::alloc::Global;
 
 /// True exactly where the type is an input object that contains itself.
-pub fn type_contains_itself(alloc: Global, types: &Types, ty: &SchemaType) -> Made<bool>
+pub fn type_contains_itself(
+    alloc: Global,
+    types: &Types,
+    ranks: &[usize],
+    ty: &SchemaType,
+) -> Made<bool>
+    requires { AreRanks (types_of types.now) ranks.now }
     ensures { IfOk result (λ contains. Decides contains (ContainsItself (types_of types.now) ty.now)) }
 {
     match ty {
-        SchemaType::InputObject(input) => reaches_itself(alloc, types, input.type_name()),
+        SchemaType::InputObject(input) => contains_itself(alloc, types, ranks, input.type_name()),
         _ => Ok(false),
     }
+}
+
+/// True exactly where a value of the input object needs one of itself. It does not where all that it needs at once has lower
+/// numbers; only else is there a walk.
+#[tactic(auto, using(crate::proofs::RankLemmas::falls_free))]
+fn contains_itself(alloc: Global, types: &Types, ranks: &[usize], start: &str) -> Made<bool>
+    requires { AreRanks (types_of types.now) ranks.now }
+    ensures { IfOk result (λ contains. Decides contains (Reaches (types_of types.now) start.now start.now)) }
+{
+    let own = rank_of(types, ranks, start);
+    if own > 0 && needs_at_most(types, ranks, own - 1, types.get(start)) {
+        return Ok(false);
+    }
+    reaches_itself(alloc, types, start)
 }
 
 /// True exactly where a value of the input object needs one of itself. The walk enters each input object once.
@@ -68,7 +90,7 @@ fn add_optional(alloc: Global, reached: &mut NameSet, name: Option<&str>) -> Mad
 }
 
 /// The name of a type that is non-null and named, or none.
-fn needed_type(ty: &TypeRef) -> Option<&str>
+pub fn needed_type(ty: &TypeRef) -> Option<&str>
     ensures { option_copied result ≡ needed_of ty.now }
 {
     match ty {

@@ -2,7 +2,7 @@ ghost use Rattle.std.specs.Prelude.{◌≡◌};
 ghost use Rattle.std.specs.Option.{option_copied};
 ghost use Rattle.gql_schema.specs.Covariance.{is_covariant};
 ghost use Rattle.gql_schema.specs.Table.{types_of};
-ghost use Rattle.gql_schema.specs.TableReading.{both_known, covers, has_object, has_type, is_object};
+ghost use Rattle.gql_schema.specs.TableReading.{both_known, covers, has_object, has_type, is_known_object, is_object};
 
 use crate::fits::nullable;
 use crate::schema_type::SchemaType;
@@ -57,6 +57,16 @@ pub fn is_object_type(ty: &SchemaType) -> bool
     ensures { result ≡ is_object ty.now }
 {
     matches!(ty, SchemaType::Object(_))
+}
+
+/// True exactly where there is an object.
+pub fn is_known_object_type(ty: Option<&SchemaType>) -> bool
+    ensures { result ≡ is_known_object (option_copied ty.entry) }
+{
+    match ty {
+        Some(ty) => is_object_type(ty),
+        None => false,
+    }
 }
 
 /// True exactly where a type may stand where an interface promises another.

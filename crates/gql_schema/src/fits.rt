@@ -1,6 +1,8 @@
 ghost use Rattle.std.specs.Prelude.{◌≡◌};
 ghost use Rattle.std.specs.Option.{option_copied};
-ghost use Rattle.gql_schema.specs.Fits.{all_fit, are_declared, are_given, fits, fits_declared, fits_input, fits_whole, fitting, fittings, has_number, is_doubled, is_given, is_input_type, is_item, is_known_input, is_non_null, is_one, is_unsupported, item_type, nullable_of};
+ghost use Rattle.gql_schema.specs.Fits.{all_fit, are_declared, are_given, fits, fits_declared, fits_input, fits_whole, fitting};
+ghost use Rattle.gql_schema.specs.Fits.{fittings, has_number, is_doubled, is_given, is_input_type, is_item, is_known_input};
+ghost use Rattle.gql_schema.specs.Fits.{is_non_null, is_one, is_unsupported, item_type, nullable_of};
 ghost use Rattle.gql_schema.specs.ScalarRule.{bare_of};
 ghost use Rattle.gql_schema.specs.Table.{types_of};
 

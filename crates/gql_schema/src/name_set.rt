@@ -1,52 +1,54 @@
-ghost use Rattle.std.specs.Prelude.{◌≡◌, ◌↔◌, [], ◌<◌, length, slice_get, IsTrue, OnOk, OnErr, Some};
+ghost use Rattle.std.specs.Prelude.{◌≡◌, [], ◌∷◌, ◌++◌, ◌<◌, length, slice_get, OnOk, OnErr, Some, false};
 ghost use Rattle.gql_schema.specs.NameSet.{is_among, with_name};
 
 use crate::same::Same;
-use gql_base::{Copied, Made, Name, Pairs};
+use gql_base::{Copied, Made, Name, Names};
 use std::alloc::Global;
 use std::marker::Model;
 
 /// Names in order, none twice, and found without going through them. Contracts see the list of the names.
 #[derive(Debug, Drop)]
 pub struct NameSet {
-    names: Pairs<bool>,
+    names: Names,
 }
 
 impl Model for NameSet {
     ghost use Rattle.std.specs.Prelude.{List, ℕ};
     ghost use Rattle.std.specs.Coded.{coded_list, coded_ℕ};
-    ghost use Rattle.gql_base.specs.Pairs.{names_of};
 
     ghost Value = { List (List ℕ) };
 
     ghost coded = { coded_list (coded_list coded_ℕ) };
 
-    ghost view = { λ set. names_of set.names };
+    ghost view = { λ set. set.names };
 }
 
 impl NameSet {
+    ghost use Rattle.gql_base.specs.Names.{AreDistinct};
+
     /// No name, which takes no memory.
     pub fn new(alloc: Global) -> NameSet
         ensures { result ≡ [] }
     {
         NameSet {
-            names: Pairs::new(alloc),
+            names: Names::new(alloc),
         }
     }
 
-    /// The number of names.
+    /// The number of names, which differ.
     pub fn len(&self) -> usize
-        ensures { result ≡ length self.now }
+        ensures length { result ≡ length self.now }
+        ensures distinct { AreDistinct self.now }
     {
         self.names.len()
     }
 
     /// True exactly where the name is among these.
-    #[tactic(auto, using(crate::proofs::NameSetLemmas::under_among, crate::proofs::NameSetLemmas::among_under))]
+    #[tactic(auto, using(crate::proofs::NameSetLemmas::place_among))]
     pub fn has(&self, name: &str) -> bool
         ensures { result ≡ is_among name.now self.now }
     {
-        self.names.get(name).is_some()
+        self.names.place_of(name).is_some()
     }
 
     /// The name at a place, counted from 0.
@@ -54,25 +56,29 @@ impl NameSet {
         requires { place < length self.now }
         ensures { slice_get self.now place ≡ Some result.now }
     {
-        let (name, _) = self.names.at(place);
-        name
+        self.names.at(place)
     }
 
     /// Adds a name at the end. One that is there changes nothing.
-    #[tactic(auto, using(crate::proofs::NameSetLemmas::put_named))]
     pub fn add(&mut self, name: Name) -> Made<()>
         ensures ok { OnOk result (self.new ≡ with_name self.old name) }
         ensures err { OnErr result (self.new ≡ self.old) }
     {
-        self.names.add(name, true)
+        if self.has(name.as_str()) {
+            return Ok(());
+        }
+        self.add_fresh(name)
     }
-}
 
-/// True exactly where a name is among these.
-pub fn has_name(names: &[Name], name: &str) -> bool
-    ensures { result ≡ is_among name.now names.now }
-{
-    names.iter().any(|other| other.as_str() == name)
+    /// Adds a name that isn't there, at the end.
+    #[tactic(auto, using(crate::proofs::NameSetLemmas::absent_place))]
+    pub fn add_fresh(&mut self, name: Name) -> Made<()>
+        requires { is_among name self.old ≡ false }
+        ensures ok { OnOk result (self.new ≡ self.old ++ name ∷ []) }
+        ensures err { OnErr result (self.new ≡ self.old) }
+    {
+        self.names.add_fresh(name)
+    }
 }
 
 impl Copied for NameSet {

@@ -6,7 +6,7 @@ ghost use Rattle.gql_schema.specs.NameSet.{is_among};
 
 use crate::by_name::ByName;
 use crate::field::Field;
-use crate::name_set::has_name;
+use crate::interfaces::Interfaces;
 use crate::named::Named;
 use crate::same::Same;
 use gql_base::{Copied, Items, Made, Name, Text};
@@ -18,7 +18,7 @@ use std::alloc::Global;
 pub struct Object {
     name: Name,
     fields: ByName<Field>,
-    interfaces: Items<Name>,
+    interfaces: Interfaces,
     keys: Items<Text>,
 }
 
@@ -46,7 +46,7 @@ impl Object {
         Object {
             name,
             fields: ByName::new(alloc),
-            interfaces: Items::new(alloc),
+            interfaces: Interfaces::new(alloc),
             keys: Items::new(alloc),
         }
     }
@@ -62,14 +62,22 @@ impl Object {
     }
 
     /// Says that the object implements an interface of this name. A second one of a name changes nothing.
-    pub fn implement(self, alloc: Global, name: &str) -> Made<Object>
-        ensures { IfOk result (λ object. object ≡ with_interface self name.now) }
+    pub fn implement(self, alloc: Global, interface: &str) -> Made<Object>
+        ensures { IfOk result (λ object. object ≡ with_interface self interface.now) }
     {
-        let mut object = self;
-        if !has_name(object.interfaces.as_slice(), name) {
-            object.interfaces.push(Name::new(alloc, name)?)?;
-        }
-        Ok(object)
+        let Object {
+            name,
+            fields,
+            interfaces,
+            keys,
+        } = self;
+        let interfaces = interfaces.with(alloc, interface)?;
+        Ok(Object {
+            name,
+            fields,
+            interfaces,
+            keys,
+        })
     }
 
     /// Adds the fields of a key, by which the object is an entity of federation.
@@ -139,7 +147,7 @@ impl Object {
     pub fn implements(&self, name: &str) -> bool
         ensures { result ≡ is_among name.now (interfaces_of self.now) }
     {
-        has_name(self.interfaces.as_slice(), name)
+        self.interfaces.has(name)
     }
 
     /// The fields of each key, in the order in which they were added.

@@ -2,7 +2,8 @@
 ghost use Rattle.std.specs.Prelude.{◌≡◌, IfOk};
 ghost use Rattle.std.specs.Option.{option_copied, option_or};
 ghost use Rattle.gql_base.specs.TypeRef.{innermost};
-ghost use Rattle.gql_schema.specs.Faults.{argument_fault, arguments_fault, default_fault, doubled_fault, field_fault, input_fault, is_no_output, misplaced_fault, name_fault, output_fault, unsupported_fault};
+ghost use Rattle.gql_schema.specs.Faults.{argument_fault, arguments_fault, default_fault, doubled_fault, field_fault, input_fault};
+ghost use Rattle.gql_schema.specs.Faults.{is_no_output, misplaced_fault, name_fault, output_fault, unsupported_fault};
 ghost use Rattle.gql_schema.specs.Table.{types_of};
 
 use crate::by_name::ByName;

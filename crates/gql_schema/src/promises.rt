@@ -1,7 +1,8 @@
 //! What an object keeps of the interfaces that it implements.
 ghost use Rattle.std.specs.Prelude.{◌≡◌, IfOk};
 ghost use Rattle.std.specs.Option.{option_copied};
-ghost use Rattle.gql_schema.specs.Faults.{has_arguments, has_only_spare, has_same_type, implemented_fault, interface_promises_fault, is_spare, keeps, promise_fault, promises_fault};
+ghost use Rattle.gql_schema.specs.Faults.{has_arguments, has_only_spare, has_same_type, implemented_fault, interface_promises_fault};
+ghost use Rattle.gql_schema.specs.Faults.{is_spare, keeps, promise_fault, promises_fault};
 ghost use Rattle.gql_schema.specs.Table.{types_of};
 
 use crate::by_name::ByName;

@@ -1,5 +1,6 @@
-ghost use Rattle.std.specs.Prelude.{◌≡◌};
+ghost use Rattle.std.specs.Prelude.{◌≡◌, option_map};
 
+use crate::declared_field::DeclaredField;
 use crate::enum_::Enum;
 use crate::input_object::InputObject;
 use crate::interface::Interface;
@@ -25,6 +26,8 @@ pub enum SchemaType {
 }
 
 impl SchemaType {
+    ghost use Rattle.gql_schema.specs.DeclaredField.{declared_behind};
+    ghost use Rattle.gql_schema.specs.TableReading.{declared_in};
     ghost use Rattle.gql_schema.specs.Types.{type_name};
 
     /// The type's name.
@@ -39,6 +42,25 @@ impl SchemaType {
             SchemaType::Interface(interface) => interface.type_name(),
             SchemaType::Union(union_type) => union_type.type_name(),
             SchemaType::Subscription(subscription) => subscription.type_name(),
+        }
+    }
+
+    /// The field of this name of an object, an interface or a subscription, or none where there is no such field.
+    pub fn declared(&self, name: &str) -> Option<DeclaredField<'_>>
+        ensures { option_map declared_behind result ≡ declared_in name.now self.now }
+    {
+        match self {
+            SchemaType::Object(object) => Some(DeclaredField::of_object(object.get(name)?)),
+            SchemaType::Interface(interface) => {
+                Some(DeclaredField::of_interface(interface.get(name)?))
+            }
+            SchemaType::Subscription(subscription) => {
+                Some(DeclaredField::of_subscription(subscription.get(name)?))
+            }
+            SchemaType::Scalar(_)
+            | SchemaType::InputObject(_)
+            | SchemaType::Enum(_)
+            | SchemaType::Union(_) => None,
         }
     }
 }

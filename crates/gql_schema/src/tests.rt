@@ -192,17 +192,70 @@ fn link(alloc: Global, number: usize, next: usize) -> Made<SchemaType> {
     Ok(SchemaType::InputObject(input_type(alloc, name.as_str(), field)?))
 }
 
+/// An input object of this number, with fields of the types of two others.
+fn fork(alloc: Global, number: usize, one: usize, two: usize) -> Made<SchemaType> {
+    let name = format!(in alloc; "I{number}")?;
+    let one = format!(in alloc; "I{one}")?;
+    let two = format!(in alloc; "I{two}")?;
+    let field = InputValue::new(alloc, "one", TypeRef::named_nn(alloc, one.as_str())?)?;
+    let input = input_type(alloc, name.as_str(), field)?;
+    let field = InputValue::new(alloc, "two", TypeRef::named_nn(alloc, two.as_str())?)?;
+    if input.has_field(field.name()) {
+        return Ok(SchemaType::InputObject(input));
+    }
+    Ok(SchemaType::InputObject(input.field(alloc, field)?))
+}
+
+/// Registers input objects of these numbers, each with a field of the type of the next, and the last with one of another.
+fn chain(alloc: Global, types: &mut Types, first: usize, end: usize, next: usize) -> Made<()> {
+    for number in first..end {
+        let behind = number + 1;
+        let next = if behind == end { next } else { behind };
+        types.register(alloc, link(alloc, number, next)?)?;
+    }
+    Ok(())
+}
+
 #[test]
 fn a_circle_of_inputs_is_refused_at_its_first(rt: HostRuntime) -> Result<(), Fail> {
     let alloc = rt.alloc();
     let mut types = Types::new(alloc);
-    types.register(alloc, link(alloc, 10000, 0)?)?;
-    for number in 0..10000 {
-        let next = if number == 9999 { 0 } else { number + 1 };
-        types.register(alloc, link(alloc, number, next)?)?;
-    }
+    chain(alloc, &mut types, 0, 10000, 10000)?;
+    chain(alloc, &mut types, 30000, 40000, 40000)?;
+    chain(alloc, &mut types, 10000, 20000, 10000)?;
+    types.register(alloc, fork(alloc, 10000, 10001, 30000)?)?;
+    types.register(alloc, fork(alloc, 40000, 40001, 40001)?)?;
+    let plain = InputValue::new(alloc, "a", TypeRef::named_nn(alloc, "Int")?)?;
+    types.register(
+        alloc,
+        SchemaType::InputObject(input_type(alloc, "I40001", plain)?),
+    )?;
     let text = told(alloc, types)?;
-    assert_eq!(rt; text.as_str(), "7 Input object \"I0\" contains itself");
+    assert_eq!(rt; text.as_str(), "7 Input object \"I10000\" contains itself");
+    Ok(())
+}
+
+/// The list type of so many levels.
+fn nested_list(alloc: Global, name: &str, levels: usize) -> Made<TypeRef> {
+    let mut ty = TypeRef::named(alloc, name)?;
+    for _ in 0..levels {
+        ty = ty.list(alloc)?;
+    }
+    Ok(ty)
+}
+
+#[test]
+fn lists_lie_deep_and_names_are_long(rt: HostRuntime) -> Result<(), Fail> {
+    let alloc = rt.alloc();
+    let text = told_of_field(alloc, nested_list(alloc, "Int", 64)?)?;
+    assert_eq!(rt; text.as_str(), "sound");
+    let mut name = String::new(alloc);
+    for _ in 0..65536 {
+        name.push('a')?;
+    }
+    let text = told_of_field(alloc, nested_list(alloc, name.as_str(), 64)?)?;
+    let expected = format!(in alloc; "1 Type \"{name}\" not found")?;
+    assert_eq!(rt; text.as_str(), expected.as_str());
     Ok(())
 }
 
@@ -262,6 +315,52 @@ fn readers_tell_what_was_built(rt: HostRuntime) -> Result<(), Fail> {
     assert_eq!(rt; types.equals(&copy), true);
     types.register(alloc, SchemaType::Union(Union::new(alloc, "Other")?))?;
     assert_eq!(rt; types.equals(&copy), false);
+    Ok(())
+}
+
+/// A table of an entity `O` with a field `f`, and a union `U` of it.
+fn entity_table(alloc: Global) -> Made<Types> {
+    let mut types = Types::new(alloc);
+    let object = object_type(alloc, "O", "f", TypeRef::named(alloc, "Int")?)?.key(alloc, "f")?;
+    types.register(alloc, SchemaType::Object(object))?;
+    let union_type = Union::new(alloc, "U")?.possible_type(alloc, "O")?;
+    types.register(alloc, SchemaType::Union(union_type))?;
+    Ok(types)
+}
+
+#[test]
+fn a_table_tells_fields_and_objects(rt: HostRuntime) -> Result<(), Fail> {
+    let alloc = rt.alloc();
+    let types = entity_table(alloc)?;
+    assert_eq!(rt;
+        types.field("O", "f").map(|field| field.number),
+        Some(Some(7))
+    );
+    assert_eq!(rt; types.field("U", "f").is_none(), true);
+    assert_eq!(rt; types.is_possible("U", "O"), true);
+    assert_eq!(rt; types.is_possible("U", "U"), false);
+    assert_eq!(rt; types.possible(alloc, "U")?.has("O"), true);
+    Ok(())
+}
+
+/// Whether the union of entities has this member.
+fn is_member(types: &Types, name: &str) -> bool {
+    match types.get("_Entity") {
+        Some(SchemaType::Union(union_type)) => union_type.members().has(name),
+        _ => false,
+    }
+}
+
+#[test]
+fn entities_have_two_types(rt: HostRuntime) -> Result<(), Fail> {
+    let alloc = rt.alloc();
+    let types = entity_table(alloc)?;
+    assert_eq!(rt; types.has_entities(), true);
+    let types = types.with_entities(alloc)?;
+    assert_eq!(rt; types.len(), 4);
+    assert_eq!(rt; is_member(&types, "O"), true);
+    let text = told(alloc, types)?;
+    assert_eq!(rt; text.as_str(), "sound");
     Ok(())
 }
 

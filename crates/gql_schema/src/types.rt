@@ -1,6 +1,7 @@
-ghost use Rattle.std.specs.Prelude.{◌≡◌, ◌↔◌, [], ◌<◌, length, slice_get, IfOk, IsTrue, OnOk, OnErr, Some};
+ghost use Rattle.std.specs.Prelude.{◌≡◌, ◌↔◌, [], ◌<◌, length, slice_get, IfOk, IfSome, IsTrue, OnOk, OnErr, Some};
 ghost use Rattle.std.specs.Option.{option_copied};
-ghost use Rattle.gql_base.specs.Pairs.{under, put, values_of, HasDistinctNames};
+ghost use Rattle.gql_base.specs.Names.{place_of};
+ghost use Rattle.gql_base.specs.Pairs.{under, put, names_of, values_of, HasDistinctNames};
 ghost use Rattle.gql_schema.specs.Keyed.{IsKeyed};
 
 use crate::by_name::ByName;
@@ -65,6 +66,22 @@ impl Types {
         ty
     }
 
+    /// The type at a place, counted from 0, under its name.
+    pub fn entry(&self, place: usize) -> (&str, &SchemaType)
+        requires { place < length (types_of self.now) }
+        ensures { slice_get (types_of self.now) place ≡ Some (result.0.now, result.1.now) }
+    {
+        self.table.at(place)
+    }
+
+    /// The place of the type of this name, counted from 0, or none where there is no such type.
+    pub fn place_of(&self, name: &str) -> Option<usize>
+        ensures place { result ≡ place_of name.now (names_of (types_of self.now)) }
+        ensures within { IfSome result (λ place. place < length (types_of self.now)) }
+    {
+        self.table.place_of(name)
+    }
+
     /// True exactly where both tables are equal.
     pub fn equals(&self, other: &Types) -> bool
         ensures { IsTrue result ↔ (self.now ≡ other.now) }
@@ -75,12 +92,13 @@ impl Types {
 
 impl Types {
     ghost use Rattle.gql_schema.specs.Table.{types_of};
-    ghost use Rattle.gql_schema.specs.Finished.{IsFinished};
+    ghost use Rattle.gql_schema.specs.Finished.{IsFinished, KeepsOthers};
     ghost use Rattle.gql_schema.specs.Sound.{with_built_in, with_scalar};
 
     /// The table with the scalars that every schema has, where no rule is broken, and else the first refusal.
     pub fn finish(self, alloc: Global) -> Made<Result<Types, SchemaError>>
-        ensures { IfOk result (λ finished. IsFinished (with_built_in (types_of self)) finished) }
+        ensures finished { IfOk result (λ finished. IsFinished (with_built_in (types_of self)) finished) }
+        ensures kept { IfOk result (λ finished. IfOk finished (λ types. KeepsOthers (types_of self) (types_of types))) }
     {
         let mut types = self;
         types.register_scalar(alloc, "Int", ScalarRule::Int)?;

@@ -14,7 +14,7 @@ pub struct Union {
 }
 
 impl Union {
-    ghost use Rattle.gql_schema.specs.Union.{union_name, members_of, with_member};
+    ghost use Rattle.gql_schema.specs.Union.{union_name, members_of, new_union, with_member};
 
     /// A union without members.
     pub fn new(alloc: Global, name: &str) -> Made<Union>
@@ -33,6 +33,13 @@ impl Union {
             name,
             members: NameSet::new(alloc),
         }
+    }
+
+    /// A union of these members, which takes the name.
+    pub fn with_members(name: Name, members: NameSet) -> Union
+        ensures { result ≡ new_union name members }
+    {
+        Union { name, members }
     }
 
     /// This union with one more member. A second one of a name changes nothing.

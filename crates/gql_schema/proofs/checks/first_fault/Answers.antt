@@ -1,7 +1,7 @@
 use Rattle.std.proofs.Common.{arith}
 use Rattle.gql_schema.specs.Table.{types_of}
 use Rattle.gql_schema.proofs.SoundLemmas.{free_more, refuses_here, sound_then}
-use Rattle.gql_schema.proofs.checks.first_refusal.Goals as goal
+use Rattle.gql_schema.proofs.checks.first_fault.Goals as goal
 
 pub returns-then-is_some : goal.returns-then-is_some
 returns-then-is_some c =

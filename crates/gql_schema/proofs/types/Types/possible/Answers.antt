@@ -1,0 +1,19 @@
+use Rattle.std.proofs.Common.{ap, ◌∙◌}
+use Rattle.gql_schema.specs.NameSet.{is_among}
+use Rattle.gql_schema.specs.Table.{types_of}
+use Rattle.gql_schema.specs.TableReading.{is_possible_object}
+use Rattle.gql_schema.proofs.PossibleLemmas.{chosen_more, fresh_chosen}
+use Rattle.gql_schema.proofs.types.Types.possible.Goals as goal
+
+pub add_where-requires : goal.add_where-requires
+add_where-requires c =
+    let table = types_of c.args.self.now in
+    ap (is_among c.entry.result.0.now) c.loop-place.invariant
+    ∙ fresh_chosen (is_possible_object table c.args.type_name.now) table c.loop-place.place c.entry.result.0.now c.entry.result.1.now c.len-place-end.ensures.distinct
+    c.entry.ensures
+
+pub loop-place-preserved : goal.loop-place-preserved
+loop-place-preserved c =
+    let table = types_of c.args.self.now in
+    chosen_more (is_possible_object table c.args.type_name.now) table c.loop-place.place c.entry.result.0.now c.entry.result.1.now c.loop-place.names
+    c.add_where.new.names c.can_be_object-can_be.result c.entry.ensures c.loop-place.invariant c.can_be_object-can_be.ensures c.in_ok-add_where.ensures
