@@ -1,6 +1,6 @@
 -- Types that stand where others are promised, and the objects that types can be, computed.
-use Rattle.std.proofs.Common.{◌≡◌, ℕ, Bool, true, false, List, [], ◌∷◌, codes, refl, rules}
-use Rattle.gql_base.specs.declared.type_ref.TypeRef.{TypeRef, the_lemmas as type_lemmas}
+use Rattle.std.proofs.Common.{◌≡◌, true, false, [], ◌∷◌, codes, refl, rules}
+use Rattle.gql_base.specs.declared.type_ref.TypeRef.{the_lemmas as type_lemmas}
 use Rattle.gql_base.specs.declared.type_ref.TypeRef.TheVariants as refs
 use Rattle.gql_base.specs.declared.value.Value.{the_lemmas as value_lemmas}
 use Rattle.gql_schema.specs.Covariance.{is_covariant}

@@ -1,11 +1,11 @@
 -- Faults of types in a table, with their texts, computed.
-use Rattle.std.proofs.Common.{◌≡◌, ℕ, Bool, true, false, List, [], ◌∷◌, Option, Some, None, codes, refl, rules}
-use Rattle.gql_base.specs.declared.type_ref.TypeRef.{TypeRef, the_lemmas as type_lemmas}
+use Rattle.std.proofs.Common.{◌≡◌, ℕ, true, false, List, [], ◌∷◌, Option, Some, None, codes, rules}
+use Rattle.gql_base.specs.declared.type_ref.TypeRef.{the_lemmas as type_lemmas}
 use Rattle.gql_base.specs.declared.type_ref.TypeRef.TheVariants as refs
-use Rattle.gql_base.specs.declared.value.Value.{Value, the_lemmas as value_lemmas}
+use Rattle.gql_base.specs.declared.value.Value.{the_lemmas as value_lemmas}
 use Rattle.gql_base.specs.declared.value.Value.TheVariants as values
 use Rattle.gql_schema.specs.Faults.{fault_of}
-use Rattle.gql_schema.specs.Sound.{ContainsItself, Reaches, at_once, further}
+use Rattle.gql_schema.specs.Sound.{ContainsItself, at_once, further}
 use Rattle.gql_schema.specs.TableReading.{TypeTable}
 use Rattle.gql_schema.specs.declared.schema_error.SchemaError.{SchemaError}
 use Rattle.gql_schema.proofs.Example.{a_field, a_union, an_enum, an_input, an_object, example, input, named, needed, number}

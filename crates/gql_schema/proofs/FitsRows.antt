@@ -1,8 +1,8 @@
 -- Values and the types that they fit, computed.
-use Rattle.std.proofs.Common.{◌≡◌, ℕ, pos, Bool, true, false, List, [], ◌∷◌, codes, refl, rules}
-use Rattle.gql_base.specs.declared.type_ref.TypeRef.{TypeRef, the_lemmas as type_lemmas}
+use Rattle.std.proofs.Common.{◌≡◌, true, false, [], ◌∷◌, codes, rules}
+use Rattle.gql_base.specs.declared.type_ref.TypeRef.{the_lemmas as type_lemmas}
 use Rattle.gql_base.specs.declared.type_ref.TypeRef.TheVariants as refs
-use Rattle.gql_base.specs.declared.value.Value.{Value, the_lemmas as value_lemmas}
+use Rattle.gql_base.specs.declared.value.Value.{the_lemmas as value_lemmas}
 use Rattle.gql_base.specs.declared.value.Value.TheVariants as values
 use Rattle.gql_schema.specs.Fits.{fits}
 use Rattle.gql_schema.proofs.Example.{example, named, needed, number}

@@ -2,8 +2,7 @@
 use Rattle.std.proofs.Common.{◌≡◌, ℕ, zero, suc, ◌+◌, Bool, true, false, ◌&&◌, ◌||◌, List, [], ◌∷◌, map, take, length, ◌≤◌, Option, Some, None, is_some, slice_get, refl, ap, sym, ◌∙◌, add-one}
 use Rattle.std.proofs.lemmas.List.{take_all}
 use Rattle.std.specs.List.{list_all, list_any}
-use Rattle.std.specs.Option.{option_or, option_map}
-use Rattle.gql_base.specs.Pairs.{under}
+use Rattle.std.specs.Option.{option_or}
 use Rattle.gql_schema.specs.Faults.{first_found}
 
 module _ {A : Type 0} (f : A → Bool) where

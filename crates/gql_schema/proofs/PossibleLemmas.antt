@@ -1,11 +1,10 @@
 -- Names that are chosen from a table.
-use Rattle.std.proofs.Common.{◌≡◌, ℕ, zero, suc, ◌+◌, Bool, true, false, ◌||◌, ◌&&◌, cond, List, [], ◌∷◌, ◌++◌, map, take, filter, Option, Some, None, slice_get, refl, ap, sym, ◌∙◌, add-one}
-use Rattle.std.specs.List.{list_any}
+use Rattle.std.proofs.Common.{◌≡◌, ℕ, zero, suc, ◌+◌, Bool, true, false, ◌||◌, ◌&&◌, cond, List, [], ◌∷◌, ◌++◌, take, filter, Option, Some, None, slice_get, refl, ap, sym, ◌∙◌, add-one}
 use Rattle.std.specs.Str.{bytes_eq}
 use Rattle.std.specs.Cmp.Lexicographic.{bytes_decides}
 use Rattle.gql_base.specs.Pairs.{under, names_of, HasDistinctNames}
 use Rattle.gql_schema.specs.NameSet.{is_among}
-use Rattle.gql_schema.specs.TableReading.{TypeTable, chosen, has_type, is_known_object, is_object, is_possible, is_possible_object}
+use Rattle.gql_schema.specs.TableReading.{TypeTable, chosen, has_type, is_known_object, is_possible, is_possible_object}
 use Rattle.gql_schema.specs.declared.schema_type.SchemaType.{SchemaType}
 use Rattle.gql_schema.proofs.NameSetLemmas.{pair_among, under_among}
 

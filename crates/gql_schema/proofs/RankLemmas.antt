@@ -1,6 +1,6 @@
 -- Numbers that fall along what input objects need.
-use Rattle.std.proofs.Common.{◌≡◌, ℕ, zero, suc, ◌+◌, ◌-◌, ◌≤◌, ◌<◌, Bool, true, false, ◌||◌, ◌&&◌, cond, List, [], ◌∷◌, Option, Some, None, slice_index, nat_le, leb-true, refl, ap, sym, ◌∙◌, subst, arith}
-use Rattle.std.specs.List.{list_all, list_any, filter_map}
+use Rattle.std.proofs.Common.{◌≡◌, ℕ, ◌-◌, ◌≤◌, ◌<◌, Bool, true, false, ◌||◌, ◌&&◌, cond, List, [], ◌∷◌, Option, Some, None, leb-true, refl, sym, ◌∙◌, subst, arith}
+use Rattle.std.specs.List.{list_all, filter_map}
 use Rattle.std.specs.Str.{bytes_eq}
 use Rattle.std.specs.Cmp.Lexicographic.{bytes_decides}
 use Rattle.std.specs.Bool.{Decides}
@@ -9,7 +9,7 @@ use Rattle.gql_base.specs.Pairs.{under, names_of}
 use Rattle.gql_schema.specs.InputObject.{input_fields}
 use Rattle.gql_schema.specs.NameSet.{is_among}
 use Rattle.gql_schema.specs.Ranks.{AreRanks, is_low, is_low_field, is_ranked, needs_low, rank_at, rank_of}
-use Rattle.gql_schema.specs.Sound.{Reaches, at_once, further, needed_by, needed_in, needed_name}
+use Rattle.gql_schema.specs.Sound.{Reaches, at_once, further, needed_in, needed_name}
 use Rattle.gql_schema.specs.TableReading.{TypeTable}
 use Rattle.gql_schema.specs.declared.input_value.InputValue.{InputValue}
 use Rattle.gql_schema.specs.declared.schema_type.SchemaType.{SchemaType}

@@ -1,16 +1,14 @@
 -- Walks over the input objects that others need.
-use Rattle.std.proofs.Common.{◌≡◌, ◌⊎◌, inl, inr, ℕ, zero, suc, ◌+◌, ◌-◌, ◌≤◌, ◌<◌, Bool, true, false, ◌||◌, ◌&&◌, not, cond, List, [], ◌∷◌, ◌++◌, map, take, length, Option, Some, None, slice_get, refl, ap, sym, ◌∙◌, add-one, arith, length-append, append-nil, append_assoc}
+use Rattle.std.proofs.Common.{◌≡◌, ◌⊎◌, inl, inr, ℕ, zero, suc, ◌+◌, ◌-◌, ◌≤◌, ◌<◌, Bool, true, false, ◌||◌, cond, List, [], ◌∷◌, ◌++◌, take, length, Option, Some, None, slice_get, refl, ap, sym, ◌∙◌, add-one, arith, length-append, append-nil, append_assoc}
 use Rattle.std.proofs.lemmas.List.{take-append-le, take_all}
-use Rattle.std.specs.List.{list_any, filter_map, flat_map}
+use Rattle.std.specs.List.{filter_map}
 use Rattle.std.specs.Str.{bytes_eq}
 use Rattle.std.specs.Cmp.Lexicographic.{bytes_decides}
 use Rattle.std.specs.Bool.{Decides}
 use Rattle.gql_base.specs.Pairs.{under}
-use Rattle.gql_schema.specs.InputObject.{input_fields}
 use Rattle.gql_schema.specs.NameSet.{is_among, with_name, with_names, with_optional}
-use Rattle.gql_schema.specs.Sound.{Reaches, at_once, further, needed_by, needed_in, needed_name, needed_names}
+use Rattle.gql_schema.specs.Sound.{Reaches, at_once, further, needed_by, needed_in, needed_name}
 use Rattle.gql_schema.specs.TableReading.{TypeTable}
-use Rattle.gql_schema.specs.declared.input_object.InputObject.{InputObject}
 use Rattle.gql_schema.specs.declared.input_value.InputValue.{InputValue}
 
 -- names that are added one by one

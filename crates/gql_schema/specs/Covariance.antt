@@ -1,5 +1,5 @@
 -- Which types may stand where an interface promises another (GraphQL, October 2021, section 3.6, "Type Validation").
-use Rattle.std.specs.Prelude.{ℕ, Bool, true, false, List}
+use Rattle.std.specs.Prelude.{ℕ, Bool, false, List}
 use Rattle.gql_base.specs.declared.type_ref.TypeRef.{TypeRef, out-TypeRef}
 use Rattle.gql_base.specs.declared.type_ref.TypeRef.TheOpen.{TypeRef-F}
 use Rattle.gql_base.specs.declared.type_ref.TypeRef.TheFolds.{fold-TypeRef}

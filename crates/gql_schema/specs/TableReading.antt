@@ -1,6 +1,6 @@
 -- What a table of types tells: fields, the objects that a type can be, and conditions on types (GraphQL, October 2021, sections 3.6
 -- to 3.8 and 5.5.2.3). A table is a list of types under their names.
-use Rattle.std.specs.Prelude.{◌≡◌, ℕ, Bool, true, false, ◌&&◌, ◌||◌, List, [], ◌∷◌, codes, refl, Option, Some, None, option_map, option_and_then, filter, is_some, if◌then◌else◌}
+use Rattle.std.specs.Prelude.{◌≡◌, ℕ, Bool, true, false, ◌&&◌, ◌||◌, List, [], ◌∷◌, codes, refl, Option, Some, None, option_map, option_and_then, filter, if◌then◌else◌}
 use Rattle.std.specs.Str.{bytes_eq}
 use Rattle.gql_base.specs.Pairs.{under, names_of}
 use Rattle.gql_base.specs.declared.type_ref.TypeRef.{TypeRef}

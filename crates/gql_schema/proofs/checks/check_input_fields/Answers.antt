@@ -1,5 +1,4 @@
-use Rattle.std.proofs.Common.{arith, ℕ, List, refl, ap, sym, ◌∙◌, length}
-use Rattle.std.proofs.lemmas.Option.{slice_get_read}
+use Rattle.std.proofs.Common.{ℕ, List}
 use Rattle.gql_schema.specs.Faults.{input_field_fault}
 use Rattle.gql_schema.specs.InputObject.{input_fields}
 use Rattle.gql_schema.specs.declared.input_value.InputValue.{InputValue}

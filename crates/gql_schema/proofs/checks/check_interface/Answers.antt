@@ -1,5 +1,4 @@
-use Rattle.std.proofs.Common.{arith, ℕ, List, refl, ap, sym, ◌∙◌, length}
-use Rattle.std.proofs.lemmas.Option.{slice_get_read}
+use Rattle.std.proofs.Common.{ℕ, List, ◌∙◌}
 use Rattle.gql_schema.specs.Faults.{field_fault, promised_field_fault}
 use Rattle.gql_schema.specs.Interface.{interface_name, promised_fields}
 use Rattle.gql_schema.specs.declared.interface_field.InterfaceField.{InterfaceField}

@@ -1,5 +1,5 @@
 use Rattle.std.proofs.Common.{◌≡◌, ℕ, List, None, take}
-use Rattle.gql_schema.specs.Faults.{field_fault, promised_field_fault}
+use Rattle.gql_schema.specs.Faults.{promised_field_fault}
 use Rattle.gql_schema.specs.Interface.{interface_name, promised_fields}
 use Rattle.gql_schema.specs.declared.interface_field.InterfaceField.{InterfaceField}
 use Rattle.gql_schema.specs.Faults.{first_found}

@@ -1,4 +1,4 @@
-use Rattle.std.proofs.Common.{◌≡◌, ℕ, List, None, take}
+use Rattle.std.proofs.Common.{◌≡◌, None, take}
 use Rattle.gql_schema.specs.Faults.{implemented_fault}
 use Rattle.gql_schema.specs.Object.{interfaces_of}
 use Rattle.gql_schema.specs.Faults.{first_found}

@@ -1,5 +1,4 @@
-use Rattle.std.proofs.Common.{arith, ℕ, List, refl, ap, sym, ◌∙◌, length}
-use Rattle.std.proofs.lemmas.Option.{slice_get_read}
+use Rattle.std.proofs.Common.{ℕ, List, ◌∙◌}
 use Rattle.gql_schema.specs.Faults.{field_fault, object_field_fault}
 use Rattle.gql_schema.specs.Object.{object_name, fields_of}
 use Rattle.gql_schema.specs.declared.field.Field.{Field}

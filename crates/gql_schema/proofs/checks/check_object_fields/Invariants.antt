@@ -1,5 +1,5 @@
 use Rattle.std.proofs.Common.{◌≡◌, ℕ, List, None, take}
-use Rattle.gql_schema.specs.Faults.{field_fault, object_field_fault}
+use Rattle.gql_schema.specs.Faults.{object_field_fault}
 use Rattle.gql_schema.specs.Object.{object_name, fields_of}
 use Rattle.gql_schema.specs.declared.field.Field.{Field}
 use Rattle.gql_schema.specs.Faults.{first_found}

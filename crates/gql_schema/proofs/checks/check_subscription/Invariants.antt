@@ -1,5 +1,5 @@
 use Rattle.std.proofs.Common.{◌≡◌, ℕ, List, None, take}
-use Rattle.gql_schema.specs.Faults.{field_fault, event_field_fault}
+use Rattle.gql_schema.specs.Faults.{event_field_fault}
 use Rattle.gql_schema.specs.Subscription.{subscription_name, event_fields}
 use Rattle.gql_schema.specs.declared.subscription_field.SubscriptionField.{SubscriptionField}
 use Rattle.gql_schema.specs.Faults.{first_found}

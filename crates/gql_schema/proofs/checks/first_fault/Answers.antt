@@ -1,6 +1,5 @@
-use Rattle.std.proofs.Common.{arith}
 use Rattle.gql_schema.specs.Table.{types_of}
-use Rattle.gql_schema.proofs.SoundLemmas.{free_more, refuses_here, sound_then}
+use Rattle.gql_schema.proofs.SoundLemmas.{free_more, refuses_here}
 use Rattle.gql_schema.proofs.checks.first_fault.Goals as goal
 
 pub returns-then-is_some : goal.returns-then-is_some

@@ -1,8 +1,8 @@
-use Rattle.std.proofs.Common.{◌≡◌, arith, ap, ◌∙◌, length, ◌<◌}
+use Rattle.std.proofs.Common.{◌≡◌, arith, ap, ◌∙◌}
 use Rattle.std.specs.Option.{option_copied}
 use Rattle.gql_base.specs.Pairs.{under}
 use Rattle.gql_schema.specs.NameSet.{with_names}
-use Rattle.gql_schema.specs.Sound.{needed_by, needed_in}
+use Rattle.gql_schema.specs.Sound.{needed_in}
 use Rattle.gql_schema.specs.Table.{types_of}
 use Rattle.gql_schema.proofs.ReachLemmas.{walk_ends, walk_goes, walk_starts, walk_tells}
 use Rattle.gql_schema.proofs.containment.reaches_itself.Goals as goal

@@ -2,7 +2,7 @@ use Rattle.std.proofs.Common.{arith, ℕ, List, refl, ap, sym, ◌∙◌, length
 use Rattle.std.proofs.lemmas.Option.{slice_get_read}
 use Rattle.gql_base.specs.Pairs.{under}
 use Rattle.gql_base.specs.declared.value.Value.{Value}
-use Rattle.gql_schema.specs.Fits.{Fitting, are_declared, are_given, fits, fits_declared, fitting, fitting_member, fittings, has_number, is_non_null}
+use Rattle.gql_schema.specs.Fits.{Fitting, fits, fits_declared, fitting, fitting_member, is_non_null}
 use Rattle.gql_schema.specs.InputObject.{input_fields}
 use Rattle.gql_schema.specs.Table.{types_of}
 use Rattle.gql_schema.proofs.FitsLemmas.{given_fittings, one_member}

@@ -1,4 +1,4 @@
-use Rattle.std.proofs.Common.{arith, ℕ, List}
+use Rattle.std.proofs.Common.{ℕ, List}
 use Rattle.gql_schema.specs.Faults.{argument_fault}
 use Rattle.gql_schema.specs.Table.{types_of}
 use Rattle.gql_schema.specs.declared.input_value.InputValue.{InputValue}

@@ -1,4 +1,3 @@
-use Rattle.std.proofs.Common.{ℕ, List, ap, ◌∙◌}
 use Rattle.gql_schema.specs.Faults.{is_spare}
 use Rattle.gql_schema.proofs.ListLemmas.{all_fails, all_more}
 use Rattle.gql_schema.proofs.promises.has_only_optional.Goals as goal

@@ -1,4 +1,4 @@
-use Rattle.std.proofs.Common.{◌≡◌, ℕ, List, true, take}
+use Rattle.std.proofs.Common.{◌≡◌, true, take}
 use Rattle.std.specs.List.{list_all}
 use Rattle.gql_schema.specs.Faults.{is_spare}
 use Rattle.gql_schema.proofs.promises.has_only_optional.Given as goal
