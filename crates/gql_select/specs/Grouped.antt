@@ -36,15 +36,16 @@ abbrev pub world_behind : {F W : Type 0} → (W → F → W) → W → List (Lis
 world_behind effect world [] = world
 world_behind effect world (m ∷ ms) = world_behind effect (effect world m.1) ms
 
-module _ {O P F X Pl W : Type 0} (reading : Reading O F X) (effect : W → F → W) (place : W → O → P → F → (O → P → List (List ℕ × Pl)) → Pl) where
+-- a mutation answers its root keys by one function, and what is beneath them by another
+module _ {O P F X Pl W : Type 0} (reading : Reading O F X) (effect : W → F → W) (root place : W → O → P → F → (O → P → List (List ℕ × Pl)) → Pl) where
   -- a mutation whose keys below the root are answered once each too
   abbrev pub serial_grouped : ℕ → O → P → List X → W → List (List ℕ × Pl)
   serial_grouped n o p set world =
-      in_turn effect (λ before behind f. place before o p f (λ inner parent. grouped reading (place behind) n inner parent (reading.set f))) world
+      in_turn effect (λ before behind f. root before o p f (λ inner parent. grouped reading (place behind) n inner parent (reading.set f))) world
       (merged reading (reading.fields o set))
 
   -- a mutation whose occurrences below the root are answered apart
   abbrev pub serial_respond : (Pl → Pl → Pl) → ℕ → O → P → List X → W → List (List ℕ × Pl)
   serial_respond join n o p set world =
-      in_turn effect (λ before behind f. place before o p f (λ inner parent. respond reading (place behind) join n inner parent (reading.set f))) world
+      in_turn effect (λ before behind f. root before o p f (λ inner parent. respond reading (place behind) join n inner parent (reading.set f))) world
       (merged reading (reading.fields o set))
