@@ -14,17 +14,14 @@ use Rattle.gql_place.specs.declared.shape.Shape.TheOpen.{Shape-F}
 use Rattle.gql_place.specs.declared.shape.Shape.TheFolds.{fold-roll-Shape, ind-Shape, map-Shape}
 use Rattle.gql_place.specs.Filled.{fill, fill_step, item_of, objects_in, objects_step}
 use Rattle.gql_place.specs.Join.{join, join_items, join_trees, onto_items, placed_onto}
-use Rattle.gql_place.proofs.JoinLemmas.{join_is, joined_objects, join-List}
+use Rattle.gql_place.proofs.JoinLemmas.{absent-onto, join_is, joined_objects, join-List}
 use Rattle.gql_select.proofs.MergeLemmas.{first_in}
 
-leaf-onto : (t : Tree) (v : Value) → join_trees t (tree.Leaf v) ≡ t
+pub leaf-onto : (t : Tree) (v : Value) → join_trees t (tree.Leaf v) ≡ t
 leaf-onto t v = search (rules, the_lemmas)
 
-fault-onto : (t : Tree) (e : Error) → join_trees t (tree.Fault e) ≡ t
+pub fault-onto : (t : Tree) (e : Error) → join_trees t (tree.Fault e) ≡ t
 fault-onto t e = search (rules, the_lemmas)
-
-absent-onto : (t : Tree) → join_trees t tree.Absent ≡ t
-absent-onto t = search (rules, the_lemmas)
 
 join_item : (one other : Pos) (non_null : Bool) (t u : Tree) → join (item_of one non_null t) (item_of other non_null u) ≡ item_of one non_null (join_trees t u)
 join_item one other non_null t u = join_is (item_of one non_null t) (item_of other non_null u)

@@ -18,7 +18,8 @@ use Rattle.gql_select.proofs.SerialLemmas.{serial_same}
 use Rattle.gql_place.specs.Answered.{answered, IsAnswering}
 use Rattle.gql_place.specs.Filled.{Outcome}
 use Rattle.gql_place.specs.Join.{join}
-use Rattle.gql_place.specs.Laws.{AreFitting, DocumentsApartAreMerged, MutationPlacesApartAreMerged, outcome_of, PlacesApartAreMerged}
+use Rattle.gql_place.specs.Laws.{AreFitting, DocumentsApartAreMerged, JoinedWithItself, MutationPlacesApartAreMerged, outcome_of, PlacesApartAreMerged}
+use Rattle.gql_place.proofs.SameLemmas.{joined_with_itself as same}
 use Rattle.gql_place.proofs.AnsweredLemmas.{answered_places}
 
 pub places_apart_are_merged : (O P F X : Type 0) → PlacesApartAreMerged O P F X
@@ -39,7 +40,7 @@ module _ {P : Type 0} (known : List ℕ → Value) (setting : Setting) (declared
       (λ i. answer o p (named i) (constants known (declared o (named i)) (arguments_of g)))
       ∙ ap (answer o p (name_of f)) (same (declared o (name_of f)))
 
-  answering : IsAnswering (reading (kept_setting known setting)) (λ f. f.pos) (outcome_of known setting declared answer)
+  pub answering : IsAnswering (reading (kept_setting known setting)) (λ f. f.pos) (outcome_of known setting declared answer)
   answering = record {
     pos_of_both = λ f g. refl;
     outcome_of_both = λ o p f g. asked_same o p f (both f g) (name_of_both f g) (λ declarations. ap (constants known declarations) (arguments_of_both f g));
@@ -53,3 +54,6 @@ documents_apart_are_merged P E = λ known setting declared answer fitting told n
     places_apart_are_merged (List ℕ) P (Positioned Field) _ (reading (kept_setting known setting)) (is_reading (kept_setting known setting)) (λ f. f.pos)
     (outcome_of known setting declared answer) (answering known setting declared answer fitting) n o p (kept known set)
     (agree_kept known setting n o set set (agree_from (reading setting) (is_reading setting) told n o set none))
+
+pub joined_with_itself : JoinedWithItself
+joined_with_itself = same

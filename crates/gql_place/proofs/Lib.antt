@@ -5,3 +5,4 @@ pub mod JoinStepLemmas
 pub mod LawProofs
 pub mod PartLemmas
 pub mod Rows
+pub mod SameLemmas

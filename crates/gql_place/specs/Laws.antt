@@ -1,6 +1,6 @@
 -- The laws on places: a response of which each occurrence is answered apart is the one of which each key is answered once, in data, errors
 -- and header operations.
-use Rattle.std.specs.Prelude.{◌≡◌, ℕ, suc, List, []}
+use Rattle.std.specs.Prelude.{◌≡◌, ℕ, suc, true, List, []}
 use Rattle.std.specs.List.{Contains}
 use Rattle.gql_base.specs.declared.pos.Pos.{Pos}
 use Rattle.gql_base.specs.declared.value.Value.{Value}
@@ -18,6 +18,8 @@ use Rattle.gql_select.specs.Reading.{IsReading, Reading}
 use Rattle.gql_place.specs.Answered.{answered, IsAnswering}
 use Rattle.gql_place.specs.Filled.{Outcome, objects_in}
 use Rattle.gql_place.specs.Join.{join}
+use Rattle.gql_place.specs.KeysApart.{has_keys_apart}
+use Rattle.gql_place.specs.declared.place.Place.{Place}
 
 -- places of answers: joined they are those of merged execution, where the set agrees with itself
 abbrev pub PlacesApartAreMerged : (O P F X : Type 0) → Type 0
@@ -47,6 +49,10 @@ module _ {P : Type 0} (known : List ℕ → Value) (setting : Setting) (declared
   AreFitting =
       (object : List ℕ) (parent : P) (name : List ℕ) (arguments : List (List ℕ × Value)) (inner : List ℕ)
       → Contains (objects_in (answer object parent name arguments).shape) inner → Contains (setting.beneath object name) inner
+
+-- a place joined with itself is itself, where no object in it has a key twice
+abbrev pub JoinedWithItself : Type 0
+JoinedWithItself = (place : Place) → has_keys_apart place ≡ true → join place place ≡ place
 
 -- documents: where a document has no conflicts, what is kept of it comes to the same places apart and merged
 abbrev pub DocumentsApartAreMerged : (P E : Type 0) → Type 0
