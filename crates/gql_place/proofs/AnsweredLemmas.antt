@@ -1,11 +1,10 @@
 -- Places of answers are placed as the law on apart execution asks.
-use Rattle.std.proofs.Common.{◌≡◌, ℕ, Bool, List, refl, ap, sym, ◌∙◌, subst}
-use Rattle.std.specs.List.{Contains}
+use Rattle.std.proofs.Common.{◌≡◌, ℕ, List, ap, sym, ◌∙◌}
 use Rattle.gql_base.specs.Pairs.{unite_all}
 use Rattle.gql_base.specs.declared.pos.Pos.{Pos}
 use Rattle.gql_place.specs.declared.place.Place.{Place}
 use Rattle.gql_place.specs.Answered.{answered, IsAnswering}
-use Rattle.gql_place.specs.Filled.{Outcome, fill, objects_in, place_with}
+use Rattle.gql_place.specs.Filled.{Outcome, place_with}
 use Rattle.gql_select.specs.Grouped.{IsPlacing}
 use Rattle.gql_place.specs.Join.{join}
 use Rattle.gql_select.specs.Reading.{Reading}

@@ -1,5 +1,5 @@
 -- Completed answers, with what is beneath their objects.
-use Rattle.std.proofs.Common.{rules, ◌≡◌, ℕ, Bool, List, [], ◌∷◌, ◌++◌, map, Some, None, refl, ap, sym, ◌∙◌, subst}
+use Rattle.std.proofs.Common.{rules, ◌≡◌, ℕ, Bool, List, [], ◌∷◌, map, refl, ap, sym, ◌∙◌, subst}
 use Rattle.std.specs.List.{Contains, flat_map}
 use Rattle.std.proofs.lemmas.List.Elements.{Contains-append_left, Contains-append_right}
 use Rattle.gql_base.specs.Pairs.{unite_all}
@@ -13,7 +13,7 @@ use Rattle.gql_place.specs.declared.shape.Shape.{Shape, roll-Shape}
 use Rattle.gql_place.specs.declared.shape.Shape.TheOpen.{Shape-F}
 use Rattle.gql_place.specs.declared.shape.Shape.TheFolds.{fold-roll-Shape, ind-Shape, map-Shape}
 use Rattle.gql_place.specs.Filled.{fill, fill_step, item_of, objects_in, objects_step}
-use Rattle.gql_place.specs.Join.{join, join_items, join_trees, onto_items, placed_onto}
+use Rattle.gql_place.specs.Join.{join, join_items, join_trees}
 use Rattle.gql_place.proofs.JoinLemmas.{absent-onto, join_is, joined_objects, join-List}
 use Rattle.gql_select.proofs.MergeLemmas.{first_in}
 

@@ -1,14 +1,14 @@
 -- What the joined place of two places is.
-use Rattle.std.proofs.Common.{rules, ◌≡◌, ℕ, Bool, true, false, cond, List, [], ◌∷◌, map, Option, Some, None, refl, ap, sym, ◌∙◌, subst}
+use Rattle.std.proofs.Common.{rules, ◌≡◌, ℕ, Bool, true, false, cond, List, [], ◌∷◌, map, Some, None, refl, ap, sym, ◌∙◌, subst}
 use Rattle.std.specs.Str.{bytes_eq}
 use Rattle.gql_base.specs.Pairs.{under, put, unite, unite_all}
 use Rattle.gql_place.specs.declared.place.Place.{Place}
-use Rattle.gql_place.specs.declared.place.Tree.{Tree, the_lemmas, out-Tree, roll-Tree}
+use Rattle.gql_place.specs.declared.place.Tree.{Tree, the_lemmas, roll-Tree}
 use Rattle.gql_place.specs.declared.place.Tree.TheFolds.{fold-roll-Place, fold-roll-Tree, ind-Place, map-Place, map-Tree}
 use Rattle.gql_place.specs.declared.place.Tree.TheViews.{roll-Place, rolls-Absent, rolls-Fault, rolls-Leaf, rolls-List, rolls-Object}
 use Rattle.gql_place.specs.declared.place.Tree.TheVariants as tree
 use Rattle.gql_place.specs.declared.place.Tree.TheOpen.{Tree-F, Place-F}
-use Rattle.gql_place.specs.Join.{OntoPlace, OntoTree, join, join_trees, join_items, onto_members, onto_items, placed_onto, tree_onto, tree_step, place_step}
+use Rattle.gql_place.specs.Join.{OntoPlace, OntoTree, join, join_trees, join_items, onto_members, placed_onto, tree_onto, tree_step, place_step}
 
 pub join_is : (first second : Place) → join first second ≡ record first { tree = join_trees first.tree second.tree }
 join_is first second = search (rules, the_lemmas)

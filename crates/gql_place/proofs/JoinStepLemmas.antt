@@ -1,5 +1,5 @@
 -- Places that are joined step by step.
-use Rattle.std.proofs.Common.{rules, ◌≡◌, ℕ, zero, suc, ◌+◌, Bool, true, false, cond, List, [], ◌∷◌, ◌++◌, length, map, ◌≤◌, take, drop, Option, Some, None, slice_get, slice_set, refl, ap, sym, ◌∙◌, arith}
+use Rattle.std.proofs.Common.{rules, ◌≡◌, ℕ, zero, suc, ◌+◌, List, [], ◌∷◌, ◌++◌, length, map, ◌≤◌, take, drop, Some, None, slice_get, slice_set, refl, ap, sym, ◌∙◌, arith}
 use Rattle.std.specs.List.{zip}
 use Rattle.gql_base.proofs.PairLemmas.{put-fresh, zipped_again}
 use Rattle.gql_base.specs.Pairs.{names_of, put, under, unite, unite_all, values_of}

@@ -1,10 +1,9 @@
 -- The laws on places, proved.
-use Rattle.std.proofs.Common.{◌≡◌, ℕ, true, List, refl, ap, sym, ◌∙◌, subst}
-use Rattle.std.specs.List.{Contains}
+use Rattle.std.proofs.Common.{◌≡◌, ℕ, List, refl, ap, sym, ◌∙◌}
 use Rattle.gql_base.specs.declared.value.Value.{Value}
 use Rattle.gql_doc.specs.declared.document.Field.{Field}
 use Rattle.gql_doc.specs.declared.document.Positioned.{Positioned}
-use Rattle.gql_select.specs.Alike.{alike, arguments_of, name_of}
+use Rattle.gql_select.specs.Alike.{arguments_of, name_of}
 use Rattle.gql_select.specs.Collected.{Setting}
 use Rattle.gql_select.specs.Constants.{constants, Declared}
 use Rattle.gql_select.specs.Documents.{both, reading}

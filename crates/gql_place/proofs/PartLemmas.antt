@@ -1,23 +1,20 @@
 -- Folds of places, part by part.
-use Rattle.std.proofs.Common.{rules, ◌≡◌, ℕ, zero, suc, ◌+◌, ◌<◌, List, [], ◌∷◌, ◌++◌, length, map, take, Option, Some, None, option_map, slice_get, refl, ap, sym, ◌∙◌, subst, arith, append_assoc, add-one}
+use Rattle.std.proofs.Common.{rules, ◌≡◌, ℕ, zero, suc, ◌+◌, ◌<◌, List, [], ◌∷◌, ◌++◌, length, map, take, Option, Some, None, option_map, slice_get, refl, ap, sym, ◌∙◌, arith, append_assoc}
 use Rattle.std.specs.List.{flat_map, zip}
 use Rattle.std.specs.Prelude.{MatchOption}
 use Rattle.std.proofs.lemmas.List.{append-nil, length-map, length-take-le}
 use Rattle.gql_base.specs.Pairs.{names_of, values_of}
 use Rattle.gql_base.specs.declared.path_segment.PathSegment.{PathSegment}
 use Rattle.gql_base.specs.declared.path_segment.PathSegment.TheVariants.{Field, Index}
-use Rattle.gql_base.specs.declared.pos.Pos.{Pos}
-use Rattle.gql_base.specs.declared.error.Error.{Error}
 use Rattle.gql_base.specs.declared.server_error.ServerError.{ServerError}
 use Rattle.gql_base.specs.declared.value.Value.{Value}
-use Rattle.gql_base.specs.declared.value.Value.TheVariants as value
 use Rattle.gql_request.specs.declared.header_op.HeaderOp.{HeaderOp}
 use Rattle.gql_place.specs.declared.place.Place.{Place}
-use Rattle.gql_place.specs.declared.place.Tree.{Tree, the_lemmas}
+use Rattle.gql_place.specs.declared.place.Tree.{the_lemmas}
 use Rattle.gql_place.specs.declared.place.Tree.TheVariants as tree
-use Rattle.gql_place.specs.Faults.{AtPath, beneath_items, beneath_members, faults_at, item_faults, member_faults, tree_faults}
+use Rattle.gql_place.specs.Faults.{AtPath, beneath_items, faults_at, item_faults, member_faults}
 use Rattle.gql_place.specs.HeaderOps.{ops_of, tree_ops}
-use Rattle.gql_place.specs.Raised.{all_items, all_members, item_values, member_values, tree_value, value_at, with_first}
+use Rattle.gql_place.specs.Raised.{all_items, member_values, value_at, with_first}
 
 pub flat_map_of_map : {A B C : Type 0} (h : B → List C) (f : A → B) (xs : List A) → flat_map h (map f xs) ≡ flat_map (λ x. h (f x)) xs
 flat_map_of_map h f [] = refl

@@ -1,20 +1,17 @@
 -- Some responses, computed: what is raised, joined and told.
-use Rattle.std.proofs.Common.{rules, ◌≡◌, ℕ, pos, Bool, true, false, List, [], ◌∷◌, ◌++◌, Option, Some, None, refl, ap, sym, ◌∙◌}
+use Rattle.std.proofs.Common.{rules, ◌≡◌, ℕ, pos, true, false, List, [], ◌∷◌, None}
 use Rattle.std.specs.Prelude.{codes}
-use Rattle.gql_base.specs.Pairs.{unite_all}
 use Rattle.gql_base.specs.declared.error.Error.{Error}
 use Rattle.gql_base.specs.declared.path_segment.PathSegment.TheVariants.{Field, Index}
 use Rattle.gql_base.specs.declared.pos.Pos.{Pos}
-use Rattle.gql_base.specs.declared.value.Value.{Value}
 use Rattle.gql_base.specs.declared.value.Value.TheVariants as value
 use Rattle.gql_place.specs.declared.place.Place.{Place}
 use Rattle.gql_place.specs.declared.place.Tree.{Tree, the_lemmas}
 use Rattle.gql_place.specs.declared.place.Tree.TheVariants as tree
 use Rattle.gql_place.specs.Faults.{faults_of, located}
 use Rattle.gql_place.specs.HeaderOps.{ops_of}
-use Rattle.gql_place.specs.Join.{join, join_items, join_trees}
+use Rattle.gql_place.specs.Join.{join}
 use Rattle.gql_place.specs.Raised.{raised}
-use Rattle.gql_place.proofs.JoinLemmas.{join_is, join-List, joined_objects}
 use Rattle.gql_request.specs.declared.header_op.HeaderOp.{HeaderOp}
 
 abbrev field_pos : Pos
@@ -63,3 +60,23 @@ added_first = search (rules, the_lemmas)
 -- header operations stay where the place is null
 kept_headers : (op : HeaderOp) → ops_of (root ((codes "a", record (non_null (tree.Fault bad)) { headers = op ∷ [] }) ∷ [])) ≡ op ∷ []
 kept_headers op = search (rules, the_lemmas)
+
+-- of two places under one key the first stays, and a key that is new comes behind
+joined_members :
+    join (root ((codes "a", nullable (number 1)) ∷ [])) (root ((codes "a", nullable (number 2)) ∷ (codes "b", nullable (number 3)) ∷ []))
+    ≡ root ((codes "a", nullable (number 1)) ∷ (codes "b", nullable (number 3)) ∷ [])
+joined_members = search (rules, the_lemmas)
+
+-- lists are joined item by item at every depth, and further items of the second are left out
+abbrev listed : Place → List Place → Place
+listed item others = nullable (tree.List (item ∷ others))
+
+joined_lists :
+    join (listed (listed (root ((codes "a", nullable (number 1)) ∷ [])) []) [])
+    (listed (listed (root ((codes "b", nullable (number 2)) ∷ [])) (nullable (number 3) ∷ [])) [])
+    ≡ listed (listed (root ((codes "a", nullable (number 1)) ∷ (codes "b", nullable (number 2)) ∷ [])) []) []
+joined_lists = search (rules, the_lemmas)
+
+-- the second's errors are not told again
+first_errors : faults_of (join (record (nullable (number 1)) { added = bad ∷ [] }) (record (nullable (number 1)) { added = bad ∷ bad ∷ [] })) ≡ located field_pos [] bad ∷ []
+first_errors = search (rules, the_lemmas)

@@ -1,4 +1,4 @@
-use Rattle.std.proofs.Common.{◌≡◌, sym, ◌∙◌, length, refl}
+use Rattle.std.proofs.Common.{length, refl}
 use Rattle.std.proofs.lemmas.Option.{slice_get_read}
 use Rattle.gql_place.proofs.PartLemmas.{item_preserved, member_preserved}
 use Rattle.gql_place.proofs.place_faults.+faults.Goals as goal

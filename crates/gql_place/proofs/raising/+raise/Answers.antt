@@ -1,8 +1,7 @@
-use Rattle.std.proofs.Common.{◌≡◌, ℕ, List, Option, None, Some, IfOk, option_map, take, map, ap, sym, ◌∙◌, subst, length, arith, refl}
+use Rattle.std.proofs.Common.{◌≡◌, ℕ, List, None, Some, take, map, ap, sym, ◌∙◌, length, arith, refl}
 use lib.Seq.{take_all}
 use Rattle.std.specs.List.{zip}
 use Rattle.gql_base.specs.Pairs.{names_of}
-use Rattle.gql_base.specs.declared.value.Value.{Value}
 use Rattle.gql_place.specs.declared.place.Place.{Place}
 use Rattle.std.proofs.lemmas.Option.{slice_get_read}
 use Rattle.gql_place.specs.Raised.{all_items, member_values as values_of_members, value_at as value_of}
