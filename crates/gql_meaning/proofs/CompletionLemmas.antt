@@ -11,7 +11,7 @@ use Rattle.gql_base.specs.declared.type_ref.TypeRef.{TypeRef, roll-TypeRef}
 use Rattle.gql_base.specs.declared.type_ref.TypeRef.TheOpen.{TypeRef-F}
 use Rattle.gql_base.specs.declared.type_ref.TypeRef.TheFolds.{fold-roll-TypeRef, ind-TypeRef, map-TypeRef}
 use Rattle.gql_base.specs.declared.value.Value.{Value}
-use Rattle.gql_meaning.specs.Completion.{AbstractTexts, all_items_in, at_abstract, at_enum, at_items, at_scalar, at_type, completing, completing_step, Completing, fault, if_given, interface_texts, is_known_object, is_null_in, named_in, union_texts, is_possible, required_here, shape_of, unless_null}
+use Rattle.gql_meaning.specs.Completion.{AbstractTexts, all_items_in, at_abstract, at_enum, at_items, at_scalar, at_type, completing, completing_step, Completing, fault, if_given, interface_texts, is_null_in, named_in, union_texts, is_possible, required_here, shape_of, unless_null}
 use Rattle.gql_place.specs.Filled.{objects_in}
 use Rattle.gql_place.specs.declared.shape.Shape.{Shape, the_lemmas}
 use Rattle.gql_place.specs.declared.shape.Shape.TheOpen.{Shape-F}
@@ -22,6 +22,7 @@ use Rattle.gql_base.specs.Kinds.{enum_name_of}
 use Rattle.std.specs.Prelude.{option_and_then}
 use Rattle.gql_schema.specs.Enum.{items_of}
 use Rattle.gql_schema.specs.Scalar.{rule_of}
+use Rattle.gql_schema.specs.Faults.{is_known_object}
 use Rattle.gql_schema.specs.NameSet.{is_among}
 use Rattle.gql_schema.specs.ScalarRule.{takes}
 use Rattle.gql_schema.specs.TableReading.{TypeTable, has_type, is_object, possible}

@@ -1,15 +1,27 @@
 -- Some answers, completed at types of a table, and what fields ask.
-use Rattle.std.proofs.Common.{rules, ◌≡◌, ℕ, pos, Bool, true, false, [], ◌∷◌, Some, None, refl}
+use Rattle.std.proofs.Common.{◌++◌, List, map, rules, ◌≡◌, ℕ, pos, Bool, true, false, [], ◌∷◌, Some, None, refl}
 use Rattle.std.specs.Fmt.{signed_decimal}
 use Rattle.std.specs.Prelude.{codes}
 use Rattle.gql_base.specs.declared.type_ref.TypeRef.{the_lemmas as type_lemmas}
 use Rattle.gql_base.specs.declared.type_ref.TypeRef.TheVariants as ref
-use Rattle.gql_base.specs.declared.value.Value.{the_lemmas as value_lemmas}
+use Rattle.gql_base.specs.declared.value.Value.{Value, the_lemmas as value_lemmas}
 use Rattle.gql_base.specs.declared.value.Value.TheVariants as value
+use Rattle.gql_base.specs.declared.pos.Pos.{Pos}
 use Rattle.gql_meaning.specs.Completion.{completed, fault, no_scalar, no_value, union_texts}
 use Rattle.gql_meaning.specs.Execution.{absent_outcome, asking, Execution, named_outcome}
+use Rattle.gql_meaning.specs.Responses.{Members, response}
 use Rattle.gql_meaning.specs.TableSetting.{setting_of}
-use Rattle.gql_place.specs.declared.shape.Shape.{the_lemmas as shape_lemmas}
+use Rattle.gql_base.specs.declared.error.Error.{Error}
+use Rattle.gql_base.specs.declared.path_segment.PathSegment.TheVariants.{Field}
+use Rattle.gql_place.specs.Answered.{answered}
+use Rattle.gql_place.specs.Faults.{located}
+use Rattle.gql_place.specs.Filled.{Outcome}
+use Rattle.gql_place.specs.Join.{join}
+use Rattle.gql_place.specs.declared.place.Tree.{the_lemmas as tree_lemmas}
+use Rattle.gql_place.specs.declared.shape.Shape.{Shape, the_lemmas as shape_lemmas}
+use Rattle.gql_select.specs.Grouped.{grouped, respond}
+use Rattle.gql_select.specs.Reading.{Reading}
+use Rattle.std.specs.Str.{bytes_eq}
 use Rattle.gql_place.specs.declared.shape.Shape.TheVariants as shape
 use Rattle.gql_resolve.specs.declared.field_value.FieldValue.{FieldValue, the_lemmas as given_lemmas}
 use Rattle.gql_resolve.specs.declared.field_value.FieldValue.TheVariants as kind
@@ -73,10 +85,10 @@ list_of_numbers :
 list_of_numbers = search (rules, type_lemmas, shape_lemmas, given_lemmas, value_lemmas)
 
 -- a condition on the union lets its member in
-union_covers : (setting_of table [] 1).covers (codes "U") (codes "A") ≡ true
+union_covers : (setting_of (record { table = table; entities = None }) [] 1).covers (codes "U") (codes "A") ≡ true
 union_covers = refl
 
-union_covers_no_other : (setting_of table [] 1).covers (codes "U") (codes "B") ≡ false
+union_covers_no_other : (setting_of (record { table = table; entities = None }) [] 1).covers (codes "U") (codes "B") ≡ false
 union_covers_no_other = refl
 
 -- a query of `{ __typename n }` on an object `Q` with the field `n: Int!`
@@ -96,7 +108,7 @@ query_table =
 
 abbrev execution : Bool → Execution
 execution only = record {
-  table = query_table;
+  schema = record { table = query_table; entities = Some (record { root = codes "Q"; resolver = 9 }) };
   fragments = [];
   levels = 2;
   known = λ name. value.Null;
@@ -125,3 +137,81 @@ typename_in_introspection answer = refl
 
 absent_in_introspection : (answer : Call ℕ → Answer ℕ) → named_outcome false (execution true) answer (codes "Q") own (codes "n") [] ≡ absent_outcome false (execution true)
 absent_in_introspection answer = refl
+
+-- the query root has the field of entities, where they are on, and other objects haven't
+asks_for_entities :
+    asking false (execution false) (codes "Q") own (codes "_entities") []
+    ≡ Some (record {
+      call = record { is_root = false; resolver = 9; parent = own; arguments = []; layers = [] };
+      ty = ref.NonNull (ref.List (ref.Named (codes "_Entity")));
+    })
+asks_for_entities = refl
+
+no_entities_elsewhere : asking false (execution false) (codes "A") own (codes "_entities") [] ≡ None
+no_entities_elsewhere = refl
+
+-- The query `{ o { x } o { y } }`: `o` is an object, `x` is 1, and `y` fails and may be null.
+
+data Occurrence : Type 0 where
+  o_first : Occurrence
+  o_second : Occurrence
+  x_alone : Occurrence
+  y_alone : Occurrence
+
+abbrev set_of : Occurrence → List Occurrence
+set_of o_first = x_alone ∷ []
+set_of o_second = y_alone ∷ []
+set_of _ = []
+
+abbrev key_at : Occurrence → List ℕ
+key_at o_first = codes "o"
+key_at o_second = codes "o"
+key_at x_alone = codes "x"
+key_at y_alone = codes "y"
+
+abbrev doubled : Reading ℕ (Occurrence × List Occurrence) Occurrence
+doubled = record {
+  fields = λ object set. map (λ occurrence. (occurrence, set_of occurrence)) set;
+  key = λ f. key_at f.0;
+  set = λ f. f.1;
+  both = λ f g. (f.0, f.1 ++ g.1);
+  alike = λ f g. bytes_eq (key_at f.0) (key_at g.0);
+  objects = λ object f. [];
+}
+
+abbrev place : Pos
+place = record { line = 1; column = 3 }
+
+abbrev bad : Error
+bad = record { message = codes "bad"; extensions = None }
+
+abbrev shape_at : Occurrence → Shape ℕ ℕ
+shape_at x_alone = shape.Leaf (value.Number (pos 1))
+shape_at y_alone = shape.Fault bad
+shape_at _ = shape.Object 0 0
+
+abbrev comes : ℕ → ℕ → Occurrence × List Occurrence → Outcome ℕ ℕ
+comes object parent f = record { non_null = false; added = []; headers = []; shape = shape_at f.0 }
+
+abbrev merged_members : Members
+merged_members = grouped doubled (answered doubled (λ f. place) comes) 2 0 0 (o_first ∷ o_second ∷ [])
+
+abbrev apart_members : Members
+apart_members = respond doubled (answered doubled (λ f. place) comes) join 2 0 0 (o_first ∷ o_second ∷ [])
+
+abbrev data_due : Value
+data_due = value.Object ((codes "o", value.Object ((codes "x", value.Number (pos 1)) ∷ (codes "y", value.Null) ∷ [])) ∷ [])
+
+-- one object stands under the doubled key, with the fields of both sets
+doubled_merged : (response place merged_members).value ≡ data_due
+doubled_merged = search (rules, shape_lemmas, tree_lemmas)
+
+doubled_apart : (response place apart_members).value ≡ data_due
+doubled_apart = search (rules, shape_lemmas, tree_lemmas)
+
+-- the error is told once, at its path
+doubled_told : (response place merged_members).errors ≡ located place (Field (codes "o") ∷ Field (codes "y") ∷ []) bad ∷ []
+doubled_told = search (rules, shape_lemmas, tree_lemmas)
+
+doubled_told_apart : (response place apart_members).errors ≡ located place (Field (codes "o") ∷ Field (codes "y") ∷ []) bad ∷ []
+doubled_told_apart = search (rules, shape_lemmas, tree_lemmas)

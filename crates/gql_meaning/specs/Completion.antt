@@ -24,19 +24,20 @@ use Rattle.gql_resolve.specs.declared.field_value.FieldValue.{FieldValue, out-Fi
 use Rattle.gql_resolve.specs.declared.field_value.FieldValue.TheOpen.{FieldValue-F}
 use Rattle.gql_resolve.specs.declared.field_value.FieldValue.TheVariants as kind
 use Rattle.gql_schema.specs.Enum.{items_of}
+use Rattle.gql_schema.specs.Faults.{is_known_object}
 use Rattle.gql_schema.specs.NameSet.{is_among}
 use Rattle.gql_schema.specs.Scalar.{rule_of}
 use Rattle.gql_schema.specs.ScalarRule.{takes}
-use Rattle.gql_schema.specs.TableReading.{TypeTable, has_type, is_object}
+use Rattle.gql_schema.specs.TableReading.{TypeTable, has_type}
 use Rattle.gql_schema.specs.declared.scalar_rule.ScalarRule.{ScalarRule}
 use Rattle.gql_schema.specs.declared.schema_type.SchemaType.{SchemaType}
 use Rattle.gql_schema.specs.declared.schema_type.SchemaType.TheVariants as types
 
--- The texts of the faults.
-
+-- nothing where a value is due
 abbrev pub no_value : List ℕ
 no_value = codes "internal: non-null types require a return value"
 
+-- what is no list where a list is due
 abbrev pub no_array : List ℕ
 no_array = codes "internal: expects an array"
 
@@ -53,19 +54,21 @@ pub record AbstractTexts : Type 0 where
   pub unnamed : List ℕ
   pub foreign : List ℕ → List ℕ
 
+-- an interface that the object doesn't implement
 abbrev pub interface_texts : List ℕ → AbstractTexts
 interface_texts name = record {
   unnamed = codes "internal: invalid value for interface \"" ++ (name ++ codes "\", expected \"FieldValue::WithType\"");
   foreign = λ object. codes "internal: object \"" ++ (object ++ (codes "\" does not implement interface \"" ++ (name ++ codes "\"")));
 }
 
+-- a union that the object isn't a member of
 abbrev pub union_texts : List ℕ → AbstractTexts
 union_texts name = record {
   unnamed = codes "internal: invalid value for union \"" ++ (name ++ codes "\", expected \"FieldValue::WithType\"");
   foreign = λ object. codes "internal: union \"" ++ (name ++ (codes "\" does not contain object \"" ++ (object ++ codes "\"")));
 }
 
--- the value that a leaf of the scalar of this name shows: a number of the type `ID` as its decimal text (section 3.5.5)
+-- a number of the type `ID` is shown as its decimal text (section 3.5.5)
 abbrev pub shown_number : List ℕ → ℤ → Value
 shown_number name number = if bytes_eq name (codes "ID") then value.String (signed_decimal number) else value.Number number
 
@@ -73,14 +76,11 @@ abbrev pub shown_here : List ℕ → Value → Value-F Value → Value
 shown_here name whole (Value-F.Number number) = shown_number name number
 shown_here name whole _ = whole
 
+-- the value that a leaf of the scalar of this name shows
 abbrev pub shown : List ℕ → Value → Value
 shown name whole = shown_here name whole (out-Value whole)
 
--- whether an object, of those that the table has, is one of those that a type can be
-abbrev pub is_known_object : Option SchemaType → Bool
-is_known_object None = false
-is_known_object (Some ty) = is_object ty
-
+-- whether an object of the table is one of those that a type can be
 abbrev pub is_possible : TypeTable → List ℕ → List ℕ → Bool
 is_possible table type object = is_known_object (under object table) && has_type table type object
 
@@ -148,13 +148,16 @@ module _ {V : Type 0} where
   required_here whole Shape-F.Absent = fault no_value
   required_here whole _ = whole
 
+  -- a non-null type: what its type comes to, where that is anything
   abbrev pub required : Completed V → Completed V
   required whole = required_here whole (out-Shape (List ℕ) (FieldValue V) whole)
 
+  -- a list: each of its items, completed at the type of items
   abbrev pub at_items : Completing V → Option (List (FieldValue V)) → Completed V
   at_items inner None = fault no_array
   at_items inner (Some items) = shape.List inner.non_null (map (λ item. inner.completes (Some item)) items)
 
+  -- no value is absent
   abbrev pub if_given : (FieldValue V → Completed V) → Option (FieldValue V) → Completed V
   if_given completes None = shape.Absent
   if_given completes (Some given) = completes given
@@ -165,9 +168,11 @@ module _ {V : Type 0} where
   completing_step table (TypeRef-F.NonNull inner) = record { non_null = true; completes = λ given. required (inner.completes given) }
   completing_step table (TypeRef-F.List inner) = record { non_null = false; completes = if_given (λ given. unless_null given (at_items inner (all_items_in given))) }
 
+  -- CompleteValue at a type
   abbrev pub completing : TypeTable → TypeRef → Completing V
   completing table = fold-TypeRef (Completing V) (completing_step table)
 
+  -- what a value, if any, comes to
   abbrev pub completed : TypeTable → TypeRef → Option (FieldValue V) → Completed V
   completed table ty = (completing table ty).completes
 
@@ -177,6 +182,6 @@ module _ {V : Type 0} where
   shape_of table ty (Ok given) = completed table ty given
 
   -- an answer to a field of a type, with the errors and header operations beside it
-  abbrev pub outcome_of : TypeTable → TypeRef → Answer V → Outcome (List ℕ) (FieldValue V)
-  outcome_of table ty answer =
+  abbrev pub outcome_at : TypeTable → TypeRef → Answer V → Outcome (List ℕ) (FieldValue V)
+  outcome_at table ty answer =
       record { non_null = not (is_nullable ty); added = answer.added; headers = answer.headers; shape = shape_of table ty answer.result }

@@ -17,12 +17,13 @@ use Rattle.gql_select.specs.Alike.{arguments_of, name_of}
 use Rattle.gql_select.specs.Constants.{constants}
 use Rattle.gql_select.specs.Grouped.{grouped}
 
+-- the sum of numbers
 abbrev pub total : List ℕ → ℕ
 total [] = 0
 total (n ∷ ns) = n + total ns
 
 module _ {O P : Type 0} where
-  -- the objects of a shape with their values, as often as they stand
+  -- one level of a shape
   abbrev pub parents_step : Shape-F O P (List (O × P)) → List (O × P)
   parents_step Shape-F.Absent = []
   parents_step (Shape-F.Leaf leaf) = []
@@ -30,6 +31,7 @@ module _ {O P : Type 0} where
   parents_step (Shape-F.Object object parent) = (object, parent) ∷ []
   parents_step (Shape-F.List non_null items) = flat_map (λ parents. parents) items
 
+  -- the objects of a shape with their values, as often as they stand
   abbrev pub parents_in : Shape O P → List (O × P)
   parents_in = fold-Shape O P (List (O × P)) parents_step
 
@@ -44,7 +46,7 @@ module _ {V : Type 0} (execution : Execution) (answer : Call V → Answer V) whe
   count_at object parent field below =
       one_if
       (asking false execution object parent (name_of field)
-      (constants execution.known (declared_arguments execution.table object (name_of field)) (arguments_of field)))
+      (constants execution.known (declared_arguments execution.schema object (name_of field)) (arguments_of field)))
       + total (map (λ inner. total (values_of (below inner.0 inner.1))) (parents_in (field_outcome false execution answer object parent field).shape))
 
   -- the number of answers that a query asks

@@ -7,21 +7,20 @@ use Rattle.gql_base.specs.declared.value.Value.TheVariants as value
 use Rattle.gql_doc.specs.Depth.{Fragments}
 use Rattle.gql_doc.specs.declared.document.Field.{Field}
 use Rattle.gql_doc.specs.declared.document.Positioned.{Positioned}
-use Rattle.gql_meaning.specs.Completion.{outcome_of}
-use Rattle.gql_meaning.specs.TableSetting.{declared_arguments, setting_of}
+use Rattle.gql_meaning.specs.Completion.{outcome_at}
+use Rattle.gql_meaning.specs.TableSetting.{declared_arguments, field_in, Schema, setting_of}
 use Rattle.gql_place.specs.Filled.{Outcome}
 use Rattle.gql_place.specs.Laws.{outcome_of as outcome_named}
 use Rattle.gql_place.specs.declared.shape.Shape.TheVariants as shape
 use Rattle.gql_resolve.specs.Call.{Call}
 use Rattle.gql_resolve.specs.declared.answer.Answer.{Answer}
 use Rattle.gql_resolve.specs.declared.field_value.FieldValue.{FieldValue}
-use Rattle.gql_schema.specs.TableReading.{Declared, TypeTable, field}
+use Rattle.gql_schema.specs.TableReading.{Declared}
 use Rattle.gql_select.specs.Collected.{Setting}
 
 -- what an execution knows, but for answers and worlds
 pub record Execution : Type 0 where
-  -- the types of the schema
-  pub table : TypeTable
+  pub schema : Schema
   -- the fragments of the document, as they are written
   pub fragments : Fragments
   -- how many levels of sets and fragments are entered
@@ -35,7 +34,7 @@ pub record Execution : Type 0 where
 
 -- what the fields of the document are read by, before anything is skipped
 abbrev pub setting_in : Execution → Setting
-setting_in execution = setting_of execution.table execution.fragments execution.levels
+setting_in execution = setting_of execution.schema execution.fragments execution.levels
 
 -- the field that tells the name of an object (section 4.1)
 abbrev pub is_typename : List ℕ → Bool
@@ -59,7 +58,7 @@ module _ {V : Type 0} (is_root : Bool) (execution : Execution) where
   -- what the field of a name asks, if anything: `__typename` asks nothing, and in introspection-only mode no field does
   abbrev pub asking : List ℕ → FieldValue V → List ℕ → List (List ℕ × Value) → Option (Asking V)
   asking object parent name arguments =
-      if execution.only_introspection || is_typename name then None else option_and_then (asking_at parent arguments) (field execution.table object name)
+      if execution.only_introspection || is_typename name then None else option_and_then (asking_at parent arguments) (field_in execution.schema object name)
 
   -- the name of an object, which is never null
   abbrev pub typename_outcome : List ℕ → Outcome (List ℕ) (FieldValue V)
@@ -70,9 +69,10 @@ module _ {V : Type 0} (is_root : Bool) (execution : Execution) where
   absent_outcome = record { non_null = false; added = []; headers = []; shape = shape.Absent }
 
   module _ (answer : Call V → Answer V) where
+    -- what an answer comes to at its type, where one is asked
     abbrev pub answered_outcome : Option (Asking V) → Outcome (List ℕ) (FieldValue V)
     answered_outcome None = absent_outcome
-    answered_outcome (Some asked) = outcome_of execution.table asked.ty (answer asked.call)
+    answered_outcome (Some asked) = outcome_at execution.schema.table asked.ty (answer asked.call)
 
     -- what the field of a name comes to
     abbrev pub named_outcome : List ℕ → FieldValue V → List ℕ → List (List ℕ × Value) → Outcome (List ℕ) (FieldValue V)
@@ -81,4 +81,4 @@ module _ {V : Type 0} (is_root : Bool) (execution : Execution) where
 
     -- what an occurrence comes to, at the constants of its arguments
     abbrev pub field_outcome : List ℕ → FieldValue V → Positioned Field → Outcome (List ℕ) (FieldValue V)
-    field_outcome = outcome_named execution.known (setting_in execution) (declared_arguments execution.table) named_outcome
+    field_outcome = outcome_named execution.known (setting_in execution) (declared_arguments execution.schema) named_outcome

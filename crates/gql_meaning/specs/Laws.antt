@@ -1,5 +1,5 @@
 -- The laws on what execution means.
-use Rattle.std.specs.Prelude.{◌≡◌, ℕ, suc, true, List, [], Option, Result}
+use Rattle.std.specs.Prelude.{◌≡◌, ℕ, suc, true, List, [], length, Option, Result}
 use Rattle.std.specs.List.{Contains}
 use Rattle.gql_base.specs.TypeRef.{innermost}
 use Rattle.gql_base.specs.declared.error.Error.{Error}
@@ -9,7 +9,7 @@ use Rattle.gql_doc.specs.declared.document.Positioned.{Positioned}
 use Rattle.gql_meaning.specs.Completion.{shape_of}
 use Rattle.gql_meaning.specs.Counted.{asked_count}
 use Rattle.gql_meaning.specs.Execution.{Execution, setting_in}
-use Rattle.gql_meaning.specs.Responses.{Asked, asking_keys, last_world, mutation_apart, mutation_merged, query_apart, query_merged, world_after}
+use Rattle.gql_meaning.specs.Responses.{Asked, asking_keys, last_world, mutation_apart, mutation_merged, query_apart, query_merged, world_behind_first}
 use Rattle.gql_place.specs.Filled.{objects_in}
 use Rattle.gql_resolve.specs.Call.{Call}
 use Rattle.gql_resolve.specs.declared.answer.Answer.{Answer}
@@ -17,7 +17,6 @@ use Rattle.gql_resolve.specs.declared.field_value.FieldValue.{FieldValue}
 use Rattle.gql_schema.specs.TableReading.{TypeTable, possible}
 use Rattle.gql_select.specs.Conflicts.{conflicts}
 use Rattle.gql_select.specs.Documents.{reading}
-use Rattle.gql_select.specs.Grouped.{world_behind}
 
 -- an answer comes to objects alone that its type can be
 abbrev pub CompletionFits : (V : Type 0) → Type 0
@@ -39,14 +38,26 @@ MutationApartIsMerged V W E =
     → conflicts (reading (setting_in execution)) told (suc levels) asked.object asked.selections ≡ []
     → mutation_apart execution effect answer levels asked world ≡ mutation_merged execution effect answer levels asked world
 
--- root keys that ask no answer leave the world as it was
+-- the world behind all root keys that ask an answer is the last one: the others leave the world as it was
 abbrev pub OnlyAnswersChangeWorlds : (V W : Type 0) → Type 0
 OnlyAnswersChangeWorlds V W =
     (execution : Execution) (effect : Call V → W → W) (asked : Asked V) (world : W)
-    → last_world execution effect asked world ≡ world_behind (world_after execution effect asked) world (asking_keys execution asked)
+    → last_world execution effect asked world ≡ world_behind_first execution effect (length (asking_keys execution asked)) asked world
 
 -- in introspection-only mode no answer is asked
 abbrev pub IntrospectionAsksNothing : (V : Type 0) → Type 0
 IntrospectionAsksNothing V =
     (execution : Execution) (answer : Call V → Answer V) (levels : ℕ) (asked : Asked V) → execution.only_introspection ≡ true
     → asked_count execution answer levels asked ≡ 0
+
+-- so the places are the same, whatever would be answered
+abbrev pub IntrospectionNeedsNoAnswer : (V : Type 0) → Type 0
+IntrospectionNeedsNoAnswer V =
+    (execution : Execution) (answer other : Call V → Answer V) (levels : ℕ) (asked : Asked V) → execution.only_introspection ≡ true
+    → query_merged execution answer levels asked ≡ query_merged execution other levels asked
+
+-- and a mutation leaves the world as it was
+abbrev pub IntrospectionChangesNoWorld : (V W : Type 0) → Type 0
+IntrospectionChangesNoWorld V W =
+    (execution : Execution) (effect : Call V → W → W) (asked : Asked V) (world : W) → execution.only_introspection ≡ true
+    → last_world execution effect asked world ≡ world

@@ -41,6 +41,7 @@ pub record Asked (V : Type 0) : Type 0 where
 abbrev pub kept_reading : Execution → Reading (List ℕ) (Positioned Field) (Positioned Selection)
 kept_reading execution = reading (kept_setting execution.known (setting_in execution))
 
+-- what `@skip` and `@include` leave of the selections
 abbrev pub kept_in : {V : Type 0} → Execution → Asked V → List (Positioned Selection)
 kept_in execution asked = kept execution.known asked.selections
 
@@ -62,7 +63,7 @@ module _ {V : Type 0} (execution : Execution) where
   abbrev pub root_asking : Asked V → Positioned Field → Option (Asking V)
   root_asking asked field =
       asking true execution asked.object asked.parent (name_of field)
-      (constants execution.known (declared_arguments execution.table asked.object (name_of field)) (arguments_of field))
+      (constants execution.known (declared_arguments execution.schema asked.object (name_of field)) (arguments_of field))
 
   -- the root keys in their order, each merged over its occurrences
   abbrev pub root_keys : Asked V → List (List ℕ × Positioned Field)
@@ -73,6 +74,7 @@ module _ {V : Type 0} (execution : Execution) where
   asking_keys asked = filter (λ key. is_some (root_asking asked key.1)) (root_keys asked)
 
   module _ {W : Type 0} (effect : Call V → W → W) where
+    -- the world that what is asked, if anything, leaves
     abbrev pub world_of : W → Option (Asking V) → W
     world_of world None = world
     world_of world (Some asking) = effect asking.call world
@@ -81,10 +83,11 @@ module _ {V : Type 0} (execution : Execution) where
     abbrev pub world_after : Asked V → W → Positioned Field → W
     world_after asked world field = world_of world (root_asking asked field)
 
-    -- the world behind the whole mutation, and the one behind its first root keys that ask an answer
+    -- the world behind the whole mutation
     abbrev pub last_world : Asked V → W → W
     last_world asked world = world_behind (world_after asked) world (root_keys asked)
 
+    -- the world behind so many of its root keys that ask an answer
     abbrev pub world_behind_first : ℕ → Asked V → W → W
     world_behind_first count asked world = world_behind (world_after asked) world (take count (asking_keys asked))
 
@@ -106,11 +109,12 @@ abbrev pub root_place : Pos → Members → Place
 root_place pos members = record { pos = pos; non_null = false; added = []; headers = []; tree = tree.Object members }
 
 -- a response (section 7.1), with what is done to the headers of the HTTP response
-pub record Shown : Type 0 where
+pub record Response : Type 0 where
   -- its data
   pub value : Value
   pub errors : List ServerError
   pub headers : List HeaderOp
 
-abbrev pub shown : Pos → Members → Shown
-shown pos members = record { value = raised (root_place pos members); errors = faults_of (root_place pos members); headers = ops_of (root_place pos members) }
+-- the response that these members make, whose operation stands at this place
+abbrev pub response : Pos → Members → Response
+response pos members = record { value = raised (root_place pos members); errors = faults_of (root_place pos members); headers = ops_of (root_place pos members) }

@@ -1,6 +1,7 @@
 //! Laws on what execution means. Each is the contract of a function without parameters.
 
-ghost use Rattle.gql_meaning.specs.Laws.{CompletionFits, IntrospectionAsksNothing, MutationApartIsMerged, OnlyAnswersChangeWorlds, QueryApartIsMerged};
+ghost use Rattle.gql_meaning.specs.Laws.{CompletionFits, IntrospectionAsksNothing, IntrospectionChangesNoWorld, IntrospectionNeedsNoAnswer};
+ghost use Rattle.gql_meaning.specs.Laws.{MutationApartIsMerged, OnlyAnswersChangeWorlds, QueryApartIsMerged};
 
 /// An answer comes to objects alone that the type of its field can be (GraphQL, October 2021, section 6.4.3).
 pub fn completion_fits<V>()
@@ -18,7 +19,7 @@ pub fn mutation_apart_is_merged<V, W, E>()
     ensures { MutationApartIsMerged V W E }
 {}
 
-/// The world behind a mutation is the one behind its root keys that ask an answer.
+/// The world behind a mutation is the one behind all of its root keys that ask an answer.
 pub fn only_answers_change_worlds<V, W>()
     ensures { OnlyAnswersChangeWorlds V W }
 {}
@@ -26,4 +27,14 @@ pub fn only_answers_change_worlds<V, W>()
 /// In introspection-only mode no answer is asked.
 pub fn introspection_asks_nothing<V>()
     ensures { IntrospectionAsksNothing V }
+{}
+
+/// So the places are the same, whatever would be answered.
+pub fn introspection_needs_no_answer<V>()
+    ensures { IntrospectionNeedsNoAnswer V }
+{}
+
+/// And a mutation leaves the world as it was.
+pub fn introspection_changes_no_world<V, W>()
+    ensures { IntrospectionChangesNoWorld V W }
 {}
