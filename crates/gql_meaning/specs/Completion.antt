@@ -72,6 +72,7 @@ union_texts name = record {
 abbrev pub shown_number : List ℕ → ℤ → Value
 shown_number name number = if bytes_eq name (codes "ID") then value.String (signed_decimal number) else value.Number number
 
+-- one level of it: what isn't a number stays as it is
 abbrev pub shown_here : List ℕ → Value → Value-F Value → Value
 shown_here name whole (Value-F.Number number) = shown_number name number
 shown_here name whole _ = whole
@@ -108,6 +109,7 @@ module _ {V : Type 0} where
   named_here (FieldValue-F.WithType inner ty) = Some (ty, inner)
   named_here _ = None
 
+  -- the same of a whole value
   abbrev pub named_in : FieldValue V → Option (List ℕ × FieldValue V)
   named_in given = named_here (out-FieldValue V given)
 

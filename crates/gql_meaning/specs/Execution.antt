@@ -25,7 +25,7 @@ pub record Execution : Type 0 where
   pub fragments : Fragments
   -- how many levels of sets and fragments are entered
   pub levels : ℕ
-  -- what each variable stands for
+  -- what each variable stands for: the request's value, else its default, else null
   pub known : List ℕ → Value
   -- the data of each layer, in the order of search
   pub layers : List (List (ℕ × Value))

@@ -28,6 +28,7 @@ abbrev pub beneath_items : ℕ → List AtPath → AtPath
 beneath_items index [] path = []
 beneath_items index (item ∷ items) path = item (path ++ Index index ∷ []) ++ beneath_items (index + 1) items path
 
+-- the errors of what stands at a place at this position: its fault, or those beneath it
 abbrev pub tree_step : Tree-F (Pos → AtPath) AtPath → Pos → AtPath
 tree_step Tree-F.Absent pos path = []
 tree_step (Tree-F.Leaf leaf) pos path = []
@@ -39,15 +40,19 @@ tree_step (Tree-F.List items) pos path = beneath_items 0 items path
 abbrev pub place_step : Place-F (Pos → AtPath) AtPath → AtPath
 place_step place path = map (located place.pos path) place.added ++ place.tree place.pos path
 
+-- the errors of a place and of all beneath it
 abbrev pub faults_at : Place → AtPath
 faults_at = fold-Place (Pos → AtPath) AtPath tree_step place_step
 
+-- the errors of what stands at a place
 abbrev pub tree_faults : Tree → Pos → AtPath
 tree_faults = fold-Tree (Pos → AtPath) AtPath tree_step place_step
 
+-- the errors of the members of an object at a path
 abbrev pub member_faults : List (List ℕ × Place) → AtPath
 member_faults members path = beneath_members (map (λ m. (m.0, faults_at m.1)) members) path
 
+-- the errors of the items of a list at a path
 abbrev pub item_faults : List Place → AtPath
 item_faults items path = beneath_items 0 (map faults_at items) path
 

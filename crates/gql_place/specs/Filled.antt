@@ -16,6 +16,7 @@ abbrev pub item_of : Pos → Bool → Tree → Place
 item_of pos non_null tree = record { pos = pos; non_null = non_null; added = []; headers = []; tree = tree }
 
 module _ {O P : Type 0} where
+  -- one level of a shape: an object has the members beneath it, and items have places of their own
   abbrev pub fill_step : Pos → (O → P → List (List ℕ × Place)) → Shape-F O P Tree → Tree
   fill_step pos below Shape-F.Absent = tree.Absent
   fill_step pos below (Shape-F.Leaf leaf) = tree.Leaf leaf
@@ -35,6 +36,7 @@ module _ {O P : Type 0} where
   objects_step (Shape-F.Object object parent) = object ∷ []
   objects_step (Shape-F.List non_null items) = flat_map (λ objects. objects) items
 
+  -- the objects that stand in a shape
   abbrev pub objects_in : Shape O P → List O
   objects_in = fold-Shape O P (List O) objects_step
 

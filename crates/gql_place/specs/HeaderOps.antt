@@ -7,6 +7,7 @@ use Rattle.gql_place.specs.declared.place.Tree.{Tree}
 use Rattle.gql_place.specs.declared.place.Tree.TheOpen.{Tree-F, Place-F}
 use Rattle.gql_place.specs.declared.place.Tree.TheFolds.{fold-Place, fold-Tree}
 
+-- the operations of what stands at a place: those of the places beneath it
 abbrev pub tree_step : Tree-F (List HeaderOp) (List HeaderOp) → List HeaderOp
 tree_step Tree-F.Absent = []
 tree_step (Tree-F.Leaf leaf) = []
@@ -14,11 +15,14 @@ tree_step (Tree-F.Fault error) = []
 tree_step (Tree-F.Object members) = flat_map (λ member. member.1) members
 tree_step (Tree-F.List items) = flat_map (λ ops. ops) items
 
+-- a place's own operations, then those beneath it
 abbrev pub place_step : Place-F (List HeaderOp) (List HeaderOp) → List HeaderOp
 place_step place = place.headers ++ place.tree
 
+-- the operations of a place and of all beneath it
 abbrev pub ops_of : Place → List HeaderOp
 ops_of = fold-Place (List HeaderOp) (List HeaderOp) tree_step place_step
 
+-- the operations of what stands at a place
 abbrev pub tree_ops : Tree → List HeaderOp
 tree_ops = fold-Tree (List HeaderOp) (List HeaderOp) tree_step place_step

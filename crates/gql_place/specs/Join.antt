@@ -12,6 +12,7 @@ use Rattle.gql_place.specs.declared.place.Tree.TheFolds.{fold-Place, fold-Tree}
 abbrev pub OntoPlace : Type 0
 OntoPlace = Option Place → Place
 
+-- the same of what stands at a place
 abbrev pub OntoTree : Type 0
 OntoTree = Option Tree → Tree
 
@@ -26,14 +27,17 @@ onto_items [] others = []
 onto_items (item ∷ items) [] = item ∷ items
 onto_items (item ∷ items) (other ∷ others) = other (Some item) ∷ onto_items items others
 
+-- the members of an object come onto a first tree that is an object; another stays
 abbrev pub onto_object : List (List ℕ × OntoPlace) → Tree → Tree-F Tree Place → Tree
 onto_object parts first (Tree-F.Object members) = tree.Object (onto_members members parts)
 onto_object parts first _ = first
 
+-- the items of a list come onto a first tree that is a list; another stays
 abbrev pub onto_list : List OntoPlace → Tree → Tree-F Tree Place → Tree
 onto_list others first (Tree-F.List items) = tree.List (onto_items items others)
 onto_list others first _ = first
 
+-- what stands at the second place, onto what stands at the first: two objects and two lists are united, of all others the first stays
 abbrev pub tree_step : Tree-F OntoTree OntoPlace → OntoTree
 tree_step Tree-F.Absent None = tree.Absent
 tree_step (Tree-F.Leaf leaf) None = tree.Leaf leaf
@@ -49,9 +53,11 @@ abbrev pub place_step : Place-F OntoTree OntoPlace → OntoPlace
 place_step second None = record { pos = second.pos; non_null = second.non_null; added = second.added; headers = second.headers; tree = second.tree None }
 place_step second (Some first) = record first { tree = second.tree (Some first.tree) }
 
+-- a place, onto the first
 abbrev pub placed_onto : Place → OntoPlace
 placed_onto = fold-Place OntoTree OntoPlace tree_step place_step
 
+-- what stands at a place, onto what stands at the first
 abbrev pub tree_onto : Tree → OntoTree
 tree_onto = fold-Tree OntoTree OntoPlace tree_step place_step
 
@@ -59,6 +65,7 @@ tree_onto = fold-Tree OntoTree OntoPlace tree_step place_step
 abbrev pub join : Place → Place → Place
 join first second = placed_onto second (Some first)
 
+-- what stands at two places of one key, joined
 abbrev pub join_trees : Tree → Tree → Tree
 join_trees first second = tree_onto second (Some first)
 

@@ -40,6 +40,7 @@ MutationPlacesApartAreMerged O P F X W =
 -- what a request's fields come to: an answer is asked of an object, its value, a field's name and the values of its arguments
 module _ {P : Type 0} (known : List ℕ → Value) (setting : Setting) (declared : List ℕ → List ℕ → List Declared)
     (answer : List ℕ → P → List ℕ → List (List ℕ × Value) → Outcome (List ℕ) P) where
+  -- what an occurrence comes to
   abbrev pub outcome_of : List ℕ → P → Positioned Field → Outcome (List ℕ) P
   outcome_of object parent field =
       answer object parent (name_of field) (constants known (declared object (name_of field)) (arguments_of field))

@@ -15,6 +15,7 @@ null_if non_null (Some found) = Some found
 null_if true None = None
 null_if false None = Some value.Null
 
+-- a value before the others, where those are there
 abbrev pub with_first : {A : Type 0} → A → Option (List A) → Option (List A)
 with_first first None = None
 with_first first (Some rest) = Some (first ∷ rest)
@@ -37,6 +38,7 @@ tree_step (Tree-F.Fault error) = None
 tree_step (Tree-F.Object members) = option_map value.Object (all_members members)
 tree_step (Tree-F.List items) = option_map value.List (all_items items)
 
+-- the value of what stands at a place, or null where there is none and null may stand
 abbrev pub place_step : Place-F (Option Value) (Option Value) → Option Value
 place_step place = null_if place.non_null place.tree
 
@@ -44,12 +46,15 @@ place_step place = null_if place.non_null place.tree
 abbrev pub value_at : Place → Option Value
 value_at = fold-Place (Option Value) (Option Value) tree_step place_step
 
+-- the value of what stands at a place
 abbrev pub tree_value : Tree → Option Value
 tree_value = fold-Tree (Option Value) (Option Value) tree_step place_step
 
+-- the values of the items of a list, or none where one is wanting
 abbrev pub item_values : List Place → Option (List Value)
 item_values items = all_items (map value_at items)
 
+-- the values of the members of an object, or none where one is wanting
 abbrev pub member_values : List (List ℕ × Place) → Option (List (List ℕ × Value))
 member_values members = all_members (map (λ m. (m.0, value_at m.1)) members)
 
