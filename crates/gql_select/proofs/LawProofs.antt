@@ -19,7 +19,8 @@ apart_is_merged O P F X Pl = λ reading is place join placing n o p set agree. r
 
 pub mutation_apart_is_merged : (O P F X Pl W : Type 0) → MutationApartIsMerged O P F X Pl W
 mutation_apart_is_merged O P F X Pl W =
-    λ reading is effect place join placing n o p set world agree. serial_same reading is effect place join placing n o p set world agree
+    λ reading is effect root place join rooting placing n o p set world agree.
+    serial_same reading is effect root place join rooting placing n o p set world agree
 
 pub documents_are_read : DocumentsAreRead
 documents_are_read = is_reading

@@ -40,11 +40,12 @@ in_turn_same effect one other S same world (m ∷ ms) all =
     λ i. (m.0, same world (effect world m.1) m.1 all.0 i) ∷ in_turn_same effect one other S same (effect world m.1) ms all.1 i
 
 module _ {O P F X Pl W : Type 0} (reading : Reading O F X) (is : IsReading reading) (effect : W → F → W)
-    (place : W → O → P → F → (O → P → List (List ℕ × Pl)) → Pl) (join : Pl → Pl → Pl) (placing : (w : W) → IsPlacing reading (place w) join) where
+    (root place : W → O → P → F → (O → P → List (List ℕ × Pl)) → Pl) (join : Pl → Pl → Pl)
+    (rooting : (w : W) → IsPlacing reading (root w) join) (placing : (w : W) → IsPlacing reading (place w) join) where
   pub serial_same : (n : ℕ) (o : O) (p : P) (set : List X) (world : W) → Agree reading (suc n) o set set
-      → serial_respond reading effect place join n o p set world ≡ serial_grouped reading effect place n o p set world
+      → serial_respond reading effect root place join n o p set world ≡ serial_grouped reading effect root place n o p set world
   serial_same n o p set world agree =
       in_turn_same effect _ _ (AgreesBeneath reading is n o)
-      (λ w v f beneath. (placing w).same o p f _ _
+      (λ w v f beneath. (rooting w).same o p f _ _
       (λ inner parent at. respond_grouped reading is (place v) join (placing v) n inner parent (reading.set f) (beneath inner at)))
       world (merged reading (reading.fields o set)) (merged_agree reading is n o set agree)

@@ -10,9 +10,11 @@ use Rattle.gql_doc.specs.declared.document.Field.{Field, out-Field}
 use Rattle.gql_doc.specs.declared.document.Positioned.{Positioned}
 use Rattle.gql_select.specs.Constants.{given}
 
+-- the name of a field, which its alias doesn't change
 abbrev pub name_of : Positioned Field → List ℕ
 name_of field = (out-Field field.node).name.node
 
+-- its arguments as they are written
 abbrev pub arguments_of : Positioned Field → List Argument
 arguments_of field = (out-Field field.node).arguments
 
@@ -28,5 +30,6 @@ abbrev pub same_arguments : List Argument → List Argument → Bool
 same_arguments one other =
     list_all (λ argument. same_written (given argument.name.node one) (given argument.name.node other)) (one ++ other)
 
+-- whether two occurrences ask the same
 abbrev pub alike : Positioned Field → Positioned Field → Bool
 alike f g = bytes_eq (name_of f) (name_of g) && same_arguments (arguments_of f) (arguments_of g)

@@ -37,6 +37,7 @@ module _ (setting : Setting) (object : List ℕ) (deeper : List (Positioned Sele
   fields_under None selections = deeper selections
   fields_under (Some condition) selections = if setting.covers condition.node object then deeper selections else []
 
+  -- the fields of a fragment in place
   abbrev pub fields_of_inline : InlineFragment → List (Positioned Field)
   fields_of_inline fragment = fields_under (out-InlineFragment fragment).type_condition (selections_of (out-InlineFragment fragment).selection_set)
 
@@ -52,5 +53,6 @@ collect_within setting zero object selections = []
 collect_within setting (suc left) object selections =
     flat_map (λ selection. fields_of setting object (collect_within setting left object) (out-Selection selection.node)) selections
 
+-- CollectFields: an object's fields in the selections
 abbrev pub collect : Setting → List ℕ → List (Positioned Selection) → List (Positioned Field)
 collect setting object selections = collect_within setting setting.levels object selections

@@ -17,6 +17,7 @@ module _ {O F X : Type 0} (reading : Reading O F X) where
   abbrev pub both_alike : F → F → F
   both_alike f g = if reading.alike f g then reading.both f g else f
 
+  -- the occurrences of each key that are like its first one, as one field
   abbrev pub agreeing : List F → List (List ℕ × F)
   agreeing fs = unite_all both_alike [] (keyed reading fs)
 
@@ -26,6 +27,7 @@ module _ {O F X : Type 0} (reading : Reading O F X) where
     first_differing m [] = []
     first_differing m (f ∷ fs) = if bytes_eq (reading.key f) m.0 && not (reading.alike m.1 f) then told f ∷ [] else first_differing m fs
 
+    -- what is told of each key of a set that has unlike occurrences, and of the sets beneath, on each object that is possible there
     abbrev pub conflicts : ℕ → O → List X → List E
     conflicts zero o set = []
     conflicts (suc n) o set =

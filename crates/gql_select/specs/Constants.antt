@@ -18,6 +18,7 @@ abbrev pub default_in : Option (Positioned VariableDefinition) → Option Value
 default_in None = None
 default_in (Some definition) = option_map (λ default. default.node) definition.node.default
 
+-- the default of a variable, by the first definition of its name
 abbrev pub default_of : List ℕ → List (Positioned VariableDefinition) → Option Value
 default_of name definitions = default_in (find (λ definition. bytes_eq definition.node.name.node name) definitions)
 
@@ -36,6 +37,7 @@ value_step known (DocValue-F.Enum name) = value.Enum name
 value_step known (DocValue-F.List items) = value.List items
 value_step known (DocValue-F.Object members) = value.Object members
 
+-- a value with what its variables stand for
 abbrev pub resolved : (List ℕ → Value) → DocValue → Value
 resolved known = fold-DocValue Value (value_step known)
 

@@ -20,6 +20,7 @@ with_selections field selections =
 abbrev pub both : Positioned Field → Positioned Field → Positioned Field
 both f g = record { pos = f.pos; node = with_selections f.node (own_selections f ++ own_selections g) }
 
+-- how the sets of a document are read
 abbrev pub reading : Setting → Reading (List ℕ) (Positioned Field) (Positioned Selection)
 reading setting = record {
   fields = collect setting;

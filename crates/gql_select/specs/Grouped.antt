@@ -18,6 +18,7 @@ module _ {O P F X Pl : Type 0} (reading : Reading O F X) (place : O → P → F 
     respond (suc n) o p set =
         unite_all join [] (over (λ f. place o p f (λ inner parent. respond n inner parent (reading.set f))) (keyed reading (reading.fields o set)))
 
+    -- what is asked of the places of fields: they hang on what is beneath possible objects alone, and two that ask the same join as one
     pub record IsPlacing : Type 0 where
       pub same : (o : O) (p : P) (f : F) (b c : O → P → List (List ℕ × Pl))
           → ((inner : O) (parent : P) → Contains (reading.objects o f) inner → b inner parent ≡ c inner parent) → place o p f b ≡ place o p f c
@@ -27,6 +28,7 @@ module _ {O P F X Pl : Type 0} (reading : Reading O F X) (place : O → P → F 
 -- the fields of a mutation's root, one after another (section 6.2.2): each is answered in the world that those before it left, and what
 -- is beneath it in the world that it leaves itself
 module _ {F Pl W : Type 0} (effect : W → F → W) (placed : W → W → F → Pl) where
+  -- the places of the fields under their keys
   abbrev pub in_turn : W → List (List ℕ × F) → List (List ℕ × Pl)
   in_turn world [] = []
   in_turn world (m ∷ ms) = (m.0, placed world (effect world m.1) m.1) ∷ in_turn (effect world m.1) ms
@@ -36,15 +38,16 @@ abbrev pub world_behind : {F W : Type 0} → (W → F → W) → W → List (Lis
 world_behind effect world [] = world
 world_behind effect world (m ∷ ms) = world_behind effect (effect world m.1) ms
 
-module _ {O P F X Pl W : Type 0} (reading : Reading O F X) (effect : W → F → W) (place : W → O → P → F → (O → P → List (List ℕ × Pl)) → Pl) where
+-- a mutation answers its root keys by one function, and what is beneath them by another
+module _ {O P F X Pl W : Type 0} (reading : Reading O F X) (effect : W → F → W) (root place : W → O → P → F → (O → P → List (List ℕ × Pl)) → Pl) where
   -- a mutation whose keys below the root are answered once each too
   abbrev pub serial_grouped : ℕ → O → P → List X → W → List (List ℕ × Pl)
   serial_grouped n o p set world =
-      in_turn effect (λ before behind f. place before o p f (λ inner parent. grouped reading (place behind) n inner parent (reading.set f))) world
+      in_turn effect (λ before behind f. root before o p f (λ inner parent. grouped reading (place behind) n inner parent (reading.set f))) world
       (merged reading (reading.fields o set))
 
   -- a mutation whose occurrences below the root are answered apart
   abbrev pub serial_respond : (Pl → Pl → Pl) → ℕ → O → P → List X → W → List (List ℕ × Pl)
   serial_respond join n o p set world =
-      in_turn effect (λ before behind f. place before o p f (λ inner parent. respond reading (place behind) join n inner parent (reading.set f))) world
+      in_turn effect (λ before behind f. root before o p f (λ inner parent. respond reading (place behind) join n inner parent (reading.set f))) world
       (merged reading (reading.fields o set))

@@ -19,9 +19,11 @@ use Rattle.gql_doc.specs.declared.document.SelectionSet.{SelectionSet, roll-Sele
 use Rattle.gql_select.specs.Collected.{Setting}
 use Rattle.gql_select.specs.Constants.{given, resolved}
 
+-- the directive `@skip`
 abbrev pub is_skip : Directive → Bool
 is_skip directive = bytes_eq directive.name.node (codes "skip")
 
+-- the directive `@include`
 abbrev pub is_include : Directive → Bool
 is_include directive = bytes_eq directive.name.node (codes "include")
 
@@ -39,6 +41,7 @@ allows known directive =
     if is_skip directive then unwrap_or (option_map not (condition known directive)) true else
     (if is_include directive then unwrap_or (condition known directive) true else true)
 
+-- whether all directives of a selection leave it in the document
 abbrev pub is_kept : (List ℕ → Value) → List (Positioned Directive) → Bool
 is_kept known directives = list_all (λ directive. allows known directive.node) directives
 
@@ -47,12 +50,15 @@ abbrev pub others : List (Positioned Directive) → List (Positioned Directive)
 others directives = filter (λ directive. not (is_skip directive.node || is_include directive.node)) directives
 
 module _ (known : List ℕ → Value) where
+  -- a selection, where its directives leave it
   abbrev pub kept_if : {A : Type 0} → List (Positioned Directive) → A → Option A
   kept_if directives node = if is_kept known directives then Some node else None
 
+  -- a field without the two directives
   abbrev pub other_field : Field → Field
   other_field field = roll-Field (record (out-Field field) { directives = others (out-Field field).directives })
 
+  -- a fragment in place without them
   abbrev pub other_inline : InlineFragment → InlineFragment
   other_inline fragment = roll-InlineFragment (record (out-InlineFragment fragment) { directives = others (out-InlineFragment fragment).directives })
 
@@ -66,21 +72,26 @@ module _ (known : List ℕ → Value) where
   selection_step (Selection-F.InlineFragment fragment) =
       kept_if (out-InlineFragment fragment.node).directives (selection.InlineFragment (record { pos = fragment.pos; node = other_inline fragment.node }))
 
+  -- a field whose set was looked at
   abbrev pub field_step : Field-F (Option Selection) Field InlineFragment SelectionSet → Field
   field_step field =
       roll-Field
       (record { alias = field.alias; name = field.name; arguments = field.arguments; directives = field.directives; selection_set = field.selection_set })
 
+  -- a fragment in place whose set was looked at
   abbrev pub inline_step : InlineFragment-F (Option Selection) Field InlineFragment SelectionSet → InlineFragment
   inline_step fragment =
       roll-InlineFragment (record { type_condition = fragment.type_condition; directives = fragment.directives; selection_set = fragment.selection_set })
 
+  -- a selection at its place, where it is left
   abbrev pub if_kept : Positioned (Option Selection) → Option (Positioned Selection)
   if_kept selection = option_map (λ node. record { pos = selection.pos; node = node }) selection.node
 
+  -- a set with the selections that are left
   abbrev pub set_step : SelectionSet-F (Option Selection) Field InlineFragment SelectionSet → SelectionSet
   set_step set = roll-SelectionSet (record { items = filter_map if_kept set.items })
 
+  -- a selection with what is left beneath it, or none
   abbrev pub kept_selection : Selection → Option Selection
   kept_selection = fold-Selection (Option Selection) Field InlineFragment SelectionSet selection_step field_step inline_step set_step
 
@@ -88,6 +99,7 @@ module _ (known : List ℕ → Value) where
   abbrev pub kept_field : Field → Field
   kept_field = fold-Field (Option Selection) Field InlineFragment SelectionSet selection_step field_step inline_step set_step
 
+  -- a fragment in place of which the set is kept
   abbrev pub kept_inline : InlineFragment → InlineFragment
   kept_inline = fold-InlineFragment (Option Selection) Field InlineFragment SelectionSet selection_step field_step inline_step set_step
 
@@ -95,15 +107,18 @@ module _ (known : List ℕ → Value) where
   abbrev pub kept_set : SelectionSet → SelectionSet
   kept_set = fold-SelectionSet (Option Selection) Field InlineFragment SelectionSet selection_step field_step inline_step set_step
 
+  -- what is left of selections
   abbrev pub kept : List (Positioned Selection) → List (Positioned Selection)
   kept selections = filter_map (λ selection. if_kept (record { pos = selection.pos; node = kept_selection selection.node })) selections
 
+  -- a fragment of which the set is kept
   abbrev pub kept_fragment : Positioned FragmentDefinition → Positioned FragmentDefinition
   kept_fragment fragment = record {
     pos = fragment.pos;
     node = record fragment.node { selection_set = record { pos = fragment.node.selection_set.pos; node = kept_set fragment.node.selection_set.node } };
   }
 
+  -- all fragments of a document
   abbrev pub kept_fragments : Fragments → Fragments
   kept_fragments fragments = map (λ pair. (pair.0, kept_fragment pair.1)) fragments
 

@@ -29,9 +29,10 @@ ApartIsMerged O P F X Pl =
 -- the same of a mutation, whose root keys change the world one after another
 abbrev pub MutationApartIsMerged : (O P F X Pl W : Type 0) → Type 0
 MutationApartIsMerged O P F X Pl W =
-    (reading : Reading O F X) → IsReading reading → (effect : W → F → W) (place : W → O → P → F → (O → P → List (List ℕ × Pl)) → Pl) (join : Pl → Pl → Pl)
-    → ((world : W) → IsPlacing reading (place world) join) → (n : ℕ) (o : O) (p : P) (set : List X) (world : W) → Agree reading (suc n) o set set
-    → serial_respond reading effect place join n o p set world ≡ serial_grouped reading effect place n o p set world
+    (reading : Reading O F X) → IsReading reading → (effect : W → F → W) (root place : W → O → P → F → (O → P → List (List ℕ × Pl)) → Pl) (join : Pl → Pl → Pl)
+    → ((world : W) → IsPlacing reading (root world) join) → ((world : W) → IsPlacing reading (place world) join)
+    → (n : ℕ) (o : O) (p : P) (set : List X) (world : W) → Agree reading (suc n) o set set
+    → serial_respond reading effect root place join n o p set world ≡ serial_grouped reading effect root place n o p set world
 
 -- the sets of documents are read as the laws above ask
 abbrev pub DocumentsAreRead : Type 0

@@ -3,6 +3,7 @@
 use Rattle.std.specs.Prelude.{◌≡◌, ℕ, Bool, true, List, [], ◌∷◌, ◌++◌, map}
 use Rattle.gql_base.specs.Pairs.{unite_all}
 
+-- the readings that the laws speak of: fields, their keys and sets, and what two occurrences of one key have in common
 pub record Reading (O F X : Type 0) : Type 0 where
   -- the occurrences of fields that an object has in a set, in document order
   pub fields : O → List X → List F

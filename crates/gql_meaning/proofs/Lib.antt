@@ -1,0 +1,4 @@
+pub mod CompletionLemmas
+pub mod ExecutionLemmas
+pub mod LawProofs
+mod Rows

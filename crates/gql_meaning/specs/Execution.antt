@@ -1,0 +1,84 @@
+-- What a field of a request asks, and what comes of the answer (GraphQL, October 2021, sections 6.4.1 to 6.4.3).
+use Rattle.std.specs.Prelude.{ℕ, ◌||◌, Bool, true, false, List, [], Option, Some, None, option_and_then, option_map, if◌then◌else◌, codes}
+use Rattle.std.specs.Str.{bytes_eq}
+use Rattle.gql_base.specs.declared.type_ref.TypeRef.{TypeRef}
+use Rattle.gql_base.specs.declared.value.Value.{Value}
+use Rattle.gql_base.specs.declared.value.Value.TheVariants as value
+use Rattle.gql_doc.specs.Depth.{Fragments}
+use Rattle.gql_doc.specs.declared.document.Field.{Field}
+use Rattle.gql_doc.specs.declared.document.Positioned.{Positioned}
+use Rattle.gql_meaning.specs.Completion.{outcome_at}
+use Rattle.gql_meaning.specs.TableSetting.{declared_arguments, field_in, Schema, setting_of}
+use Rattle.gql_place.specs.Filled.{Outcome}
+use Rattle.gql_place.specs.Laws.{outcome_of as outcome_named}
+use Rattle.gql_place.specs.declared.shape.Shape.TheVariants as shape
+use Rattle.gql_resolve.specs.Call.{Call}
+use Rattle.gql_resolve.specs.declared.answer.Answer.{Answer}
+use Rattle.gql_resolve.specs.declared.field_value.FieldValue.{FieldValue}
+use Rattle.gql_schema.specs.TableReading.{Declared}
+use Rattle.gql_select.specs.Collected.{Setting}
+
+-- what an execution knows, but for answers and worlds
+pub record Execution : Type 0 where
+  pub schema : Schema
+  -- the fragments of the document, as they are written
+  pub fragments : Fragments
+  -- how many levels of sets and fragments are entered
+  pub levels : ℕ
+  -- what each variable stands for: the request's value, else its default, else null
+  pub known : List ℕ → Value
+  -- the data of each layer, in the order of search
+  pub layers : List (List (ℕ × Value))
+  -- whether only `__typename` is answered
+  pub only_introspection : Bool
+
+-- what the fields of the document are read by, before anything is skipped
+abbrev pub setting_in : Execution → Setting
+setting_in execution = setting_of execution.schema execution.fragments execution.levels
+
+-- the field that tells the name of an object (section 4.1)
+abbrev pub is_typename : List ℕ → Bool
+is_typename name = bytes_eq name (codes "__typename")
+
+-- an answer that is asked: its call, and the type that it is completed at
+pub record Asking (V : Type 0) : Type 0 where
+  pub call : Call V
+  pub ty : TypeRef
+
+module _ {V : Type 0} (is_root : Bool) (execution : Execution) where
+  -- the call of a declared field with these arguments, on an object of this value
+  abbrev pub asking_at : FieldValue V → List (List ℕ × Value) → Declared → Option (Asking V)
+  asking_at parent arguments declared =
+      option_map
+      (λ resolver. record {
+        call = record { is_root = is_root; resolver = resolver; parent = parent; arguments = arguments; layers = execution.layers };
+        ty = declared.ty;
+      }) declared.number
+
+  -- what the field of a name asks, if anything: `__typename` asks nothing, and in introspection-only mode no field does
+  abbrev pub asking : List ℕ → FieldValue V → List ℕ → List (List ℕ × Value) → Option (Asking V)
+  asking object parent name arguments =
+      if execution.only_introspection || is_typename name then None else option_and_then (asking_at parent arguments) (field_in execution.schema object name)
+
+  -- the name of an object, which is never null
+  abbrev pub typename_outcome : List ℕ → Outcome (List ℕ) (FieldValue V)
+  typename_outcome object = record { non_null = true; added = []; headers = []; shape = shape.Leaf (value.String object) }
+
+  -- where nothing is asked nothing stands
+  abbrev pub absent_outcome : Outcome (List ℕ) (FieldValue V)
+  absent_outcome = record { non_null = false; added = []; headers = []; shape = shape.Absent }
+
+  module _ (answer : Call V → Answer V) where
+    -- what an answer comes to at its type, where one is asked
+    abbrev pub answered_outcome : Option (Asking V) → Outcome (List ℕ) (FieldValue V)
+    answered_outcome None = absent_outcome
+    answered_outcome (Some asked) = outcome_at execution.schema.table asked.ty (answer asked.call)
+
+    -- what the field of a name comes to
+    abbrev pub named_outcome : List ℕ → FieldValue V → List ℕ → List (List ℕ × Value) → Outcome (List ℕ) (FieldValue V)
+    named_outcome object parent name arguments =
+        if is_typename name then typename_outcome object else answered_outcome (asking object parent name arguments)
+
+    -- what an occurrence comes to, at the constants of its arguments
+    abbrev pub field_outcome : List ℕ → FieldValue V → Positioned Field → Outcome (List ℕ) (FieldValue V)
+    field_outcome = outcome_named execution.known (setting_in execution) (declared_arguments execution.schema) named_outcome

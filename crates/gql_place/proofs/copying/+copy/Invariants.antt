@@ -1,0 +1,9 @@
+use Rattle.std.proofs.Common.{◌≡◌, take}
+use Rattle.gql_base.specs.Pairs.{values_of}
+use Rattle.gql_place.proofs.copying.+copy.Given as goal
+
+abbrev pub invariant-copy_items-loop-item : goal.invariant-copy_items-loop-item
+invariant-copy_items-loop-item l = l.copies ≡ take l.item-index l.items
+
+abbrev pub invariant-copy_members-loop-index : goal.invariant-copy_members-loop-index
+invariant-copy_members-loop-index l = l.places.items ≡ values_of (take l.index l.members)

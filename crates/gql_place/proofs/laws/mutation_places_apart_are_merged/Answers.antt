@@ -1,0 +1,5 @@
+use Rattle.gql_place.proofs.LawProofs.{mutation_places_apart_are_merged as law}
+use Rattle.gql_place.proofs.laws.mutation_places_apart_are_merged.Goals as goal
+
+pub returns : goal.returns
+returns g c = law _ _ _ _ _

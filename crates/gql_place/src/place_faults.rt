@@ -1,0 +1,132 @@
+ghost use Rattle.std.specs.Prelude.{◌≡◌, ◌++◌, IfOk, OnOk, map};
+ghost use Rattle.gql_place.specs.Faults.{faults_of, faults_at, tree_faults, member_faults, item_faults, located};
+
+use crate::place::{Place, Tree};
+use gql_base::{Copied, Error, Items, Made, Pairs, PathSegment, Pos, ServerError, Text};
+use std::alloc::Global;
+
+/// The errors of a response: of each place the added ones, then its fault, then those beneath it in their order, also
+/// beneath what is null. Each has the path of its place and the position of its field (GraphQL, October 2021, section 7.1.2).
+pub fn faults(alloc: Global, place: &Place) -> Made<Items<ServerError>>
+    ensures { IfOk result (λ errors. errors ≡ faults_of place.now) }
+{
+    let mut path = Items::new(alloc);
+    let mut errors = Items::new(alloc);
+    push_place(alloc, &mut errors, &mut path, place)?;
+    Ok(errors)
+}
+
+#[cycle(faults)]
+fn push_place(
+    alloc: Global,
+    errors: &mut Items<ServerError>,
+    path: &mut Items<PathSegment>,
+    place: &Place,
+) -> Made<()>
+    ensures found { OnOk result (errors.new ≡ errors.old ++ faults_at place.now path.old) }
+    ensures path { OnOk result (path.new ≡ path.old) }
+{
+    push_added(
+        alloc,
+        errors,
+        path.as_slice(),
+        place.pos,
+        place.added.as_slice(),
+    )?;
+    push_tree(alloc, errors, path, place.pos, &place.tree)
+}
+
+/// An error at a path and a position.
+fn error_at(alloc: Global, error: &Error, pos: Pos, path: &[PathSegment]) -> Made<ServerError>
+    ensures { IfOk result (λ made. made ≡ located pos path.now error.now) }
+{
+    let mut locations = Items::new(alloc);
+    locations.push(pos)?;
+    Ok(ServerError {
+        message: error.message.try_clone(alloc)?,
+        locations,
+        path: copied_path(alloc, path)?,
+        extensions: error.extensions.try_clone(alloc)?,
+    })
+}
+
+fn copied_path(alloc: Global, path: &[PathSegment]) -> Made<Items<PathSegment>>
+    ensures { IfOk result (λ copy. copy ≡ path.now) }
+{
+    let mut copy = Items::new(alloc);
+    for segment in path {
+        copy.push(segment.try_clone(alloc)?)?;
+    }
+    Ok(copy)
+}
+
+fn push_added(
+    alloc: Global,
+    errors: &mut Items<ServerError>,
+    path: &[PathSegment],
+    pos: Pos,
+    added: &[Error],
+) -> Made<()>
+    ensures { OnOk result (errors.new ≡ errors.old ++ map (located pos path.now) added.now) }
+{
+    for error in added {
+        errors.push(error_at(alloc, error, pos, path)?)?;
+    }
+    Ok(())
+}
+
+#[cycle(faults)]
+fn push_tree(
+    alloc: Global,
+    errors: &mut Items<ServerError>,
+    path: &mut Items<PathSegment>,
+    pos: Pos,
+    tree: &Tree,
+) -> Made<()>
+    ensures found { OnOk result (errors.new ≡ errors.old ++ tree_faults tree.now pos path.old) }
+    ensures path { OnOk result (path.new ≡ path.old) }
+{
+    match tree {
+        Tree::Absent | Tree::Leaf(_) => Ok(()),
+        Tree::Fault(error) => errors.push(error_at(alloc, error, pos, path.as_slice())?),
+        Tree::Object(members) => push_members(alloc, errors, path, members),
+        Tree::List(items) => push_items(alloc, errors, path, items.as_slice()),
+    }
+}
+
+#[cycle(faults)]
+fn push_members(
+    alloc: Global,
+    errors: &mut Items<ServerError>,
+    path: &mut Items<PathSegment>,
+    members: &Pairs<Place>,
+) -> Made<()>
+    ensures found { OnOk result (errors.new ≡ errors.old ++ member_faults members.now path.old) }
+    ensures path { OnOk result (path.new ≡ path.old) }
+{
+    for index in 0..members.len() {
+        let (key, member) = members.at(index);
+        path.push(PathSegment::Field(Text::new(alloc, key)?))?;
+        push_place(alloc, errors, path, member)?;
+        path.pop();
+    }
+    Ok(())
+}
+
+#[cycle(faults)]
+fn push_items(
+    alloc: Global,
+    errors: &mut Items<ServerError>,
+    path: &mut Items<PathSegment>,
+    items: &[Place],
+) -> Made<()>
+    ensures found { OnOk result (errors.new ≡ errors.old ++ item_faults items.now path.old) }
+    ensures path { OnOk result (path.new ≡ path.old) }
+{
+    for (index, item) in items.iter().enumerate() {
+        path.push(PathSegment::Index(index))?;
+        push_place(alloc, errors, path, item)?;
+        path.pop();
+    }
+    Ok(())
+}
