@@ -1,1 +1,2 @@
+mod EnumLemmas
 pub mod LeftLemmas

@@ -1,3 +1,6 @@
 pub mod AccessFault
 pub mod Accessor
 pub mod Iterators
+pub mod InputType
+pub mod InputValueError
+pub mod EnumType
