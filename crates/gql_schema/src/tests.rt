@@ -222,7 +222,7 @@ fn a_circle_of_inputs_is_refused_at_its_first(rt: HostRuntime) -> Result<(), Fai
     let mut types = Types::new(alloc);
     chain(alloc, &mut types, 0, 10000, 10000)?;
     chain(alloc, &mut types, 30000, 40000, 40000)?;
-    chain(alloc, &mut types, 10000, 20000, 10000)?;
+    chain(alloc, &mut types, 10000, 10100, 10000)?;
     types.register(alloc, fork(alloc, 10000, 10001, 30000)?)?;
     types.register(alloc, fork(alloc, 40000, 40001, 40001)?)?;
     let plain = InputValue::new(alloc, "a", TypeRef::named_nn(alloc, "Int")?)?;
@@ -326,6 +326,11 @@ fn entity_table(alloc: Global) -> Made<Types> {
     let union_type = Union::new(alloc, "U")?.possible_type(alloc, "O")?;
     types.register(alloc, SchemaType::Union(union_type))?;
     Ok(types)
+}
+
+/// The number of a field's resolver, or none where there is no such field.
+fn number_at(types: &Types, type_name: &str, field_name: &str) -> Option<u32> {
+    types.field(type_name, field_name)?.number
 }
 
 #[test]
