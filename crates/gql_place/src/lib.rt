@@ -10,6 +10,7 @@ mod place_faults;
 mod place_headers;
 mod raising;
 mod shape;
+mod shared;
 
 pub use joining::join;
 pub use place::{Place, Tree};
