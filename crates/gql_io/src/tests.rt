@@ -8,39 +8,33 @@ use std::alloc::Global;
 use std::io::pipe;
 use std::test::Fail;
 
-/// What a reading found: the number of bytes that are those of a text, or a negative number.
-fn found<I: Source>(alloc: Global, source: &mut I, text: &str) -> Made<i64> {
+/// Whether a source is read whole, and gives this text.
+fn gives<I: Source>(alloc: Global, source: &mut I, text: &str) -> Made<bool> {
     match read_whole(alloc, source)? {
-        Reading::Whole(bytes) if bytes.as_slice() == text.as_bytes() => Ok(text.len() as i64),
-        Reading::Whole(_) => Ok(-1),
-        Reading::TooLong => Ok(-2),
-        Reading::Failed => Ok(-3),
+        Reading::Whole(bytes) => Ok(bytes.as_slice() == text.as_bytes()),
+        Reading::TooLong | Reading::Failed => Ok(false),
     }
 }
 
-/// What reading a text finds, three bytes at once, where the read of this number fails.
-fn found_in_memory(alloc: Global, failing: u64) -> Made<i64> {
+/// Whether six bytes are read, three at once, where the read of this number fails.
+fn memory_gives(alloc: Global, failing: u64) -> Made<bool> {
     let bytes = Items::from_slice(alloc, b"source")?;
     let mut source = MemorySource::new(bytes, 3, Items::from_slice(alloc, &[failing])?);
-    found(alloc, &mut source, "source")
+    gives(alloc, &mut source, "source")
 }
 
-fn found_surely(alloc: Global) -> Made<i64> {
+fn sure_memory_gives(alloc: Global) -> Made<bool> {
     let bytes = Items::from_slice(alloc, b"source")?;
     let mut source = SureSource::new(bytes, 5);
-    found(alloc, &mut source, "source")
+    gives(alloc, &mut source, "source")
 }
 
 #[test]
 fn sources_in_memory(rt: HostRuntime) -> Result<(), Fail> {
-    for (failing, count) in [(0, -3), (1, -3), (2, -3), (3, 6)] {
-        assert_eq!(rt;
-            found_in_memory(rt.alloc(), failing)?,
-            count,
-            "at {failing}"
-        );
+    for (failing, whole) in [(0, false), (1, false), (2, false), (3, true)] {
+        assert_eq!(rt; memory_gives(rt.alloc(), failing)?, whole, "at {failing}");
     }
-    assert_eq!(rt; found_surely(rt.alloc())?, 6);
+    assert!(rt; sure_memory_gives(rt.alloc())?);
     Ok(())
 }
 
@@ -53,7 +47,7 @@ fn holds(alloc: Global, failing: u64, text: &str) -> Made<bool> {
 
 fn holds_surely(alloc: Global) -> bool {
     let mut sink = SureSink::new(alloc, 3);
-    write_whole(&mut sink, b"sink").is_ok() && sink.held() == b"sink"
+    write_whole(&mut sink, b"sink").is_ok() && sink.held() == b"sink".as_slice()
 }
 
 #[test]
@@ -72,6 +66,6 @@ fn streams_of_std(rt: HostRuntime) -> Result<(), Fail> {
     assert!(rt; write_whole(&mut sink, b"stream").is_ok());
     drop(sink);
     let mut source = StdSource::new(input);
-    assert_eq!(rt; found(rt.alloc(), &mut source, "stream")?, 6);
+    assert!(rt; gives(rt.alloc(), &mut source, "stream")?);
     Ok(())
 }
