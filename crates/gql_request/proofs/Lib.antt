@@ -2,3 +2,5 @@ pub mod PathLemmas
 pub mod KeyTreeLemmas
 pub mod DataLemmas
 pub mod NestLemmas
+pub mod BatchLemmas
+pub mod ResponseLemmas

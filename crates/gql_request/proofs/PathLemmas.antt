@@ -1,5 +1,5 @@
 -- The proper prefixes of a path, and those of its longest one.
-use Rattle.std.proofs.Common.{◌≡◌, ℕ, zero, suc, ◌-◌, ◌<◌, ◌≤◌, List, [], ◌∷◌, take, length, refl, ap, sym, ◌∙◌, arith, length-take-le, subst}
+use Rattle.std.proofs.Common.{◌≡◌, ℕ, zero, suc, ◌-◌, ◌<◌, ◌≤◌, List, [], ◌∷◌, take, length, refl, ap, sym, arith, length-take-le, subst}
 use Rattle.std.proofs.lemmas.List.{take-take}
 use Rattle.gql_request.specs.Path.{prefixes_from, proper_prefixes}
 

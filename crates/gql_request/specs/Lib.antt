@@ -3,3 +3,10 @@ pub mod KeyTree
 pub mod Path
 pub mod Parents
 pub mod QueryEnv
+pub mod Reading
+pub mod ParseRequestError
+pub mod Request
+pub mod BatchRequest
+pub mod Requests
+pub mod Response
+pub mod BatchResponse

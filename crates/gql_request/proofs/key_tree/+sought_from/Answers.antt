@@ -1,4 +1,4 @@
-use Rattle.std.proofs.Common.{◌≡◌, ◌+◌, ◌*◌, ◌%◌, ◌<◌, ◌∙◌, ap, arith, rules, length, slice_get, Some, None}
+use Rattle.std.proofs.Common.{◌≡◌, ◌∙◌, ap, arith, slice_get, Some}
 use Rattle.std.proofs.lemmas.Option.{slice_get-get_or, get_or_from_slice_get}
 use Rattle.gql_request.specs.KeyTree.{end_of, link_at}
 use Rattle.gql_request.proofs.KeyTreeLemmas.{found_here, found_nowhere, leads_on, finds_on, ends_here}

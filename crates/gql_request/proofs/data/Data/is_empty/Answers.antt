@@ -1,4 +1,4 @@
-use Rattle.std.proofs.Common.{◌≡◌, ◌↔◌, ℕ, [], length, arith, sym, vec_len}
+use Rattle.std.proofs.Common.{arith, vec_len}
 use Rattle.std.proofs.lemmas.Grind.{common_steps}
 use Rattle.gql_request.proofs.DataLemmas.{none_among}
 use Rattle.gql_request.proofs.data.Data.is_empty.Goals as goal
