@@ -46,4 +46,4 @@ pub use type_form::{
     EnumTypeForm, InputForm, InterfaceForm, ObjectForm, ScalarForm, SubscriptionForm, TypeForm,
     UnionForm,
 };
-pub use work_form::{RequestForm, WorkForm};
+pub use work_form::WorkForm;

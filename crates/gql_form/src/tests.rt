@@ -37,6 +37,9 @@ fn members_of_a_bench(rt: HostRuntime) -> Result<(), Fail> {
         (",\"hooks\":\"all\"", "hooks"),
         (",\"hooks\":null", "hooks"),
         (",\"request\":{\"extra\":[1.5]}", "request.extra[0]"),
+        (",\"request\":5", "request"),
+        (",\"request\":{\"query\":1}", "request"),
+        (",\"request\":{\"variables\":[]}", "request"),
         (",\"requests\":[]", "requests"),
         (",\"ws\":{}", "ws"),
         (",\"z\":1,\"b.\\n\":1", "b.\n"),
@@ -79,6 +82,11 @@ fn whole_benches(rt: HostRuntime) -> Result<(), Fail> {
             Command::Threads,
             "{\"schema\":{\"query\":\"Q\",\"types\":[]},\"requests\":[{}]}",
             "good",
+        ),
+        (
+            Command::Batch,
+            "{\"schema\":{\"query\":\"Q\",\"types\":[]},\"requests\":[]}",
+            "requests",
         ),
         (
             Command::Ws,

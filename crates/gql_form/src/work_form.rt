@@ -1,43 +1,67 @@
 //! What a command does with a bench.
 ghost use Rattle.std.specs.Prelude.{◌≡◌};
 ghost use Rattle.serde_json.specs.View.{view};
+ghost use Rattle.gql_base.specs.declared.read_json.EnumForm.TheVariants.{Plain};
+ghost use Rattle.gql_base.specs.ReadJson.{read_in};
 ghost use Rattle.gql_form.specs.Faults.{IsRead};
 ghost use Rattle.gql_form.specs.WorkForm.{own_word, work_in};
 
 use crate::command::Command;
 use crate::fault::Fault;
 use crate::form::{Form, Reader};
-use crate::kit::member;
+use crate::kit::{bad, member};
 use crate::session_form::SessionForm;
 use gql_base::{EnumForm, Value, read_value};
+use gql_request::{BatchRequest, ParseRequestError, Request};
 use serde_json::Value as Json;
-
-/// A request, or several, as a value.
-#[derive(Debug, Drop)]
-pub struct RequestForm {
-    pub value: Value,
-}
 
 /// What a command does with a bench.
 #[derive(Debug, Drop)]
 pub enum WorkForm {
     /// It answers a request.
-    One(RequestForm),
+    One(Request),
     /// It answers a batch of requests.
-    Batch(RequestForm),
+    Batch(BatchRequest),
     /// It plays a WebSocket session.
     Session(SessionForm),
 }
 
-impl Form for RequestForm {
-    ghost use Rattle.gql_form.specs.WorkForm.{request_of};
+/// A value, as which requests are read first.
+fn read_plain(reader: Reader, json: &Json) -> Result<Value, Fault>
+    ensures { IsRead result (read_in Plain (view json.now)) }
+{
+    match read_value(reader.alloc, EnumForm::Plain, json)? {
+        Ok(value) => Ok(value),
+        Err(place) => Err(Fault::Bad(place)),
+    }
+}
 
-    ghost reading = { λ cells. request_of };
+impl Form for Request {
+    ghost use Rattle.gql_form.specs.WorkForm.{request_in};
 
-    fn read(reader: Reader, json: &Json) -> Result<RequestForm, Fault> {
-        match read_value(reader.alloc, EnumForm::Plain, json)? {
-            Ok(value) => Ok(RequestForm { value }),
-            Err(place) => Err(Fault::Bad(place)),
+    ghost reading = { λ cells. request_in };
+
+    fn read(reader: Reader, json: &Json) -> Result<Request, Fault> {
+        let value = read_plain(reader, json)?;
+        match Request::from_json(reader.alloc, &value)? {
+            Ok(request) => Ok(request),
+            Err(ParseRequestError::InvalidRequest(_)) => bad(reader),
+            Err(ParseRequestError::UnsupportedBatch) => bad(reader),
+        }
+    }
+}
+
+impl Form for BatchRequest {
+    ghost use Rattle.gql_form.specs.WorkForm.{batch_in};
+
+    ghost reading = { λ cells. batch_in };
+
+    fn read(reader: Reader, json: &Json) -> Result<BatchRequest, Fault> {
+        let value = read_plain(reader, json)?;
+        match BatchRequest::from_json(reader.alloc, &value)? {
+            Ok(batch) => Ok(batch),
+            Err(ParseRequestError::InvalidRequest(_)) => bad(reader),
+            Err(ParseRequestError::UnsupportedBatch) => bad(reader),
         }
     }
 }
