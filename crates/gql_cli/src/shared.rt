@@ -1,7 +1,5 @@
-//! The public types can be moved to threads and shared between them, where what they are made of can.
-use crate::{
-    Command, ListTurns, Outcome, Rule, RuleKind, Status, Table, TableFuture, TableMaker, Written,
-};
+//! The public types that hold no values can be moved to threads and shared between them.
+use crate::{Command, ListTurns, Outcome, Status, TableFuture, Written};
 
 fn shared<T: Send + Sync>() {}
 
@@ -9,11 +7,7 @@ fn public_types() {
     shared::<Command>();
     shared::<ListTurns>();
     shared::<Outcome>();
-    shared::<Rule>();
-    shared::<RuleKind>();
     shared::<Status>();
-    shared::<Table>();
     shared::<TableFuture>();
-    shared::<TableMaker>();
     shared::<Written>();
 }
