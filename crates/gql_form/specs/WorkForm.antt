@@ -1,5 +1,5 @@
 -- What a command does with a bench: it has one member that is the command's own.
-use Rattle.std.specs.Prelude.{ℕ, List, codes, Result, Ok, Err}
+use Rattle.std.specs.Prelude.{ℕ, List, [], codes, Result, Ok, Err}
 use Rattle.serde_json.specs.Data.{Data}
 use Rattle.gql_base.specs.ReadJson.{Reading, read_in}
 use Rattle.gql_base.specs.declared.read_json.EnumForm.TheVariants.{Plain}
