@@ -2,8 +2,6 @@
 #![tactic(auto)]
 
 mod answer_form;
-#[cfg(test)]
-mod answer_tests;
 mod answered;
 mod bench_form;
 mod command;
@@ -21,11 +19,7 @@ mod rule_form;
 mod scalar_rule;
 mod schema_form;
 mod session_form;
-#[cfg(test)]
-mod tests;
 mod type_form;
-#[cfg(test)]
-mod type_tests;
 mod type_text;
 mod work_form;
 
