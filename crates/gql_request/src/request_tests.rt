@@ -42,32 +42,50 @@ fn mode_text(mode: IntrospectionMode) -> &'static str {
     }
 }
 
-fn built(alloc: Global) -> Made<Request> {
-    let request = Request::new(alloc, "{ a }")?.operation_name(alloc, "A")?;
-    request
-        .variables(variables(alloc, 5)?)
-        .data(DataKey(1), Value::Number(Number::from_u64(6)))
+fn named(alloc: Global) -> Made<Request> {
+    Request::new(alloc, "{ a }")?.operation_name(alloc, "A")
 }
 
-/// A built request, one to which introspection is disabled, and one that is nothing else.
-fn built_texts(alloc: Global) -> Made<[Text; 4]> {
-    let request = built(alloc)?;
-    let copy = request.try_clone(alloc)?;
-    Ok([
-        summary(alloc, &request)?,
-        summary(alloc, &copy)?,
-        summary(alloc, &request.disable_introspection())?,
-        summary(alloc, &copy.only_introspection())?,
-    ])
+fn with_variables(alloc: Global) -> Made<Request> {
+    let variables = variables(alloc, 5)?;
+    Ok(Request::new(alloc, "{ a }")?.variables(variables))
+}
+
+fn with_data(alloc: Global) -> Made<Request> {
+    Request::new(alloc, "{ a }")?.data(DataKey(1), Value::Number(Number::from_u64(6)))
+}
+
+/// A request in words, which is let go of.
+fn text_of(alloc: Global, request: Request) -> Made<Text> {
+    summary(alloc, &request)
+}
+
+fn copied_text(alloc: Global) -> Made<Text> {
+    let request = named(alloc)?;
+    text_of(alloc, request.try_clone(alloc)?)
 }
 
 #[test]
 fn requests_are_built(rt: HostRuntime) -> Result<(), Fail> {
-    let [request, copy, disabled, only] = built_texts(rt.alloc())?;
-    assert_eq!(rt; request.as_str(), "{ a } A a 5 1 6");
-    assert_eq!(rt; copy.as_str(), "{ a } A a 5 1 6");
-    assert_eq!(rt; disabled.as_str(), "{ a } A a 5 1 6 disabled");
-    assert_eq!(rt; only.as_str(), "{ a } A a 5 1 6 only");
+    let alloc = rt.alloc();
+    let name = text_of(alloc, named(alloc)?)?;
+    assert_eq!(rt; name.as_str(), "{ a } A");
+    let copy = copied_text(alloc)?;
+    assert_eq!(rt; copy.as_str(), "{ a } A");
+    let number = text_of(alloc, with_variables(alloc)?)?;
+    assert_eq!(rt; number.as_str(), "{ a } a 5");
+    let data = text_of(alloc, with_data(alloc)?)?;
+    assert_eq!(rt; data.as_str(), "{ a } 1 6");
+    Ok(())
+}
+
+#[test]
+fn requests_have_modes(rt: HostRuntime) -> Result<(), Fail> {
+    let alloc = rt.alloc();
+    let disabled = text_of(alloc, named(alloc)?.disable_introspection())?;
+    assert_eq!(rt; disabled.as_str(), "{ a } A disabled");
+    let only = text_of(alloc, named(alloc)?.only_introspection())?;
+    assert_eq!(rt; only.as_str(), "{ a } A only");
     Ok(())
 }
 
@@ -189,21 +207,33 @@ fn batches_are_read(rt: HostRuntime) -> Result<(), Fail> {
     Ok(())
 }
 
-/// Two requests with variables and data, the second of them changed.
-fn batch(alloc: Global) -> Made<BatchRequest> {
+fn two(alloc: Global) -> Made<BatchRequest> {
     let mut requests = Items::new(alloc);
     requests.push(Request::new(alloc, "x")?)?;
     requests.push(Request::new(alloc, "y")?)?;
-    let batch = BatchRequest::Batch(requests).variables(alloc, &variables(alloc, 3)?)?;
-    let mut batch = batch.data(alloc, DataKey(1), &Value::Number(Number::from_u64(4)))?;
+    Ok(BatchRequest::Batch(requests))
+}
+
+fn two_with_variables(alloc: Global) -> Made<BatchRequest> {
+    let variables = variables(alloc, 3)?;
+    two(alloc)?.variables(alloc, &variables)
+}
+
+fn two_with_data(alloc: Global) -> Made<BatchRequest> {
+    two(alloc)?.data(alloc, DataKey(1), &Value::Number(Number::from_u64(4)))
+}
+
+/// Two requests, of which the second is changed where it stands.
+fn two_changed(alloc: Global) -> Made<BatchRequest> {
+    let mut batch = two(alloc)?;
     if batch.len() == 2 {
         batch.at_mut(1).query = Text::new(alloc, "z")?;
     }
     Ok(batch)
 }
 
-/// The requests of a batch in words.
-fn words_of(alloc: Global, batch: &BatchRequest) -> Made<Text> {
+/// The requests of a batch in words, which is let go of.
+fn words_of(alloc: Global, batch: BatchRequest) -> Made<Text> {
     let mut out = String::new(alloc);
     for request in batch.iter() {
         let text = summary(alloc, request)?;
@@ -212,65 +242,67 @@ fn words_of(alloc: Global, batch: &BatchRequest) -> Made<Text> {
     Ok(Text::from_string(out))
 }
 
-fn batch_texts(alloc: Global) -> Made<[Text; 3]> {
-    let batch = batch(alloc)?;
-    let copy = batch.try_clone(alloc)?;
-    Ok([
-        words_of(alloc, &batch)?,
-        words_of(alloc, &batch.disable_introspection())?,
-        words_of(alloc, &copy.introspection_only())?,
-    ])
+fn words_of_copy(alloc: Global) -> Made<Text> {
+    let batch = two(alloc)?;
+    words_of(alloc, batch.try_clone(alloc)?)
 }
 
 #[test]
 fn batches_are_changed(rt: HostRuntime) -> Result<(), Fail> {
-    let [batch, disabled, only] = batch_texts(rt.alloc())?;
-    assert_eq!(rt; batch.as_str(), "x a 3 1 4;z a 3 1 4;");
-    assert_eq!(rt; disabled.as_str(), "x a 3 1 4 disabled;z a 3 1 4 disabled;");
-    assert_eq!(rt; only.as_str(), "x a 3 1 4 only;z a 3 1 4 only;");
+    let alloc = rt.alloc();
+    let numbers = words_of(alloc, two_with_variables(alloc)?)?;
+    assert_eq!(rt; numbers.as_str(), "x a 3;y a 3;");
+    let data = words_of(alloc, two_with_data(alloc)?)?;
+    assert_eq!(rt; data.as_str(), "x 1 4;y 1 4;");
+    let changed = words_of(alloc, two_changed(alloc)?)?;
+    assert_eq!(rt; changed.as_str(), "x;z;");
     Ok(())
 }
 
-/// The place of the only operation of what asking for a document gave, or that of the fault.
-fn column(outcome: Result<&ExecutableDocument, ParseFault>) -> usize {
+#[test]
+fn batches_have_modes(rt: HostRuntime) -> Result<(), Fail> {
+    let alloc = rt.alloc();
+    let disabled = words_of(alloc, two(alloc)?.disable_introspection())?;
+    assert_eq!(rt; disabled.as_str(), "x disabled;y disabled;");
+    let only = words_of(alloc, two(alloc)?.introspection_only())?;
+    assert_eq!(rt; only.as_str(), "x only;y only;");
+    assert_eq!(rt; words_of_copy(alloc)?.as_str(), "x;y;");
+    Ok(())
+}
+
+/// Whether asking for a document gave one whose only operation stands at this column, or a fault where that is none.
+fn stands_at(outcome: Result<&ExecutableDocument, ParseFault>, column: Option<usize>) -> bool {
     match outcome {
         Ok(document) => match &document.operations {
-            DocumentOperations::Single(operation) => operation.pos.column,
-            DocumentOperations::Multiple(_) => 0,
+            DocumentOperations::Single(operation) => column == Some(operation.pos.column),
+            DocumentOperations::Multiple(_) => false,
         },
-        Err(fault) => 100 + fault.pos.column,
+        Err(_) => column.is_none(),
     }
 }
 
-/// What asking for the document gives with each of some queries in turn, and whether one is set then.
-fn asked(alloc: Global, queries: &[&str]) -> Made<Text> {
-    let mut request = Request::new(alloc, "")?;
-    let mut out = String::new(alloc);
-    for query in queries {
-        request.query = Text::new(alloc, *query)?;
-        let place = column(request.parsed_query(alloc)?);
-        write!(out, "{place} {} ", request.has_document())?;
-    }
-    Ok(Text::from_string(out))
+/// Whether asking for the document of a query gives one at this column, and keeps it.
+fn asked(alloc: Global, query: &str, column: Option<usize>) -> Made<bool> {
+    let mut request = Request::new(alloc, query)?;
+    let stands = stands_at(request.parsed_query(alloc)?, column);
+    Ok(stands && request.has_document() == column.is_some())
 }
 
-/// The place of a document that was set, over a query that is none.
-fn set_column(alloc: Global) -> Made<usize> {
+/// Whether a document that was set is given, over a query that is none.
+fn set_first(alloc: Global) -> Made<bool> {
     let mut request = Request::new(alloc, "%")?;
     if let Ok(document) = gql_doc::parse_query(alloc, "  { a }")? {
         request.set_parsed_query(document);
     }
-    let place = column(request.parsed_query(alloc)?);
-    Ok(place)
+    let stands = stands_at(request.parsed_query(alloc)?, Some(3));
+    Ok(stands)
 }
 
 #[test]
 fn documents_are_kept(rt: HostRuntime) -> Result<(), Fail> {
     let alloc = rt.alloc();
-    assert_eq!(rt;
-        asked(alloc, &["%", " { a }", "%"])?.as_str(),
-        "101 false 2 true 2 true "
-    );
-    assert_eq!(rt; set_column(alloc)?, 3);
+    assert!(rt; asked(alloc, "%", None)?);
+    assert!(rt; asked(alloc, " { a }", Some(2))?);
+    assert!(rt; set_first(alloc)?);
     Ok(())
 }

@@ -30,39 +30,49 @@ fn headers(alloc: Global) -> Made<Items<HeaderOp>> {
     Ok(headers)
 }
 
-/// The JSON of a response with data alone, of one with errors alone, and of one with all.
-fn texts(alloc: Global) -> Made<[Text; 3]> {
+fn data_text(alloc: Global) -> Made<Text> {
+    Response::new(alloc, Value::Boolean(true)).json(alloc)
+}
+
+fn errors_text(alloc: Global) -> Made<Text> {
     let errors = ServerError::new(alloc, "bad", None)?.into_list(alloc)?;
-    Ok([
-        Response::new(alloc, Value::Boolean(true)).json(alloc)?,
-        Response::from_errors(alloc, errors).json(alloc)?,
-        response(alloc, 2)?.json(alloc)?,
-    ])
+    Response::from_errors(alloc, errors).json(alloc)
+}
+
+fn whole_text(alloc: Global) -> Made<Text> {
+    response(alloc, 2)?.json(alloc)
 }
 
 #[test]
 fn responses_are_printed(rt: HostRuntime) -> Result<(), Fail> {
-    let [data, errors, all] = texts(rt.alloc())?;
-    assert_eq!(rt; data.as_str(), "{\"data\":true}");
+    let alloc = rt.alloc();
+    assert_eq!(rt; data_text(alloc)?.as_str(), "{\"data\":true}");
     assert_eq!(rt;
-        errors.as_str(),
+        errors_text(alloc)?.as_str(),
         "{\"data\":null,\"errors\":[{\"message\":\"bad\"}]}"
     );
     assert_eq!(rt;
-        all.as_str(),
+        whole_text(alloc)?.as_str(),
         "{\"data\":{},\"extensions\":{\"a\":1,\"b\":2},\"errors\":[{\"message\":\"e\"},{\"message\":\"e\"}]}"
     );
     Ok(())
 }
 
-/// The JSON of a single response, and of two responses, with whether all of them are without errors.
-fn batch_texts(alloc: Global) -> Made<[Text; 2]> {
-    let single = BatchResponse::Single(Response::new(alloc, number(1)));
+/// The JSON of a single response, with whether it is without errors.
+fn single_text(alloc: Global) -> Made<Text> {
+    batch_text(
+        alloc,
+        BatchResponse::Single(Response::new(alloc, number(1))),
+    )
+}
+
+/// The same of two responses, of which one has an error.
+fn two_text(alloc: Global) -> Made<Text> {
     let mut responses = Items::new(alloc);
     responses.push(Response::new(alloc, number(1)))?;
     responses.push(response(alloc, 1)?)?;
     let batch = BatchResponse::Batch(responses).try_clone(alloc)?;
-    Ok([batch_text(alloc, single)?, batch_text(alloc, batch)?])
+    batch_text(alloc, batch)
 }
 
 fn batch_text(alloc: Global, batch: BatchResponse) -> Made<Text> {
@@ -72,10 +82,10 @@ fn batch_text(alloc: Global, batch: BatchResponse) -> Made<Text> {
 
 #[test]
 fn batches_are_printed(rt: HostRuntime) -> Result<(), Fail> {
-    let [single, batch] = batch_texts(rt.alloc())?;
-    assert_eq!(rt; single.as_str(), "{\"data\":1} true");
+    let alloc = rt.alloc();
+    assert_eq!(rt; single_text(alloc)?.as_str(), "{\"data\":1} true");
     assert_eq!(rt;
-        batch.as_str(),
+        two_text(alloc)?.as_str(),
         "[{\"data\":1},{\"data\":{},\"extensions\":{\"a\":1,\"b\":2},\"errors\":[{\"message\":\"e\"}]}] false"
     );
     Ok(())
