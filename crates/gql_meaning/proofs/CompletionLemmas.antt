@@ -22,10 +22,9 @@ use Rattle.gql_base.specs.Kinds.{enum_name_of}
 use Rattle.std.specs.Prelude.{option_and_then}
 use Rattle.gql_schema.specs.Enum.{items_of}
 use Rattle.gql_schema.specs.Scalar.{rule_of}
-use Rattle.gql_schema.specs.Faults.{is_known_object}
 use Rattle.gql_schema.specs.NameSet.{is_among}
 use Rattle.gql_schema.specs.ScalarRule.{takes}
-use Rattle.gql_schema.specs.TableReading.{TypeTable, has_type, is_object, possible}
+use Rattle.gql_schema.specs.TableReading.{TypeTable, has_type, is_known_object, is_object, possible}
 use Rattle.gql_schema.specs.declared.scalar_rule.ScalarRule.{ScalarRule}
 use Rattle.gql_schema.specs.declared.schema_type.SchemaType.{SchemaType}
 use Rattle.gql_schema.specs.declared.schema_type.SchemaType.TheVariants as types

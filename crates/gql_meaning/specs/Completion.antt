@@ -24,11 +24,10 @@ use Rattle.gql_resolve.specs.declared.field_value.FieldValue.{FieldValue, out-Fi
 use Rattle.gql_resolve.specs.declared.field_value.FieldValue.TheOpen.{FieldValue-F}
 use Rattle.gql_resolve.specs.declared.field_value.FieldValue.TheVariants as kind
 use Rattle.gql_schema.specs.Enum.{items_of}
-use Rattle.gql_schema.specs.Faults.{is_known_object}
 use Rattle.gql_schema.specs.NameSet.{is_among}
 use Rattle.gql_schema.specs.Scalar.{rule_of}
 use Rattle.gql_schema.specs.ScalarRule.{takes}
-use Rattle.gql_schema.specs.TableReading.{TypeTable, has_type}
+use Rattle.gql_schema.specs.TableReading.{TypeTable, has_type, is_known_object}
 use Rattle.gql_schema.specs.declared.scalar_rule.ScalarRule.{ScalarRule}
 use Rattle.gql_schema.specs.declared.schema_type.SchemaType.{SchemaType}
 use Rattle.gql_schema.specs.declared.schema_type.SchemaType.TheVariants as types
