@@ -1,4 +1,0 @@
-pub mod HeaderLemmas
-pub mod PathLemmas
-pub mod ReadLemmas
-pub mod TypeTextLemmas
