@@ -3,6 +3,8 @@
 
 mod access_fault;
 mod enum_type;
+#[cfg(test)]
+mod input_tests;
 mod input_type;
 mod input_value_error;
 mod inputs;
