@@ -4,7 +4,7 @@ use Rattle.std.proofs.Common.{◌≡◌, ◌⊎◌, ℕ, ◌≤◌, ◌<◌, Lis
 use Rattle.std.specs.Prelude.{IfSome}
 use Rattle.gql_resolve.specs.declared.record_entry.RecordEntry.{RecordEntry}
 use Rattle.gql_cli.specs.Bench.{Gives, IfResponse}
-use Rattle.gql_cli.specs.Counts.{HasRisen}
+use Rattle.gql_io.specs.Counts.{HasRisen}
 use Rattle.gql_cli.specs.Run.{HasRun, IsDue, IsListed, IsCutOff, due_status, due_text, words_for}
 use Rattle.gql_cli.specs.declared.bench.Command.{Command}
 use Rattle.gql_cli.specs.declared.bench.Command.TheVariants.{Execute, Record}
@@ -12,7 +12,7 @@ use Rattle.gql_cli.specs.declared.bench.Written.{Written}
 use Rattle.gql_cli.specs.declared.bench.Written.TheVariants.{Answered, Refused, NotJson, NotBuilt}
 use Rattle.gql_cli.specs.declared.outcome.Outcome.{Outcome}
 use Rattle.gql_cli.specs.declared.outcome.Outcome.TheVariants.{Usage, ReadFault, TooLong, Bench}
-use Rattle.gql_cli.specs.Limits.{input_limit}
+use Rattle.gql_io.specs.Limits.{input_limit}
 
 -- words are those of one command
 words-same : (c d : Command) → words_for c ≡ words_for d → c ≡ d

@@ -3,12 +3,13 @@ ghost use Rattle.std.specs.Prelude.{◌≡◌, ℕ, List, Option};
 ghost use Rattle.gql_resolve.specs.declared.record_entry.RecordEntry.{RecordEntry as OneEntry};
 ghost use Rattle.gql_cli.specs.Bench.{Gives, IfResponse};
 ghost use Rattle.gql_cli.specs.BenchRecord.{BenchTask, IsQueryRecord};
-ghost use Rattle.gql_cli.specs.Limits.{delay_limit, input_limit};
+ghost use Rattle.gql_cli.specs.Limits.{delay_limit};
+ghost use Rattle.gql_io.specs.Limits.{input_limit};
 ghost use Rattle.gql_cli.specs.declared.bench.Command.{Command as OneCommand};
 ghost use Rattle.gql_cli.specs.declared.bench.Written.{Written as OneWritten};
 
 use crate::first_bench::LONGEST_DELAY;
-use crate::reading::INPUT_LIMIT;
+use gql_io::INPUT_LIMIT;
 
 /// The limits that the code keeps to are those that contracts cite.
 pub fn limits_of_a_bench()

@@ -4,11 +4,10 @@ ghost use Rattle.gql_cli.specs.Bench.{HoldsTold};
 ghost use Rattle.gql_cli.specs.Run.{IsListed, IsDue, words_for};
 
 use crate::bench::{Command, Written, text_of};
-use crate::reading::{Reading, read_whole};
-use crate::source::Source;
 use crate::status::Status;
 use crate::table_maker::Tables;
 use gql_base::Made;
+use gql_io::{Reading, Source, read_whole};
 use std::alloc::Global;
 
 /// What a run has to write.

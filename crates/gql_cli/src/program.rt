@@ -2,22 +2,20 @@
 ghost use Rattle.std.specs.Prelude.{◌≡◌, ◌⊎◌, ◌+◌, ◌<◌, ◌≤◌, List, ℕ, length, map, string_bytes, IfSome};
 ghost use Rattle.std.specs.Io.KnownBytes.{Keeps, Appends};
 ghost use Rattle.gql_cli.specs.Bench.{Gives, HoldsTold};
-ghost use Rattle.gql_cli.specs.Counts.{IsFull, HasRisen};
-ghost use Rattle.gql_cli.specs.Limits.{input_limit};
-ghost use Rattle.gql_cli.specs.Reading.{IsInput, IsTooLong};
+ghost use Rattle.gql_io.specs.Counts.{IsFull, HasRisen};
+ghost use Rattle.gql_io.specs.Limits.{input_limit};
+ghost use Rattle.gql_io.specs.Reading.{IsInput, IsTooLong};
 ghost use Rattle.gql_cli.specs.Run.{IsListed, IsCutOff, IsDue, due_status, due_text, words_for};
 ghost use Rattle.gql_cli.specs.Status.{code_of};
-ghost use Rattle.gql_cli.specs.Writing.{AppendsStart};
+ghost use Rattle.gql_io.specs.Writing.{AppendsStart};
 ghost use Rattle.gql_cli.specs.declared.bench.Command.{Command};
 ghost use Rattle.gql_cli.specs.declared.bench.Written.{Written};
 ghost use Rattle.gql_resolve.specs.declared.record_entry.RecordEntry.{RecordEntry as OneEntry};
 
 use crate::outcome::{Outcome, decide};
-use crate::sink::{Sink, SinkFault};
-use crate::source::Source;
 use crate::status::Status;
 use crate::table_maker::Tables;
-use crate::writing::write_whole;
+use gql_io::{Sink, SinkFault, Source, write_whole};
 use std::alloc::Global;
 
 /// Runs the program on the words after its name. It reads its source whole, writes to its sink the text that is due or

@@ -1,6 +1,6 @@
 use Rattle.std.proofs.Common.{inr}
 use Rattle.std.specs.Io.KnownBytes.{Appends}
-use Rattle.gql_cli.specs.Counts.{HasRisen}
+use Rattle.gql_io.specs.Counts.{HasRisen}
 use Rattle.gql_cli.specs.Run.{IsDue}
 use Rattle.gql_cli.proofs.RunLemmas.{complete, early, gave, responds, too-many, written}
 use Rattle.gql_cli.proofs.program.run_alone.Goals as goal

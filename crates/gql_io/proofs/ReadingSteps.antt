@@ -2,8 +2,8 @@
 use Rattle.std.proofs.Common.{ℕ, ◌≤◌, List, length}
 use Rattle.std.specs.Prelude.{Option}
 use Rattle.std.specs.Io.KnownBytes.{Consumes}
-use Rattle.gql_cli.specs.Counts.{RisesBy}
-use Rattle.gql_cli.specs.Limits.{input_limit}
+use Rattle.gql_io.specs.Counts.{RisesBy}
+use Rattle.gql_io.specs.Limits.{input_limit}
 
 -- these bytes were read so far
 pub record HasRead {I : Type 0} (left : I → Option (List ℕ)) (given faults : I → ℕ) (old new : I) (bytes : List ℕ) : Type 0 where

@@ -17,7 +17,7 @@ pub struct SureSource {
 }
 
 impl SureSource {
-    ghost use Rattle.gql_cli.specs.Sure.{rest_of, given_of, read_step};
+    ghost use Rattle.gql_io.specs.Sure.{rest_of, given_of, read_step};
 
     /// A source that gives these bytes, at most `step` in one read.
     pub fn new(bytes: Items<u8>, step: usize) -> SureSource
@@ -36,7 +36,7 @@ impl SureSource {
 
 impl Source for SureSource {
     ghost use Rattle.std.specs.Prelude.{Some, ◌≡◌, ◌+◌, ◌++◌, min, length, take, Ok, IfOk};
-    ghost use Rattle.gql_cli.specs.Sure.{rest_of, given_of, read_step};
+    ghost use Rattle.gql_io.specs.Sure.{rest_of, given_of, read_step};
 
     ghost left = { λ source. Some (rest_of source) };
 
@@ -67,7 +67,7 @@ pub struct SureSink {
 }
 
 impl SureSink {
-    ghost use Rattle.gql_cli.specs.Sure.{held_by, write_step};
+    ghost use Rattle.gql_io.specs.Sure.{held_by, write_step};
 
     /// A sink that holds nothing yet, and takes at most `step` bytes in one write.
     pub fn new(alloc: Global, step: usize) -> SureSink
@@ -91,7 +91,7 @@ impl SureSink {
 
 impl Sink for SureSink {
     ghost use Rattle.std.specs.Prelude.{Some, ◌≡◌, ◌++◌, min, length, take, IfOk, OnErr, IsErrOf};
-    ghost use Rattle.gql_cli.specs.Sure.{held_by, write_step};
+    ghost use Rattle.gql_io.specs.Sure.{held_by, write_step};
 
     ghost held = { λ sink. Some (held_by sink) };
 

@@ -1,7 +1,7 @@
 use Rattle.std.proofs.Common.{arith}
 use Rattle.std.proofs.lemmas.Grind.{common_steps}
-use Rattle.gql_cli.proofs.Pieces.{copied_piece}
-use Rattle.gql_cli.proofs.sure.SureSourceSource.read.Goals as goal
+use Rattle.gql_io.proofs.Pieces.{copied_piece}
+use Rattle.gql_io.proofs.sure.SureSourceSource.read.Goals as goal
 
 pub returns-clause-taken : goal.returns-clause-taken
 returns-clause-taken c =

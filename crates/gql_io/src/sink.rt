@@ -1,6 +1,6 @@
 ghost use Rattle.std.specs.Prelude.{◌≡◌, ℕ, ◌<◌, ◌≤◌, List, length, take, Option, IfOk, OnErr, IsErrOf};
 ghost use Rattle.std.specs.Io.KnownBytes.{Keeps, Appends};
-ghost use Rattle.gql_cli.specs.Counts.{HasRisen};
+ghost use Rattle.gql_io.specs.Counts.{HasRisen};
 
 use thiserror::Error;
 

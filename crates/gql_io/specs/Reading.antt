@@ -1,10 +1,10 @@
 -- What a reading of a whole source shows. `left` is what a source tells to be left, `given` how many bytes it gave,
 -- `faults` how often it failed; `old` is the source before the reading and `new` after it.
 use Rattle.std.specs.Prelude.{◌≡◌, ◌⊎◌, ℕ, ◌+◌, ◌<◌, ◌≤◌, List, [], length, Option, Some, IfSome}
-use Rattle.gql_cli.specs.Counts.{IsFull, HasRisen, RisesBy}
-use Rattle.gql_cli.specs.Limits.{input_limit}
-use Rattle.gql_cli.specs.declared.reading.Reading.{Reading}
-use Rattle.gql_cli.specs.declared.reading.Reading.TheVariants.{Whole, Failed, TooLong}
+use Rattle.gql_io.specs.Counts.{IsFull, HasRisen, RisesBy}
+use Rattle.gql_io.specs.Limits.{input_limit}
+use Rattle.gql_io.specs.declared.reading.Reading.{Reading}
+use Rattle.gql_io.specs.declared.reading.Reading.TheVariants.{Whole, Failed, TooLong}
 
 -- The whole input was these bytes. They are no more than the limit, so many were given, and where the source tells what
 -- is left, it was these, and is nothing now.

@@ -1,7 +1,7 @@
 -- The source and the sink in memory that never fail.
 use Rattle.std.specs.Prelude.{ℕ, List, drop}
-use Rattle.gql_cli.specs.declared.sure.SureSource.{SureSource}
-use Rattle.gql_cli.specs.declared.sure.SureSink.{SureSink}
+use Rattle.gql_io.specs.declared.sure.SureSource.{SureSource}
+use Rattle.gql_io.specs.declared.sure.SureSink.{SureSink}
 
 -- the bytes that are left
 abbrev pub rest_of : SureSource → List ℕ

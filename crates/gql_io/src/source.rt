@@ -1,6 +1,6 @@
 ghost use Rattle.std.specs.Prelude.{◌≡◌, ◌↔◌, ℕ, ◌<◌, ◌≤◌, List, [], length, take, Option, IfSome, IfOk, OnErr};
 ghost use Rattle.std.specs.Io.KnownBytes.{Keeps, Consumes};
-ghost use Rattle.gql_cli.specs.Counts.{HasRisen, RisesBy};
+ghost use Rattle.gql_io.specs.Counts.{HasRisen, RisesBy};
 
 use thiserror::Error;
 

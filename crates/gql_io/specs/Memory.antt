@@ -1,8 +1,8 @@
 -- The source and the sink in memory that fail at listed calls.
 use Rattle.std.specs.Prelude.{ℕ, List}
-use Rattle.gql_cli.specs.Sure as sure
-use Rattle.gql_cli.specs.declared.memory.MemorySource.{MemorySource}
-use Rattle.gql_cli.specs.declared.memory.MemorySink.{MemorySink}
+use Rattle.gql_io.specs.Sure as sure
+use Rattle.gql_io.specs.declared.memory.MemorySource.{MemorySource}
+use Rattle.gql_io.specs.declared.memory.MemorySink.{MemorySink}
 
 -- the bytes that are left
 abbrev pub rest_of : MemorySource → List ℕ

@@ -1,6 +1,6 @@
 //! Reading a source to its end.
 ghost use Rattle.std.specs.Prelude.{◌≡◌, IfOk, vec_len};
-ghost use Rattle.gql_cli.specs.Reading.{Shows};
+ghost use Rattle.gql_io.specs.Reading.{Shows};
 
 use crate::source::Source;
 use gql_base::{Items, Made};
@@ -14,14 +14,14 @@ const PIECE: usize = 65_536;
 
 /// What a reading found: the whole input, more than the limit, or a failed read.
 #[derive(Debug, Drop)]
-pub(crate) enum Reading {
+pub enum Reading {
     Whole(Items<u8>),
     TooLong,
     Failed,
 }
 
 /// Reads a source to its end, or until more than the limit was read.
-pub(crate) fn read_whole<I: Source>(alloc: Global, source: &mut I) -> Made<Reading>
+pub fn read_whole<I: Source>(alloc: Global, source: &mut I) -> Made<Reading>
     ensures { IfOk result (Shows I.left I.given I.faults source.old source.new) }
 {
     let mut bytes = Vec::new(alloc);

@@ -1,6 +1,6 @@
 //! A source and a sink in memory that fail at listed calls.
 ghost use Rattle.std.specs.Prelude.{◌≡◌, ◌<◌, ◌≤◌, ◌↔◌, [], IsTrue, Contains, if◌then◌else◌};
-ghost use Rattle.gql_cli.specs.Counts.{one_more};
+ghost use Rattle.gql_io.specs.Counts.{one_more};
 
 use crate::sink::{Sink, SinkFault};
 use crate::source::{Failed, Source};
@@ -53,7 +53,7 @@ pub struct MemorySource {
 }
 
 impl MemorySource {
-    ghost use Rattle.gql_cli.specs.Memory.{rest_of, given_of, read_step, failing_reads, reads, read_faults};
+    ghost use Rattle.gql_io.specs.Memory.{rest_of, given_of, read_step, failing_reads, reads, read_faults};
 
     /// A source that gives these bytes, at most `step` in one read. The reads with these numbers fail, counted from 0.
     pub fn new(bytes: Items<u8>, step: usize, failing: Items<u64>) -> MemorySource
@@ -74,8 +74,8 @@ impl MemorySource {
 
 impl Source for MemorySource {
     ghost use Rattle.std.specs.Prelude.{Some, ◌≡◌, ◌+◌, ◌≤◌, ◌++◌, ◌↔◌, min, length, take, IsErr, IfOk, OnOk, OnErr, Contains};
-    ghost use Rattle.gql_cli.specs.Counts.{one_more};
-    ghost use Rattle.gql_cli.specs.Memory.{rest_of, given_of, read_step, failing_reads, reads, read_faults};
+    ghost use Rattle.gql_io.specs.Counts.{one_more};
+    ghost use Rattle.gql_io.specs.Memory.{rest_of, given_of, read_step, failing_reads, reads, read_faults};
 
     ghost left = { λ source. Some (rest_of source) };
 
@@ -115,7 +115,7 @@ pub struct MemorySink {
 }
 
 impl MemorySink {
-    ghost use Rattle.gql_cli.specs.Memory.{held_by, write_step, failing_writes, writes, write_faults};
+    ghost use Rattle.gql_io.specs.Memory.{held_by, write_step, failing_writes, writes, write_faults};
 
     /// A sink that holds nothing yet, and takes at most `step` bytes in one write. The writes with these numbers fail,
     /// counted from 0.
@@ -143,8 +143,8 @@ impl MemorySink {
 
 impl Sink for MemorySink {
     ghost use Rattle.std.specs.Prelude.{Some, ◌≡◌, ◌≤◌, ◌++◌, ◌↔◌, min, length, take, IfOk, OnOk, OnErr, IsErrOf, Contains};
-    ghost use Rattle.gql_cli.specs.Counts.{one_more};
-    ghost use Rattle.gql_cli.specs.Memory.{held_by, write_step, failing_writes, writes, write_faults};
+    ghost use Rattle.gql_io.specs.Counts.{one_more};
+    ghost use Rattle.gql_io.specs.Memory.{held_by, write_step, failing_writes, writes, write_faults};
 
     ghost held = { λ sink. Some (held_by sink) };
 

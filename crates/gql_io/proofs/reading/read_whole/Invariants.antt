@@ -1,8 +1,8 @@
 use Rattle.std.proofs.Common.{◌≡◌, ◌-◌, vec_len}
-use Rattle.gql_cli.specs.Limits.{input_limit}
-use Rattle.gql_cli.specs.declared.reading.TheConstants.{PIECE}
-use Rattle.gql_cli.proofs.ReadingSteps.{HasRead}
-use Rattle.gql_cli.proofs.reading.read_whole.Given as goal
+use Rattle.gql_io.specs.Limits.{input_limit}
+use Rattle.gql_io.specs.declared.reading.TheConstants.{PIECE}
+use Rattle.gql_io.proofs.ReadingSteps.{HasRead}
+use Rattle.gql_io.proofs.reading.read_whole.Given as goal
 
 abbrev pub invariant-loop-piece : goal.invariant-loop-piece
 invariant-loop-piece g l =
