@@ -194,19 +194,19 @@ abbrev comes : ℕ → ℕ → Occurrence × List Occurrence → Outcome ℕ ℕ
 comes object parent f = record { non_null = false; added = []; headers = []; shape = shape_at f.0 }
 
 abbrev merged_members : Members
-merged_members = grouped doubled (answered doubled (λ f. place) comes) 2 0 0 (o_first ∷ o_second ∷ [])
+merged_members = grouped doubled (answered (λ f. place) comes) 2 0 0 (o_first ∷ o_second ∷ [])
 
 abbrev apart_members : Members
-apart_members = respond doubled (answered doubled (λ f. place) comes) join 2 0 0 (o_first ∷ o_second ∷ [])
+apart_members = respond doubled (answered (λ f. place) comes) join 2 0 0 (o_first ∷ o_second ∷ [])
 
 abbrev data_due : Value
 data_due = value.Object ((codes "o", value.Object ((codes "x", value.Number (pos 1)) ∷ (codes "y", value.Null) ∷ [])) ∷ [])
 
 -- one object stands under the doubled key, with the fields of both sets
-doubled_merged : (response place merged_members).value ≡ data_due
+doubled_merged : (response place merged_members).data ≡ data_due
 doubled_merged = search (rules, shape_lemmas, tree_lemmas)
 
-doubled_apart : (response place apart_members).value ≡ data_due
+doubled_apart : (response place apart_members).data ≡ data_due
 doubled_apart = search (rules, shape_lemmas, tree_lemmas)
 
 -- the error is told once, at its path

@@ -44,12 +44,12 @@ module _ {V : Type 0} (execution : Execution) (answer : Call V → Answer V) whe
   -- what is asked for a field, and for all beneath it
   abbrev pub count_at : List ℕ → FieldValue V → Positioned Field → (List ℕ → FieldValue V → List (List ℕ × ℕ)) → ℕ
   count_at object parent field below =
-      one_if
-      (asking false execution object parent (name_of field)
-      (constants execution.known (declared_arguments execution.schema object (name_of field)) (arguments_of field)))
-      + total (map (λ inner. total (values_of (below inner.0 inner.1))) (parents_in (field_outcome false execution answer object parent field).shape))
+      one_if (field_asking false execution object parent field)
+      + total (map (λ inner. total (values_of (below inner.0 inner.1)))
+          (parents_in (field_outcome false execution answer object parent field).shape))
 
   -- the number of answers that a query asks
   abbrev pub asked_count : ℕ → Asked V → ℕ
   asked_count levels asked =
-      total (values_of (grouped (kept_reading execution) count_at levels asked.object asked.parent (kept_in execution asked)))
+      total (values_of (grouped (kept_reading execution) count_at levels asked.object asked.parent
+          (kept_in execution asked)))
