@@ -4,17 +4,14 @@ use Rattle.std.specs.List.{flat_map}
 use Rattle.gql_base.specs.Pairs.{values_of}
 use Rattle.gql_doc.specs.declared.document.Field.{Field}
 use Rattle.gql_doc.specs.declared.document.Positioned.{Positioned}
-use Rattle.gql_meaning.specs.Execution.{asking, Asking, Execution, field_outcome}
+use Rattle.gql_meaning.specs.Execution.{Asking, Execution, field_asking, field_outcome}
 use Rattle.gql_meaning.specs.Responses.{Asked, kept_in, kept_reading}
-use Rattle.gql_meaning.specs.TableSetting.{declared_arguments}
 use Rattle.gql_place.specs.declared.shape.Shape.{Shape}
 use Rattle.gql_place.specs.declared.shape.Shape.TheOpen.{Shape-F}
 use Rattle.gql_place.specs.declared.shape.Shape.TheFolds.{fold-Shape}
 use Rattle.gql_resolve.specs.Call.{Call}
 use Rattle.gql_resolve.specs.declared.answer.Answer.{Answer}
 use Rattle.gql_resolve.specs.declared.field_value.FieldValue.{FieldValue}
-use Rattle.gql_select.specs.Alike.{arguments_of, name_of}
-use Rattle.gql_select.specs.Constants.{constants}
 use Rattle.gql_select.specs.Grouped.{grouped}
 
 -- the sum of numbers
