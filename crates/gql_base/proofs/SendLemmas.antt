@@ -14,10 +14,30 @@ use Rattle.gql_base.specs.contracts.type_ref.TypeRef as type_ref
 use Rattle.gql_base.specs.contracts.value.Value as value
 
 pub value_send : IsSend value.the_row
-value_send = search (knot.send-Value, knot.hole_send-Value, name.the_send, names.the_send, number.the_send, text.the_send, items.the_send, pairs.the_send, sendable) depth 20
+value_send = search (
+  knot.send-Value,
+  knot.hole_send-Value,
+  name.the_send,
+  names.the_send,
+  number.the_send,
+  text.the_send,
+  items.the_send,
+  pairs.the_send,
+  sendable,
+) depth 20
 
 pub value_sync : IsSync value.the_row
-value_sync = search (knot.sync-Value, knot.hole_sync-Value, name.the_sync, names.the_sync, number.the_sync, text.the_sync, items.the_sync, pairs.the_sync, sendable) depth 20
+value_sync = search (
+  knot.sync-Value,
+  knot.hole_sync-Value,
+  name.the_sync,
+  names.the_sync,
+  number.the_sync,
+  text.the_sync,
+  items.the_sync,
+  pairs.the_sync,
+  sendable,
+) depth 20
 
 pub type_ref_send : IsSend type_ref.the_row
 type_ref_send = search (type_knot.send-TypeRef, type_knot.hole_send-TypeRef, name.the_send, boxed.the_send, sendable) depth 20
