@@ -44,3 +44,36 @@ type_ref_send = search (type_knot.send-TypeRef, type_knot.hole_send-TypeRef, nam
 
 pub type_ref_sync : IsSync type_ref.the_row
 type_ref_sync = search (type_knot.sync-TypeRef, type_knot.hole_sync-TypeRef, name.the_sync, boxed.the_sync, sendable) depth 20
+
+-- the same where one of them is a field of another type
+pub value_field_send : IsSend value.the_field.row
+value_field_send = search (
+  knot.send-Value,
+  knot.hole_send-Value,
+  name.the_send,
+  names.the_send,
+  number.the_send,
+  text.the_send,
+  items.the_send,
+  pairs.the_send,
+  sendable,
+) depth 20
+
+pub value_field_sync : IsSync value.the_field.row
+value_field_sync = search (
+  knot.sync-Value,
+  knot.hole_sync-Value,
+  name.the_sync,
+  names.the_sync,
+  number.the_sync,
+  text.the_sync,
+  items.the_sync,
+  pairs.the_sync,
+  sendable,
+) depth 20
+
+pub type_ref_field_send : IsSend type_ref.the_field.row
+type_ref_field_send = search (type_knot.send-TypeRef, type_knot.hole_send-TypeRef, name.the_send, boxed.the_send, sendable) depth 20
+
+pub type_ref_field_sync : IsSync type_ref.the_field.row
+type_ref_field_sync = search (type_knot.sync-TypeRef, type_knot.hole_sync-TypeRef, name.the_sync, boxed.the_sync, sendable) depth 20
