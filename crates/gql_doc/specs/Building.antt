@@ -116,7 +116,7 @@ abbrev mutual
       (roll-Field (record { alias = alias; name = name; arguments = map argument_of arguments; directives = map directive_of directives; selection_set = set_of set (selections_of selections) }))))
   selection_of (Spread pos name directives) =
       placed pos (selection.FragmentSpread (placed pos
-          (record { fragment_name = name; directives = map directive_of directives })))
+      (record { fragment_name = name; directives = map directive_of directives })))
   selection_of (Inline' pos condition directives set _ selections) =
       placed pos
       (selection.InlineFragment (placed pos
@@ -174,5 +174,7 @@ operations_of None named = Multiple named
 -- Document (section 2.2)
 abbrev pub document_of : List DefinitionTree → ExecutableDocument
 document_of definitions =
-    record { operations = operations_of (first_in anonymous_of definitions)
-        (flat_map named_of definitions); fragments = flat_map fragments_of definitions }
+    record {
+      operations = operations_of (first_in anonymous_of definitions) (flat_map named_of definitions);
+      fragments = flat_map fragments_of definitions;
+    }

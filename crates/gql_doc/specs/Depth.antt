@@ -52,7 +52,7 @@ abbrev pub deep_from : Fragments → ℕ → Positioned SelectionSet → Option 
 deep_from fragments zero set = Some set.pos
 deep_from fragments (suc left) set =
     first_in (λ selection. option_and_then (deep_from fragments left) (set_beneath fragments selection))
-        (selections_of set)
+    (selections_of set)
 
 abbrev pub operation_set : Positioned OperationDefinition → Positioned SelectionSet
 operation_set operation = operation.node.selection_set
@@ -66,4 +66,4 @@ operations_in (Multiple operations) = values_of operations
 abbrev pub deep : ExecutableDocument → ℕ → Option Pos
 deep document limit =
     first_in (λ operation. deep_from document.fragments (suc limit) (operation_set operation))
-        (operations_in document.operations)
+    (operations_in document.operations)

@@ -138,7 +138,7 @@ IsVariable variable =
     SignAt sign.Dollar variable.pos
     ▸ (IsName variable.name
     ▸ (Sign sign.Colon ▸ (IsPlacedType variable.ty ▸
-        (Maybe IsDefault variable.default ▸ AreDirectives Forbidden variable.directives))))
+    (Maybe IsDefault variable.default ▸ AreDirectives Forbidden variable.directives))))
 
 -- VariableDefinitions (section 2.10)
 abbrev pub AreVariables : List VariableTree → Language
@@ -169,12 +169,12 @@ abbrev mutual
   IsSelection levels (Field' alias name arguments directives set _ selections) =
       IsHead alias name
       ▸ (AreArguments Allowed arguments ▸ (AreDirectives Allowed directives ▸ IsSetOrNone levels
-          (head_pos alias name) set selections))
+      (head_pos alias name) set selections))
   IsSelection levels (Spread pos name directives) =
       SignAt sign.Spread pos ▸ (IsFragmentName name ▸ AreDirectives Allowed directives)
   IsSelection levels (Inline' pos condition directives set _ selections) =
       SignAt sign.Spread pos ▸ (Maybe IsCondition condition ▸
-          (AreDirectives Allowed directives ▸ IsSetOf levels set selections))
+      (AreDirectives Allowed directives ▸ IsSetOf levels set selections))
 
   pub IsSetOrNone : ℕ → Pos → Pos → {m : Count} → Row_of-SelectionTree m → Language
   IsSetOrNone levels field set end_of-SelectionTree = λ ms. (set ≡ field) × Nothing ms

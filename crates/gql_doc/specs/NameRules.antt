@@ -76,7 +76,7 @@ abbrev mutual
   doubled_in_members names end_of-MemberTree = None
   doubled_in_members names (more_of-MemberTree name value members) =
       option_or (option_or (if_doubled names name) (doubled_in_value value))
-          (doubled_in_members (names ++ name.node ∷ []) members)
+      (doubled_in_members (names ++ name.node ∷ []) members)
 
 abbrev pub doubled_in_argument : ArgumentTree → Option Pos
 doubled_in_argument argument = doubled_in_value argument.value.node
@@ -102,7 +102,7 @@ abbrev mutual
   pub doubled_in_selection : SelectionTree → Option Pos
   doubled_in_selection (Field' alias name arguments directives set _ selections) =
       option_or (doubled_in_arguments arguments) (option_or (doubled_in_directives directives)
-          (doubled_in_selections selections))
+      (doubled_in_selections selections))
   doubled_in_selection (Spread pos name directives) = doubled_in_directives directives
   doubled_in_selection (Inline' pos condition directives set _ selections) =
       option_or (doubled_in_directives directives) (doubled_in_selections selections)

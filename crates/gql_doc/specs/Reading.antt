@@ -223,14 +223,14 @@ unfoldable pub argument : Variables → Reader ArgumentTree
 argument variables =
     take_name
     then (λ name. past (take_sign sign.Colon) (mapped (λ value. record { name = name; value = value })
-        (placed_value variables)))
+    (placed_value variables)))
 
 -- in parentheses, once at least; or not at all
 abbrev pub in_parentheses : {A : Type 0} → Reader A → Reader (List A)
 in_parentheses f =
     branch (is_sign sign.OpenParen)
     (past (take_sign sign.OpenParen) (ended (some (other_than sign.CloseParen) f) (take_sign sign.CloseParen)))
-        (gives [])
+    (gives [])
 
 unfoldable pub arguments : Variables → Reader (List ArgumentTree)
 arguments variables = in_parentheses (argument variables)
@@ -291,7 +291,7 @@ unfoldable pub head : Reader (Option PlacedName × PlacedName)
 head =
     take_name
     then (λ first. branch (is_sign sign.Colon) (past (take_sign sign.Colon)
-        (mapped (λ name. (Some first, name)) take_name)) (gives (None, first)))
+    (mapped (λ name. (Some first, name)) take_name)) (gives (None, first)))
 
 unfoldable pub condition : Reader PlacedName
 condition = past (take_word (codes "on")) take_name
@@ -305,7 +305,7 @@ field_by set =
     then (λ head. arguments Allowed
     then (λ arguments. directives Allowed
     then (λ directives. mapped (λ set. Field head.0 head.1 arguments directives set.pos set.selections)
-        (set_or_none (head_pos head.0 head.1) set))))
+    (set_or_none (head_pos head.0 head.1) set))))
 
 abbrev pub spread_behind : Pos → Reader SelectionTree
 spread_behind pos = take_fragment_name then (λ name. mapped (λ directives. Spread pos name directives)
@@ -327,7 +327,7 @@ abbrev pub set_by : Reader SelectionTree → Reader SetTree
 set_by selection =
     take_sign sign.OpenBrace
     then (λ pos. mapped (λ selections. record { pos = pos; selections = selections })
-        (ended (some (other_than sign.CloseBrace) selection) (take_sign sign.CloseBrace)))
+    (ended (some (other_than sign.CloseBrace) selection) (take_sign sign.CloseBrace)))
 
 unfoldable pub set_at : ℕ → Reader SetTree
 set_at zero tokens = too_deep (is_sign sign.OpenBrace) tokens

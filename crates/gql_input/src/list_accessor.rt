@@ -64,7 +64,7 @@ impl<'a> ListAccessor<'a> {
         ensures { MatchResult result (λ found. slice_get (items_behind self.now) idx
             ≡ Some (value_behind found))
             (λ fault. (fault ≡ AccessFault.NoIndex idx)
-              × (slice_get (items_behind self.now) idx ≡ None)) }
+            × (slice_get (items_behind self.now) idx ≡ None)) }
     {
         match self.get(idx) {
             Some(found) => Ok(found),
@@ -81,9 +81,9 @@ impl<'a> ListAccessor<'a> {
     ) -> Result<ListAccessor<'a>, AccessFault<'static>>
         ensures { MatchResult result
             (λ part. (start ≤ end) × (end ≤ length (items_behind self.now))
-              × (items_behind part ≡ slice_range (items_behind self.now) start end))
+            × (items_behind part ≡ slice_range (items_behind self.now) start end))
             (λ fault. (fault ≡ AccessFault.BadSlice)
-              × ((end < start) ⊎ (length (items_behind self.now) < end))) }
+            × ((end < start) ⊎ (length (items_behind self.now) < end))) }
     {
         if start <= end && end <= self.items.len() {
             Ok(ListAccessor::new(&self.items[start..end]))

@@ -43,7 +43,7 @@ impl<'a> ObjectAccessor<'a> {
         ensures { MatchResult result (λ found. under name.now (members_behind self.now)
             ≡ Some (value_behind found))
             (λ fault. (fault ≡ AccessFault.NoKey name.entry)
-              × (under name.now (members_behind self.now) ≡ None)) }
+            × (under name.now (members_behind self.now) ≡ None)) }
     {
         match self.get(name) {
             Some(found) => Ok(found),

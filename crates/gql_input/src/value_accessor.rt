@@ -68,7 +68,7 @@ impl<'a> ValueAccessor<'a> {
         ensures { MatchResult result (λ number. number_of (value_behind self.now) ≡ Some number)
             (λ fault. (fault ≡ AccessFault.NotSigned)
             × ((number : ℤ) → number_of (value_behind self.now) ≡ Some number
-              → ¬ (FitsSigned w64 number))) }
+            → ¬ (FitsSigned w64 number))) }
     {
         if let Value::Number(number) = self.value
             && let Some(signed) = number.as_i64()

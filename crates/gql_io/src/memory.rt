@@ -94,7 +94,7 @@ impl Source for MemorySource {
         // Any other read gives as many bytes as there are, in the step and the buffer.
         ensures count { IfOk result
             (λ count. count ≡ min (read_step self.old)
-              (min (length buf.new) (length (rest_of self.old)))) }
+            (min (length buf.new) (length (rest_of self.old)))) }
         ensures taken { IfOk result
             (λ count. rest_of self.old ≡ take count buf.new ++ rest_of self.new) }
         ensures counted { IfOk result (λ count. given_of self.new ≡ given_of self.old + count) }

@@ -203,10 +203,10 @@ abbrev data_due : Value
 data_due = value.Object ((codes "o", value.Object ((codes "x", value.Number (pos 1)) ∷ (codes "y", value.Null) ∷ [])) ∷ [])
 
 -- one object stands under the doubled key, with the fields of both sets
-doubled_merged : (response place merged_members).data ≡ data_due
+doubled_merged : (response place merged_members).value ≡ data_due
 doubled_merged = search (rules, shape_lemmas, tree_lemmas)
 
-doubled_apart : (response place apart_members).data ≡ data_due
+doubled_apart : (response place apart_members).value ≡ data_due
 doubled_apart = search (rules, shape_lemmas, tree_lemmas)
 
 -- the error is told once, at its path

@@ -174,12 +174,18 @@ module _ {V : Type 0} where
 
   -- one level of a type
   abbrev pub completing_step : TypeTable → TypeRef-F (Completing V) → Completing V
-  completing_step table (TypeRef-F.Named name) = record { non_null = false; completes = if_given
-      (at_type table name (under name table)) }
-  completing_step table (TypeRef-F.NonNull inner) = record { non_null = true; completes = λ given. required
-      (inner.completes given) }
-  completing_step table (TypeRef-F.List inner) = record { non_null = false; completes = if_given
-      (λ given. unless_null given (at_items inner (all_items_in given))) }
+  completing_step table (TypeRef-F.Named name) = record {
+    non_null = false;
+    completes = if_given (at_type table name (under name table));
+  }
+  completing_step table (TypeRef-F.NonNull inner) = record {
+    non_null = true;
+    completes = λ given. required (inner.completes given);
+  }
+  completing_step table (TypeRef-F.List inner) = record {
+    non_null = false;
+    completes = if_given (λ given. unless_null given (at_items inner (all_items_in given)));
+  }
 
   -- CompleteValue at a type
   abbrev pub completing : TypeTable → TypeRef → Completing V

@@ -43,10 +43,10 @@ module _ {V : Type 0} (execution : Execution) (answer : Call V → Answer V) whe
   count_at object parent field below =
       one_if (field_asking false execution object parent field)
       + total (map (λ inner. total (values_of (below inner.0 inner.1)))
-          (parents_in (field_outcome false execution answer object parent field).shape))
+      (parents_in (field_outcome false execution answer object parent field).shape))
 
   -- the number of answers that a query asks
   abbrev pub asked_count : ℕ → Asked V → ℕ
   asked_count levels asked =
       total (values_of (grouped (kept_reading execution) count_at levels asked.object asked.parent
-          (kept_in execution asked)))
+      (kept_in execution asked)))

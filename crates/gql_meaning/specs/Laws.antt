@@ -36,35 +36,35 @@ QueryApartIsMerged V E =
 abbrev pub MutationApartIsMerged : (V W E : Type 0) → Type 0
 MutationApartIsMerged V W E =
     (execution : Execution) (answer : Call V → W → Answer V) (effect : Call V → W → W)
-        (told : Positioned Field → E) (levels : ℕ) (asked : Asked V) (world : W)
+    (told : Positioned Field → E) (levels : ℕ) (asked : Asked V) (world : W)
     → conflicts (reading (setting_in execution)) told (suc levels) asked.object asked.selections ≡ []
     → mutation_apart execution effect answer levels asked world
-        ≡ mutation_merged execution effect answer levels asked world
+    ≡ mutation_merged execution effect answer levels asked world
 
 -- the world behind all root keys that ask an answer is the last one: the others leave the world as it was
 abbrev pub OnlyAnswersChangeWorlds : (V W : Type 0) → Type 0
 OnlyAnswersChangeWorlds V W =
     (execution : Execution) (effect : Call V → W → W) (asked : Asked V) (world : W)
     → last_world execution effect asked world ≡ world_behind_first execution effect
-        (length (asking_keys execution asked)) asked world
+    (length (asking_keys execution asked)) asked world
 
 -- in introspection-only mode no answer is asked
 abbrev pub IntrospectionAsksNothing : (V : Type 0) → Type 0
 IntrospectionAsksNothing V =
     (execution : Execution) (answer : Call V → Answer V) (levels : ℕ) (asked : Asked V)
-        → execution.only_introspection ≡ true
+    → execution.only_introspection ≡ true
     → asked_count execution answer levels asked ≡ 0
 
 -- so the places are the same, whatever would be answered
 abbrev pub IntrospectionNeedsNoAnswer : (V : Type 0) → Type 0
 IntrospectionNeedsNoAnswer V =
     (execution : Execution) (answer other : Call V → Answer V) (levels : ℕ) (asked : Asked V)
-        → execution.only_introspection ≡ true
+    → execution.only_introspection ≡ true
     → query_merged execution answer levels asked ≡ query_merged execution other levels asked
 
 -- and a mutation leaves the world as it was
 abbrev pub IntrospectionChangesNoWorld : (V W : Type 0) → Type 0
 IntrospectionChangesNoWorld V W =
     (execution : Execution) (effect : Call V → W → W) (asked : Asked V) (world : W)
-        → execution.only_introspection ≡ true
+    → execution.only_introspection ≡ true
     → last_world execution effect asked world ≡ world

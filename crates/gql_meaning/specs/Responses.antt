@@ -95,14 +95,14 @@ module _ {V : Type 0} (execution : Execution) where
       abbrev pub mutation_merged : Members
       mutation_merged =
           serial_grouped (kept_reading execution) (world_after asked) (λ w. placed true (λ call. answer call w))
-              (λ w. placed false (λ call. answer call w))
+          (λ w. placed false (λ call. answer call w))
           levels asked.object asked.parent (kept_in execution asked) world
 
       -- the same, each occurrence below the root answered apart
       abbrev pub mutation_apart : Members
       mutation_apart =
           serial_respond (kept_reading execution) (world_after asked) (λ w. placed true (λ call. answer call w))
-              (λ w. placed false (λ call. answer call w))
+          (λ w. placed false (λ call. answer call w))
           join levels asked.object asked.parent (kept_in execution asked) world
 
 -- the place of a whole response: its data may be null
@@ -111,14 +111,15 @@ root_place pos members = record { pos = pos; non_null = false; added = []; heade
 
 -- a response (section 7.1), with what is done to the headers of the HTTP response
 pub record Response : Type 0 where
-  pub data : Value
+  -- its data
+  pub value : Value
   pub errors : List ServerError
   pub headers : List HeaderOp
 
 -- the response that these members make, whose operation stands at this place
 abbrev pub response : Pos → Members → Response
 response pos members = record {
-  data = raised (root_place pos members);
+  value = raised (root_place pos members);
   errors = faults_of (root_place pos members);
   headers = ops_of (root_place pos members);
 }

@@ -25,22 +25,22 @@ use Rattle.gql_place.specs.declared.place.Place.{Place}
 abbrev pub PlacesApartAreMerged : (O P F X : Type 0) → Type 0
 PlacesApartAreMerged O P F X =
     (reading : Reading O F X) → IsReading reading → (pos : F → Pos) (outcome : O → P → F → Outcome O P)
-        → IsAnswering reading pos outcome
+    → IsAnswering reading pos outcome
     → (n : ℕ) (o : O) (p : P) (set : List X) → Agree reading n o set set
     → respond reading (answered pos outcome) join n o p set
-        ≡ grouped reading (answered pos outcome) n o p set
+    ≡ grouped reading (answered pos outcome) n o p set
 
 -- the same of a mutation, in whose worlds answers differ
 abbrev pub MutationPlacesApartAreMerged : (O P F X W : Type 0) → Type 0
 MutationPlacesApartAreMerged O P F X W =
     (reading : Reading O F X) → IsReading reading → (effect : W → F → W) (pos : F → Pos)
-        (root outcome : W → O → P → F → Outcome O P)
+    (root outcome : W → O → P → F → Outcome O P)
     → ((world : W) → IsAnswering reading pos (root world)) → ((world : W) → IsAnswering reading pos (outcome world))
     → (n : ℕ) (o : O) (p : P) (set : List X) (world : W) → Agree reading (suc n) o set set
     → serial_respond reading effect (λ w. answered pos (root w))
-        (λ w. answered pos (outcome w)) join n o p set world
+    (λ w. answered pos (outcome w)) join n o p set world
     ≡ serial_grouped reading effect (λ w. answered pos (root w))
-        (λ w. answered pos (outcome w)) n o p set world
+    (λ w. answered pos (outcome w)) n o p set world
 
 -- what a request's fields come to: an answer is asked of an object, its value, a field's name and the values of its arguments
 module _ {P : Type 0} (answer : List ℕ → P → List ℕ → List (List ℕ × Value) → Outcome (List ℕ) P) where
@@ -54,7 +54,7 @@ module _ {P : Type 0} (answer : List ℕ → P → List ℕ → List (List ℕ �
   AreFitting setting =
       (object : List ℕ) (parent : P) (name : List ℕ) (arguments : List (List ℕ × Value)) (inner : List ℕ)
       → Contains (objects_in (answer object parent name arguments).shape) inner
-          → Contains (setting.beneath object name) inner
+      → Contains (setting.beneath object name) inner
 
 -- a place joined with itself is itself, where no object in it has a key twice
 abbrev pub JoinedWithItself : Type 0
@@ -65,12 +65,12 @@ abbrev pub DocumentsApartAreMerged : (P E : Type 0) → Type 0
 DocumentsApartAreMerged P E =
     (known : List ℕ → Value) (setting : Setting) (declared : List ℕ → List ℕ → List Declared)
     (answer : List ℕ → P → List ℕ → List (List ℕ × Value) → Outcome (List ℕ) P)
-        → AreFitting answer setting
+    → AreFitting answer setting
     → (told : Positioned Field → E) (n : ℕ) (o : List ℕ) (p : P) (set : List (Positioned Selection))
-        → conflicts (reading setting) told n o set ≡ []
+    → conflicts (reading setting) told n o set ≡ []
     → respond (reading (kept_setting known setting))
-        (answered (λ f. f.pos) (outcome_of answer known declared))
+    (answered (λ f. f.pos) (outcome_of answer known declared))
     join n o p (kept known set)
     ≡ grouped (reading (kept_setting known setting))
-        (answered (λ f. f.pos) (outcome_of answer known declared))
+    (answered (λ f. f.pos) (outcome_of answer known declared))
     n o p (kept known set)

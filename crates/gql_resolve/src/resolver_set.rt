@@ -71,7 +71,7 @@ pub trait ResolverSet {
         ensures rules { rules self.new ≡ rules self.old }
         ensures lawful { is_lawful self.old → is_lawful self.new
             × StartsLawfully (answer (rules self.old)) (effect (rules self.old)) (call_of call.now)
-              (world self.old) (world self.new) result }
+            (world self.old) (world self.new) result }
         ensures paced { is_paced self.old → is_paced self.new
             × IfOk result (StartsPaced number (delay (rules self.old) call.now.resolver)) }
         ensures told { told self.new ≡ with_more (told self.old) (entries_of_start call.now result) }
@@ -90,7 +90,7 @@ pub trait ResolverSet {
         ensures rules { rules self.new ≡ rules self.old }
         ensures lawful { is_lawful self.old → is_lawful self.new
             × PollsLawfully (answer (rules self.old)) (call_of call.now) (world self.old)
-              (world self.new) result }
+            (world self.new) result }
         ensures paced { is_paced self.old → is_paced self.new
             × IfOk result (PollsPaced number future.old future.new) }
         ensures told { told self.new ≡ with_more (told self.old) (entries_of_poll call.now result) }
@@ -109,7 +109,7 @@ pub trait ResolverSet {
         ensures rules { rules self.new ≡ rules self.old }
         ensures lawful { is_lawful self.old → is_lawful self.new
             × PollsRootLawfully (answer (rules self.old)) (effect (rules self.old))
-              (call_of call.now) (world self.old) (world self.new) result }
+            (call_of call.now) (world self.old) (world self.new) result }
         ensures paced { is_paced self.old → is_paced self.new
             × IfOk result (PollsPaced number future.old future.new) }
         ensures told { told self.new ≡ with_more (told self.old) (entries_of_poll call.now result) }

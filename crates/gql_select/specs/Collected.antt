@@ -31,7 +31,7 @@ module _ (setting : Setting) (object : List ℕ) (deeper : List (Positioned Sele
   fields_of_spread None = []
   fields_of_spread (Some fragment) =
       if setting.covers fragment.node.type_condition.node object then deeper
-          (selections_of (fragment_set fragment)) else []
+      (selections_of (fragment_set fragment)) else []
 
   -- the fields of a fragment in place, which applies to each object where it has no condition
   abbrev pub fields_under : Option (Positioned (List ℕ)) → List (Positioned Selection) → List (Positioned Field)
@@ -55,7 +55,7 @@ abbrev pub collect_within : Setting → ℕ → List ℕ → List (Positioned Se
 collect_within setting zero object selections = []
 collect_within setting (suc left) object selections =
     flat_map (λ selection. fields_of setting object (collect_within setting left object)
-        (out-Selection selection.node)) selections
+    (out-Selection selection.node)) selections
 
 -- CollectFields: an object's fields in the selections
 abbrev pub collect : Setting → List ℕ → List (Positioned Selection) → List (Positioned Field)

@@ -11,9 +11,9 @@ module _ {O F X : Type 0} (reading : Reading O F X) where
   Agree zero o one other = Unit {0}
   Agree (suc n) o one other =
       (f g : F) → Contains (reading.fields o one) f → Contains (reading.fields o other) g
-          → reading.key f ≡ reading.key g
+      → reading.key f ≡ reading.key g
       → (reading.alike f g ≡ true) × ((inner : O) → Contains (reading.objects o f) inner
-          → Agree n inner (reading.set f) (reading.set g))
+      → Agree n inner (reading.set f) (reading.set g))
 
   -- of two occurrences of a key the second is merged into the first where they are alike
   abbrev pub both_alike : F → F → F
@@ -35,5 +35,5 @@ module _ {O F X : Type 0} (reading : Reading O F X) where
     conflicts zero o set = []
     conflicts (suc n) o set =
         flat_map (λ m. first_differing m (reading.fields o set)
-            ++ flat_map (λ inner. conflicts n inner (reading.set m.1)) (reading.objects o m.1))
+        ++ flat_map (λ inner. conflicts n inner (reading.set m.1)) (reading.objects o m.1))
         (agreeing (reading.fields o set))

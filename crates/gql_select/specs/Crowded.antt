@@ -33,4 +33,4 @@ crowded_from fragments limit (suc left) set =
 abbrev pub crowded : ExecutableDocument → ℕ → ℕ → Option (Positioned Field)
 crowded document limit levels =
     first_in (λ operation. crowded_from document.fragments limit levels (operation_set operation))
-        (operations_in document.operations)
+    (operations_in document.operations)

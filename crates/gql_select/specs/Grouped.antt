@@ -11,7 +11,7 @@ module _ {O P F X Pl : Type 0} (reading : Reading O F X) (place : O → P → F 
   grouped zero o p set = []
   grouped (suc n) o p set =
       over (λ f. place o p f (λ inner parent. grouped n inner parent (reading.set f)))
-          (merged reading (reading.fields o set))
+      (merged reading (reading.fields o set))
 
   module _ (join : Pl → Pl → Pl) where
     -- apart execution: each occurrence has a place of its own, and places under one key are joined
@@ -19,16 +19,16 @@ module _ {O P F X Pl : Type 0} (reading : Reading O F X) (place : O → P → F 
     respond zero o p set = []
     respond (suc n) o p set =
         unite_all join [] (over (λ f. place o p f (λ inner parent. respond n inner parent (reading.set f)))
-            (keyed reading (reading.fields o set)))
+        (keyed reading (reading.fields o set)))
 
     -- what is asked of the places of fields: they hang on what is beneath possible objects alone, and two that ask the same join as one
     pub record IsPlacing : Type 0 where
       pub same : (o : O) (p : P) (f : F) (b c : O → P → List (List ℕ × Pl))
           → ((inner : O) (parent : P) → Contains (reading.objects o f) inner → b inner parent ≡ c inner parent)
-              → place o p f b ≡ place o p f c
+          → place o p f b ≡ place o p f c
       pub joins : (o : O) (p : P) (f g : F) (b c : O → P → List (List ℕ × Pl)) → reading.alike f g ≡ true
           → join (place o p f b) (place o p g c) ≡ place o p (reading.both f g)
-              (λ inner parent. unite_all join (b inner parent) (c inner parent))
+          (λ inner parent. unite_all join (b inner parent) (c inner parent))
 
 -- the fields of a mutation's root, one after another (sections 6.2.2 and 6.3.1): each is answered in the world that those before it left, and what
 -- is beneath it in the world that it leaves itself
@@ -50,12 +50,12 @@ module _ {O P F X Pl W : Type 0} (reading : Reading O F X) (effect : W → F →
   abbrev pub serial_grouped : ℕ → O → P → List X → W → List (List ℕ × Pl)
   serial_grouped n o p set world =
       in_turn effect (λ before behind f. root before o p f
-          (λ inner parent. grouped reading (place behind) n inner parent (reading.set f))) world
+      (λ inner parent. grouped reading (place behind) n inner parent (reading.set f))) world
       (merged reading (reading.fields o set))
 
   -- a mutation whose occurrences below the root are answered apart
   abbrev pub serial_respond : (Pl → Pl → Pl) → ℕ → O → P → List X → W → List (List ℕ × Pl)
   serial_respond join n o p set world =
       in_turn effect (λ before behind f. root before o p f
-          (λ inner parent. respond reading (place behind) join n inner parent (reading.set f))) world
+      (λ inner parent. respond reading (place behind) join n inner parent (reading.set f))) world
       (merged reading (reading.fields o set))

@@ -70,13 +70,13 @@ module _ (known : List ℕ → Value) where
   abbrev pub selection_step : Selection-F (Option Selection) Field InlineFragment SelectionSet → Option Selection
   selection_step (Selection-F.Field field) =
       kept_if (out-Field field.node).directives (selection.Field
-          (record { pos = field.pos; node = other_field field.node }))
+      (record { pos = field.pos; node = other_field field.node }))
   selection_step (Selection-F.FragmentSpread spread) =
       kept_if spread.node.directives
       (selection.FragmentSpread (record { pos = spread.pos; node = record spread.node { directives = others spread.node.directives } }))
   selection_step (Selection-F.InlineFragment fragment) =
       kept_if (out-InlineFragment fragment.node).directives
-          (selection.InlineFragment (record { pos = fragment.pos; node = other_inline fragment.node }))
+      (selection.InlineFragment (record { pos = fragment.pos; node = other_inline fragment.node }))
 
   -- a field whose set was looked at
   abbrev pub field_step : Field-F (Option Selection) Field InlineFragment SelectionSet → Field

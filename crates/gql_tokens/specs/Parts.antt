@@ -68,7 +68,7 @@ abbrev pub IsBodyAt : List ℕ → List ℕ → ℕ → Type 0
 IsBodyAt text raw n =
     (n ≤ length text)
     × ((pieces : List Piece) × (take n text ≡ three_quotes ++ (written pieces ++ three_quotes))
-        × ArePieces pieces three_quotes
+    × ArePieces pieces three_quotes
     × (raw ≡ raw_of pieces))
 
 -- a block string of this length begins the text, and its value is this in UTF-8

@@ -51,7 +51,7 @@ fn body_at(alloc: Global, text: &[char]) -> Made<Option<Body>>
     requires { starts_with nat_eq text.now three_quotes ≡ true }
     ensures { IfOk result
         (λ found. MatchOption found (IsUnended (drop 3 text.now))
-          (λ body. IsBodyAt text.now body.raw.items body.length)) }
+        (λ body. IsBodyAt text.now body.raw.items body.length)) }
 {
     let mut raw = Vec::new(alloc);
     let mut at = 3;
@@ -82,7 +82,7 @@ pub fn block_at(alloc: Global, text: &[char]) -> Made<Option<Quoted>>
     requires { starts_with nat_eq text.now three_quotes ≡ true }
     ensures { IfOk result
         (λ found. MatchOption found (IsUnended (drop 3 text.now))
-          (λ block. IsBlockAt text.now block.text block.length)) }
+        (λ block. IsBlockAt text.now block.text block.length)) }
 {
     match body_at(alloc, text)? {
         Some(body) => {

@@ -117,7 +117,7 @@ impl Kept {
         ensures { OnOk result ((lines : List (List ℕ))
             → IsKept self.old.text.items self.old.length lines
             → IsKept self.new.text.items self.new.length
-              (lines ++ without_common_indent (lines_of text.now))) }
+            (lines ++ without_common_indent (lines_of text.now))) }
     {
         let indent = common_indent(text).unwrap_or(0);
         let mut start = 0;

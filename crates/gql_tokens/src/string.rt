@@ -95,7 +95,7 @@ pub fn string_at(alloc: Global, text: &[char]) -> Made<Option<Quoted>>
     requires { begins (λ c. c == quote) text.now ≡ true }
     ensures { IfOk result
         (λ found. MatchOption found (NoString text.now)
-          (λ string. IsStringAt text.now string.text string.length)) }
+        (λ string. IsStringAt text.now string.text string.length)) }
 {
     let mut value = String::new(alloc);
     let mut at = 1;
