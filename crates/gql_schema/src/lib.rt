@@ -28,6 +28,7 @@ mod scalar;
 mod scalar_rule;
 mod schema_error;
 mod schema_type;
+mod shared;
 mod subscription;
 mod subscription_field;
 mod texts;
@@ -56,5 +57,7 @@ pub use subscription_field::SubscriptionField;
 pub use types::Types;
 pub use union::Union;
 
+#[cfg(test)]
+mod calls_tests;
 #[cfg(test)]
 mod tests;
