@@ -180,7 +180,8 @@ fn object_text(alloc: Global, object: &Object) -> Made<String> {
     for place in 0..object.len() {
         let field = object.at(place);
         let (name, _) = object.entry(place);
-        let more = format!(in alloc; " {name}={}", field.resolver())?;
+        let (ty, arguments) = (field.ty().type_name(), field.arguments().len());
+        let more = format!(in alloc; " {name}: {ty} {arguments} {}", field.resolver())?;
         text.push_str(more.as_str())?;
     }
     let rest = format!(in alloc; " {} {}", object.interfaces().len(), object.keys().len())?;
@@ -193,7 +194,7 @@ fn an_object_is_read(rt: HostRuntime) -> Result<(), Fail> {
     let alloc = rt.alloc();
     let object = object(alloc)?;
     let text = object_text(alloc, &object)?;
-    assert_eq!(rt; text.as_str(), "O: f=7 1 1");
+    assert_eq!(rt; text.as_str(), "O: f: Int 1 7 1 1");
     assert_eq!(rt; object.implements("I"), true);
     let copy = object.try_clone(alloc)?;
     assert_eq!(rt; object.same(&copy), true);
@@ -206,7 +207,8 @@ fn interface_text(alloc: Global, interface: &Interface) -> Made<String> {
     for place in 0..interface.len() {
         let field = interface.at(place);
         let (name, _) = interface.entry(place);
-        let more = format!(in alloc; " {name}={}", field.ty().type_name())?;
+        let ty = field.ty().type_name();
+        let more = format!(in alloc; " {name}: {ty} {}", field.arguments().len())?;
         text.push_str(more.as_str())?;
     }
     Ok(text)
@@ -217,7 +219,7 @@ fn an_interface_is_read(rt: HostRuntime) -> Result<(), Fail> {
     let alloc = rt.alloc();
     let interface = interface(alloc)?;
     let text = interface_text(alloc, &interface)?;
-    assert_eq!(rt; text.as_str(), "I: f=Int");
+    assert_eq!(rt; text.as_str(), "I: f: Int 1");
     assert_eq!(rt; interface.get("f").is_some(), true);
     Ok(())
 }
@@ -228,7 +230,8 @@ fn subscription_text(alloc: Global, subscription: &Subscription) -> Made<String>
     for place in 0..subscription.len() {
         let field = subscription.at(place);
         let (name, _) = subscription.entry(place);
-        let more = format!(in alloc; " {name}={}", field.source())?;
+        let (ty, arguments) = (field.ty().type_name(), field.arguments().len());
+        let more = format!(in alloc; " {name}: {ty} {arguments} {}", field.source())?;
         text.push_str(more.as_str())?;
     }
     Ok(text)
@@ -239,7 +242,7 @@ fn a_subscription_is_read(rt: HostRuntime) -> Result<(), Fail> {
     let alloc = rt.alloc();
     let subscription = subscription(alloc)?;
     let text = subscription_text(alloc, &subscription)?;
-    assert_eq!(rt; text.as_str(), "S: f=9");
+    assert_eq!(rt; text.as_str(), "S: f: Int 1 9");
     assert_eq!(rt; subscription.get("f").is_some(), true);
     assert_eq!(rt; subscription.has_field("f"), true);
     Ok(())
