@@ -10,8 +10,9 @@ use Rattle.gql_engine.specs.declared.arena.State.{State}
 use Rattle.gql_engine.specs.declared.arena.State.TheVariants as state
 use Rattle.gql_engine.specs.declared.occurrence.Occurrence.{Occurrence}
 use Rattle.gql_engine.specs.declared.scene.Scene.{Scene}
-use Rattle.gql_engine.specs.Apart.{Asked, asked_in, subject_in, placed, place_of, respond, root_of, join}
+use Rattle.gql_engine.specs.Apart.{Asked, asked_in, subject_in, placed, place_of, respond, root_of}
 use Rattle.gql_base.specs.Pairs.{unite_all}
+use Rattle.gql_place.specs.Join.{join}
 use Rattle.gql_engine.specs.ApartPlan.{seen as seen_as, all_seen, Keeps, place_here, places_here}
 use Rattle.std.specs.Option.{ForSome}
 use Rattle.gql_resolve.specs.declared.resolver_set.ResolverSet.{Ghosts as Resolving}

@@ -1,11 +1,11 @@
 -- The plan of a flat object: what each of its occurrences is as a task, and what it keeps of answers.
 use Rattle.std.specs.Prelude.{ℕ, ◌≡◌, List, [], ◌∷◌, Option, Some, None, map, slice_get}
 use Rattle.std.specs.List.{flat_map}
+use Rattle.gql_place.specs.declared.place.Place.{Place}
 use Rattle.gql_engine.specs.Apart.{Asked, asked_of, place_given}
 use Rattle.gql_engine.specs.declared.given.Given.{Given}
 use Rattle.gql_engine.specs.Path.{key_text}
 use Rattle.gql_engine.specs.declared.occurrence.Occurrence.{Occurrence}
-use Rattle.gql_engine.specs.declared.place.Place.{Place}
 use Rattle.gql_engine.specs.declared.scene.Scene.{Scene}
 
 -- an occurrence as a task, with the environment that it keeps

@@ -5,9 +5,9 @@ ghost use Rattle.gql_request.specs.QueryEnv.{NestsIn};
 ghost use Rattle.gql_resolve.specs.Call.{is_mutation};
 ghost use Rattle.gql_engine.specs.Path.{path_of};
 
-use crate::place::Place;
 use gql_base::PathSegment;
 use gql_doc::{Field, Positioned};
+use gql_place::Place;
 use gql_request::QueryEnv;
 
 /// A field of the object where it stands in a query, and its place once it is answered.

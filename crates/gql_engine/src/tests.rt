@@ -5,9 +5,10 @@ ghost use Rattle.gql_resolve.specs.Call.{is_mutation};
 ghost use Rattle.gql_schema.specs.Field.{field_name};
 
 use crate::meeting::{Alternate, Meeting};
-use crate::{Place, Scene, Tree, run_apart};
+use crate::{Scene, run_apart};
 use gql_base::{Items, Made, Name, NoMemory, Pairs, Pos, TypeRef, Value, Variables};
 use gql_doc::{Field, OperationDefinition, OperationType, Positioned, Selection, SelectionSet};
+use gql_place::{Place, Tree};
 use gql_request::{Data, Hooks, IntrospectionMode, QueryEnv};
 use gql_resolve::{FieldValue, Layers, ResolverSet, Turns};
 use gql_schema::{Object, Types};
