@@ -3,6 +3,8 @@ use Rattle.std.specs.Prelude.{ℕ, ◌≡◌, ◌<◌, ◌+◌, List, [], ◌∷
 use Rattle.gql_resolve.specs.declared.answer.Answer.{Answer}
 use Rattle.gql_resolve.specs.declared.record_entry.RecordEntry.{RecordEntry}
 use Rattle.gql_resolve.specs.declared.resolver_context.ResolverContext.{ResolverContext}
+use Rattle.gql_resolve.specs.declared.resolver_set.ResolverSet.{Ghosts as Resolving}
+use Rattle.gql_resolve.specs.Call.{Call}
 use Rattle.gql_resolve.specs.Record.{entry_of, with_more}
 use Rattle.gql_engine.specs.declared.rounds.Entered.{Entered}
 use Rattle.gql_engine.specs.declared.rounds.Entered.TheVariants as entered
@@ -41,10 +43,10 @@ KeepsWaiting is_for number call state.Fresh new = ⊥
 KeepsWaiting is_for number call state.Done new = ⊥
 
 -- what a turn does to the state of its task
-abbrev pub TurnOf : {V F C : Type 0} → (F → C → Type 0) → (F → ℕ) → C → State F → State F → Turn V → Type 0
-TurnOf is_for number call old new (turn.Answered given) = Unit {0}
-TurnOf is_for number call old new turn.Begun = StartsWaiting is_for call old new
-TurnOf is_for number call old new turn.Pending = KeepsWaiting is_for number call old new
+abbrev pub TurnOf : {R V W F : Type 0} → Resolving R V W F → Call V → State F → State F → Turn V → Type 0
+TurnOf set call old new (turn.Answered given) = Unit {0}
+TurnOf set call old new turn.Begun = StartsWaiting set.is_for call old new
+TurnOf set call old new turn.Pending = KeepsWaiting set.is_for set.number call old new
 
 -- where a turn gives something, it is the answer that is due
 abbrev pub AnswersRightly : {V E : Type 0} → Answer V → Result (Turn V) E → Type 0

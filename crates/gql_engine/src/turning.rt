@@ -25,7 +25,7 @@ pub fn take_turn<R: ResolverSet, H: Rounds<R::Own>>(
     requires { IsOpen R.is_for (call_of context.now) state.old }
     ensures rules { R.rules resolvers.new ≡ R.rules resolvers.old }
     ensures promise { IfOk result
-        (TurnOf R.is_for R.number (call_of context.now) state.old state.new) }
+        (TurnOf R.ResolverSet (call_of context.now) state.old state.new) }
     ensures lawful { R.is_lawful resolvers.old → R.is_lawful resolvers.new }
     ensures world { R.is_lawful resolvers.old → R.world resolvers.new ≡ R.world resolvers.old }
     ensures quiet { H.are_quiet hooks.old → H.are_quiet hooks.new }
@@ -62,7 +62,7 @@ fn begin<R: ResolverSet, H: Rounds<R::Own>>(
 ) -> Made<Turn<R::Own>>
     ensures rules { R.rules resolvers.new ≡ R.rules resolvers.old }
     ensures promise { IfOk result
-        (TurnOf R.is_for R.number (call_of context.now) State.Fresh state.new) }
+        (TurnOf R.ResolverSet (call_of context.now) State.Fresh state.new) }
     ensures lawful { R.is_lawful resolvers.old → R.is_lawful resolvers.new }
     ensures world { R.is_lawful resolvers.old → R.world resolvers.new ≡ R.world resolvers.old }
     ensures quiet { H.are_quiet hooks.old → H.are_quiet hooks.new }
@@ -101,7 +101,7 @@ fn poll_first<R: ResolverSet>(
     requires { R.is_for future (call_of context.now) }
     ensures rules { R.rules resolvers.new ≡ R.rules resolvers.old }
     ensures promise { IfOk result
-        (TurnOf R.is_for R.number (call_of context.now) State.Fresh state.new) }
+        (TurnOf R.ResolverSet (call_of context.now) State.Fresh state.new) }
     ensures lawful { R.is_lawful resolvers.old → R.is_lawful resolvers.new }
     ensures world { R.is_lawful resolvers.old → R.world resolvers.new ≡ R.world resolvers.old }
     ensures answer { R.is_lawful resolvers.old → AnswersRightly
