@@ -1,4 +1,5 @@
 pub mod AdvanceLemmas
+pub mod AimLemmas
 pub mod ApartLemmas
 pub mod ApartPlanLemmas
 pub mod ArenaLemmas

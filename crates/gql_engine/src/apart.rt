@@ -58,6 +58,7 @@ fn root_place<V: Drop>(alloc: Global, scene: &Scene<'_, V>, plan: ApartPlan<'_, 
         scene: _,
         arguments: _,
         occurrences,
+        path: _,
     } = plan;
     let members = members_of(alloc, occurrences)?;
     Ok(Place {

@@ -29,7 +29,6 @@ fn add_place(alloc: Global, members: &mut Pairs<Place>, occurrence: Occurrence<'
         item,
         declared: _,
         env: _,
-        path: _,
         place,
     } = occurrence;
     match place {
