@@ -4,6 +4,7 @@ pub mod ApartLemmas
 pub mod ApartPlanLemmas
 pub mod ArenaLemmas
 pub mod BlockLemmas
+pub mod GivenLemmas
 pub mod Lists
 pub mod NearerLemmas
 pub mod PaceLemmas

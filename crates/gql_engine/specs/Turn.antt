@@ -8,7 +8,7 @@ use Rattle.gql_resolve.specs.Call.{Call}
 use Rattle.gql_resolve.specs.Record.{entry_of, with_more}
 use Rattle.gql_engine.specs.declared.rounds.Entered.{Entered}
 use Rattle.gql_engine.specs.declared.rounds.Entered.TheVariants as entered
-use Rattle.gql_engine.specs.declared.given.Given.TheVariants.{Answered}
+use Rattle.gql_engine.specs.declared.given.Given.TheVariants.{Answered, Put}
 use Rattle.gql_engine.specs.declared.arena.State.{State}
 use Rattle.gql_engine.specs.declared.arena.State.TheVariants as state
 use Rattle.gql_engine.specs.declared.arena.Turn.{Turn}
@@ -19,6 +19,11 @@ abbrev pub GoesOn : {T E : Type 0} → Result (Entered T) E → Type 0
 GoesOn (Ok entered.Go) = Unit {0}
 GoesOn (Ok (entered.Answer put)) = ⊥
 GoesOn (Err e) = Unit {0}
+
+-- a round that was entered is one event; where memory was wanting, there was none
+abbrev pub happened : {T E Event : Type 0} → Result (Entered T) E → Event → List Event
+happened (Ok entered) event = event ∷ []
+happened (Err e) event = []
 
 -- a state whose task may be taken up: its future, where it has one, is for its call
 abbrev pub IsOpen : {F C : Type 0} → (F → C → Type 0) → C → State F → Type 0
@@ -67,6 +72,31 @@ abbrev pub begins_now : {F : Type 0} → ℕ → State F → List ℕ
 begins_now task state.Fresh = task ∷ []
 begins_now task (state.Waiting future) = []
 begins_now task state.Done = []
+
+-- the events of a turn: a fresh task's hooks are entered, once
+abbrev pub enters_now : {F Event : Type 0} → Event → State F → List Event
+enters_now event state.Fresh = event ∷ []
+enters_now event (state.Waiting future) = []
+enters_now event state.Done = []
+
+-- where memory was wanting, they may not have been
+abbrev pub EntersAtMost : {Event : Type 0} → Event → Option (List Event) → Option (List Event) → Type 0
+EntersAtMost event old new = (new ≡ old) ⊎ (new ≡ with_more old (event ∷ []))
+
+-- a turn of a future gives nothing that a hook put
+abbrev pub IsNoPut : {V : Type 0} → Turn V → Type 0
+IsNoPut (turn.Answered (Answered answer)) = Unit {0}
+IsNoPut (turn.Answered (Put put)) = ⊥
+IsNoPut turn.Begun = Unit {0}
+IsNoPut turn.Pending = Unit {0}
+
+-- where a hook put something in the place of the answer, the set stays as it was
+abbrev pub PutKeeps : {V E R : Type 0} → R → R → Result (Turn V) E → Type 0
+PutKeeps old new (Ok (turn.Answered (Answered answer))) = Unit {0}
+PutKeeps old new (Ok (turn.Answered (Put put))) = new ≡ old
+PutKeeps old new (Ok turn.Begun) = Unit {0}
+PutKeeps old new (Ok turn.Pending) = Unit {0}
+PutKeeps old new (Err e) = Unit {0}
 
 -- where memory was wanting, the task may have begun without an entry
 abbrev pub BeginsAtMost : ℕ → Option (List ℕ) → Option (List ℕ) → Type 0
