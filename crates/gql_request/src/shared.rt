@@ -1,7 +1,7 @@
-//! Public types can be moved to threads and shared between them.
+//! Requests, responses and what they hold can be moved to threads and shared between them.
 use crate::{
-    Data, DataKey, HeaderOp, Hooks, IntrospectionMode, NoData, Parents, ParseRequestError,
-    QueryEnv, QueryPathNode,
+    BatchRequest, BatchResponse, Data, DataKey, HeaderOp, Hooks, IntrospectionMode, NoData,
+    Parents, ParseRequestError, QueryEnv, QueryPathNode, Request, Response,
 };
 
 fn shared<T: Send + Sync>() {}
@@ -20,4 +20,20 @@ fn public_types<'a>() {
 
 fn of_query_env() {
     shared::<QueryEnv>();
+}
+
+fn of_request() {
+    shared::<Request>();
+}
+
+fn of_response() {
+    shared::<Response>();
+}
+
+fn of_batch_request() {
+    shared::<BatchRequest>();
+}
+
+fn of_batch_response() {
+    shared::<BatchResponse>();
 }
