@@ -15,4 +15,4 @@ abbrev pub response_json : Response → List ℕ
 response_json response =
     codes "{\"data\":"
     ++ (json response.result ++ (extensions_member (Some response.extensions)
-        ++ (errors_member response.errors ++ codes "}")))
+    ++ (errors_member response.errors ++ codes "}")))

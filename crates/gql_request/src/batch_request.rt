@@ -31,7 +31,7 @@ impl BatchRequest {
     pub fn into_single(self) -> Result<Request, ParseRequestError>
         ensures { MatchResult result (λ request. self ≡ BatchRequest.Single request)
             (λ error. (error ≡ ParseRequestError.UnsupportedBatch)
-              × (self ≡ BatchRequest.Batch (requests_of self))) }
+            × (self ≡ BatchRequest.Batch (requests_of self))) }
     {
         match self {
             BatchRequest::Single(request) => Ok(request),

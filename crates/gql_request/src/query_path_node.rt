@@ -105,7 +105,7 @@ impl<'a> Iterator for Parents<'a> {
 
     ghost next_gives = { λ before parent after.
         YieldsPrefix (proper_prefixes (path_behind before))
-          (option_map (λ node. node.segments.now) parent) (proper_prefixes (path_behind after)) };
+        (option_map (λ node. node.segments.now) parent) (proper_prefixes (path_behind after)) };
 
     ghost remaining = { item_count (λ parents. proper_prefixes (path_behind parents)) };
 
