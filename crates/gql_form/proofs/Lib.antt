@@ -1,0 +1,5 @@
+pub mod BenchFormLemmas
+pub mod HeaderLemmas
+pub mod PathLemmas
+pub mod ReadLemmas
+pub mod TypeTextLemmas
