@@ -42,8 +42,8 @@ fn add_place(alloc: Global, members: &mut Pairs<Place>, occurrence: Occurrence<'
     }
 }
 
-#[tactic(auto, using(gql_place::proofs::JoinStepLemmas::joined_alone))]
 /// Adds a place under its key, joined to the one that stands there, if any does.
+#[tactic(auto, using(gql_place::proofs::JoinStepLemmas::joined_alone))]
 fn unite_place(alloc: Global, members: &mut Pairs<Place>, key: &str, place: Place) -> Made<()>
     ensures { OnOk result (members.new ≡ unite joined members.old key.now place) }
 {

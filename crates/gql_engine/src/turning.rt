@@ -14,8 +14,8 @@ use gql_base::{Items, Made};
 use gql_resolve::{Answer, FieldFuture, FieldValue, Polled, ResolverContext, ResolverSet};
 use std::alloc::Global;
 
-#[tactic(auto, using(crate::proofs::RecordLemmas::with_more_none))]
 /// Takes up a task: begins it where it is fresh, and polls its future.
+#[tactic(auto, using(crate::proofs::RecordLemmas::with_more_none))]
 pub fn take_turn<R: ResolverSet, H: Rounds<R::Own>>(
     alloc: Global,
     resolvers: &mut R,
@@ -58,8 +58,8 @@ pub fn take_turn<R: ResolverSet, H: Rounds<R::Own>>(
     }
 }
 
-#[tactic(auto, using(crate::proofs::RecordLemmas::with_more_none, crate::proofs::GivenLemmas::no_put))]
 /// The first turn of a task: the hooks, the start, and the first poll of a future.
+#[tactic(auto, using(crate::proofs::RecordLemmas::with_more_none, crate::proofs::GivenLemmas::no_put))]
 fn begin<R: ResolverSet, H: Rounds<R::Own>>(
     alloc: Global,
     resolvers: &mut R,
