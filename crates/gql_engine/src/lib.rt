@@ -8,8 +8,6 @@ mod assembling;
 mod collect_fields;
 mod completion;
 mod given;
-#[cfg(test)]
-mod meeting;
 mod occurrence;
 mod picking;
 mod placing;
@@ -19,8 +17,6 @@ mod scene;
 mod scheduler;
 mod settling;
 mod shared;
-#[cfg(test)]
-mod tests;
 mod turning;
 mod waiting;
 
