@@ -1,8 +1,8 @@
 -- The walk that looks for fields with too many directives.
-use Rattle.std.proofs.Common.{◌≡◌, ℕ, zero, suc, ◌+◌, ◌-◌, ◌<◌, ◌≤◌, ◌≢◌, Bool, true, false, List, [], ◌∷◌, length, Option, Some, None, Ok, Err, slice_get, slice_set, refl, ap, sym, ◌∙◌, subst, inl, inr, arith}
-use Rattle.std.specs.Prelude.{◌⊎◌, option_and_then}
+use Rattle.std.proofs.Common.{◌≡◌, ℕ, zero, suc, ◌<◌, Bool, true, List, [], ◌∷◌, Option, Some, None, Ok, Err, slice_get, slice_set, refl, ap, sym, ◌∙◌, subst, inl, inr, arith}
+use Rattle.std.specs.Prelude.{option_and_then}
 use Rattle.std.specs.Option.{option_map, option_or}
-use Rattle.std.proofs.Math.ListN.{length-replicate, length-set, replicate}
+use Rattle.std.proofs.Math.ListN.{length-set}
 use Rattle.gql_base.specs.Pairs.{values_of}
 use Rattle.gql_base.specs.declared.server_error.ServerError.{ServerError}
 use Rattle.gql_doc.specs.Depth.{Fragments, deep, deep_from, fragment_set, operation_set, operations_in, selections_of, set_beneath}
@@ -12,31 +12,16 @@ use Rattle.gql_doc.specs.declared.document.Field.{Field}
 use Rattle.gql_doc.specs.declared.document.FragmentDefinition.{FragmentDefinition}
 use Rattle.gql_doc.specs.declared.document.OperationDefinition.{OperationDefinition}
 use Rattle.gql_doc.specs.declared.document.Positioned.{Positioned}
-use Rattle.gql_doc.specs.declared.document.Selection.{Selection, out-Selection}
+use Rattle.gql_doc.specs.declared.document.Selection.{out-Selection}
 use Rattle.gql_doc.specs.declared.document.SelectionSet.{SelectionSet}
 use Rattle.gql_doc.proofs.DepthLaws.{deep_less}
 use Rattle.gql_select.specs.Crowded.{crowded, crowded_from, crowded_here}
 use Rattle.gql_admit.specs.Limits.{crowded_error, directives_checked, refused_by, IsWithinDepth, NestsWithin}
 use Rattle.gql_admit.specs.Walked.{IsClean}
 use Rattle.gql_admit.proofs.FirstLemmas.{both_none, first_same, none_behind, none_here}
-use Rattle.gql_admit.proofs.WalkLemmas.{one_less, written_at}
-
-never_known : (n place : ℕ) → slice_get (replicate n false) place ≡ Some true → ⊥
-never_known zero place at = cc
-never_known (suc n) zero at = cc
-never_known (suc n) (suc place) at = never_known n place at
+use Rattle.gql_admit.proofs.WalkLemmas.{written_at}
 
 module _ (fragments : Fragments) where
-  -- where a set nests within some levels, there is one
-  pub level_left : (left : ℕ) (set : Positioned SelectionSet) → deep_from fragments left set ≡ None → left ≢ 0
-  level_left zero set nests = λ is. cc
-  level_left (suc left) set nests = λ is. omega arith
-
-  -- and the sets beneath nest within one less
-  pub nests_less : (left : ℕ) (set : Positioned SelectionSet) → deep_from fragments left set ≡ None
-      → first_in (λ selection. option_and_then (deep_from fragments (left - 1)) (set_beneath fragments selection)) (selections_of set) ≡ None
-  nests_less left set nests = ap (λ n. deep_from fragments n set) (sym (one_less left (level_left left set nests))) ∙ nests
-
   -- the set of the fragment at a place nests
   pub fragment_nests : (left place : ℕ) (fragment : Positioned FragmentDefinition) → slice_get (values_of fragments) place ≡ Some fragment
       → option_and_then (deep_from fragments left) (option_map fragment_set (slice_get (values_of fragments) place)) ≡ None
@@ -45,15 +30,6 @@ module _ (fragments : Fragments) where
       subst (λ o. option_and_then (deep_from fragments left) (option_map fragment_set o) ≡ None) at nests
 
   module _ (limit : ℕ) where
-    pub crowded_some : (left : ℕ) (set : Positioned SelectionSet) → deep_from fragments left set ≡ None
-        → first_in
-        (λ selection.
-        option_or (crowded_here limit (out-Selection selection.node))
-        (option_and_then (crowded_from fragments limit (left - 1)) (set_beneath fragments selection)))
-        (selections_of set)
-        ≡ crowded_from fragments limit left set
-    crowded_some left set nests = ap (λ n. crowded_from fragments limit n set) (sym (one_less left (level_left left set nests)))
-
     beneath_same : (o : Option (Positioned SelectionSet)) (one other : ℕ)
         → ((inner : Positioned SelectionSet) → deep_from fragments one inner ≡ None → deep_from fragments other inner ≡ None
         → crowded_from fragments limit one inner ≡ crowded_from fragments limit other inner)
@@ -79,28 +55,6 @@ module _ (fragments : Fragments) where
         ap (option_or (crowded_here limit (out-Selection selection.node)))
         (beneath_same (set_beneath fragments selection) one other (crowded_same one other) none also_none))
         (selections_of set) nests also
-
-    -- of no fragment anything is known
-    pub clean_empty : (n : ℕ) → n ≡ length fragments → IsClean fragments limit (replicate n false)
-    clean_empty n long = record {
-      long = length-replicate n false ∙ long;
-      none = λ place levels fragment known at nests. absurd (never_known n place known);
-    }
-
-    known_at : (o : Option (Positioned FragmentDefinition)) (left : ℕ)
-        → ((fragment : Positioned FragmentDefinition) → o ≡ Some fragment → deep_from fragments left (fragment_set fragment) ≡ None
-        → crowded_from fragments limit left (fragment_set fragment) ≡ None)
-        → option_and_then (deep_from fragments left) (option_map fragment_set o) ≡ None
-        → None ≡ option_and_then (crowded_from fragments limit left) (option_map fragment_set o)
-    known_at None left each nests = refl
-    known_at (Some fragment) left each nests = sym (each fragment refl nests)
-
-    -- the fragment at a place, where it is known to be clean
-    pub clean_known : (clean : List Bool) (place left : ℕ) → IsClean fragments limit clean → slice_get clean place ≡ Some true
-        → option_and_then (deep_from fragments left) (option_map fragment_set (slice_get (values_of fragments) place)) ≡ None
-        → None ≡ option_and_then (crowded_from fragments limit left) (option_map fragment_set (slice_get (values_of fragments) place))
-    clean_known clean place left kept at nests =
-        known_at (slice_get (values_of fragments) place) left (λ fragment here. kept.none place left fragment at here) nests
 
     -- one more is known
     pub clean_put : (clean : List Bool) (place left : ℕ) (fragment : Positioned FragmentDefinition) → IsClean fragments limit clean

@@ -1,22 +1,21 @@
 -- The walk that looks for sets that lie too deep.
-use Rattle.std.proofs.Common.{◌≡◌, ℕ, zero, suc, ◌+◌, ◌-◌, ◌^◌, ◌<◌, ◌≤◌, ◌≢◌, ◌↔◌, Bool, true, false, List, [], ◌∷◌, length, Option, Some, None, Ok, Err, MatchOption, IsTrue, slice_get, slice_set, refl, ap, sym, ◌∙◌, subst, inl, inr, add-one, arith}
-use Rattle.std.specs.Prelude.{◌⊎◌, option_and_then}
+use Rattle.std.proofs.Common.{◌≡◌, ℕ, ◌+◌, ◌^◌, ◌<◌, ◌≤◌, ◌↔◌, Bool, true, false, List, Option, Some, None, Ok, Err, MatchOption, IsTrue, slice_get, slice_set, refl, ap, sym, ◌∙◌, subst, inl, inr, add-one}
+use Rattle.std.specs.Prelude.{option_and_then}
 use Rattle.std.specs.Option.{option_map}
-use Rattle.std.proofs.Math.ListN.{length-map, length-replicate, length-set, replicate}
+use Rattle.std.proofs.Math.ListN.{length-set}
 use Rattle.gql_base.specs.Pairs.{values_of}
 use Rattle.gql_base.specs.declared.pos.Pos.{Pos}
 use Rattle.gql_base.specs.declared.server_error.ServerError.{ServerError}
-use Rattle.gql_doc.specs.Depth.{Fragments, deep, deep_from, fragment_set, operation_set, operations_in, selections_of, set_beneath}
+use Rattle.gql_doc.specs.Depth.{Fragments, deep, deep_from, fragment_set, operation_set, operations_in}
 use Rattle.gql_doc.specs.First.{first_in}
 use Rattle.gql_doc.specs.declared.document.ExecutableDocument.{ExecutableDocument}
 use Rattle.gql_doc.specs.declared.document.FragmentDefinition.{FragmentDefinition}
 use Rattle.gql_doc.specs.declared.document.Positioned.{Positioned}
-use Rattle.gql_doc.specs.declared.document.SelectionSet.{SelectionSet}
 use Rattle.gql_doc.proofs.DepthLaws.{deep_less}
 use Rattle.gql_admit.specs.Limits.{depth_checked, refused_by, IsWithinDepth}
 use Rattle.gql_admit.specs.Refusal.{depth_error}
 use Rattle.gql_admit.specs.Walked.{IsFine}
-use Rattle.gql_admit.proofs.WalkLemmas.{one_less, value_at, written_at}
+use Rattle.gql_admit.proofs.WalkLemmas.{value_at, written_at}
 
 -- the check of a document, by what the walk finds in so many levels
 module _ (document : ExecutableDocument) (limit levels : ℕ) (most : levels ≡ limit + 1) where
@@ -41,25 +40,7 @@ module _ (document : ExecutableDocument) (limit levels : ℕ) (most : levels ≡
       → error ≡ depth_error limit place → Err error ≡ depth_checked document limit
   depth_refused place error told said = ap Err said ∙ ap (refused_by (depth_error limit)) (found_deep (Some place) told)
 
-never_known : (n place levels : ℕ) → slice_get (replicate n None) place ≡ Some (Some levels) → ⊥
-never_known zero place levels at = cc
-never_known (suc n) zero levels at = cc
-never_known (suc n) (suc place) levels at = never_known n place levels at
-
 module _ (fragments : Fragments) where
-  -- a set, where a level is left
-  pub deep_some : (left : ℕ) (set : Positioned SelectionSet) → left ≢ 0
-      → first_in (λ selection. option_and_then (deep_from fragments (left - 1)) (set_beneath fragments selection)) (selections_of set)
-      ≡ deep_from fragments left set
-  deep_some left set some = ap (λ n. deep_from fragments n set) (sym (one_less left some))
-
-  -- of no fragment anything is known
-  pub fine_empty : (n : ℕ) → n ≡ length fragments → IsFine fragments (replicate n None)
-  fine_empty n long = record {
-    long = length-replicate n None ∙ long;
-    nests = λ place levels fragment known at. absurd (never_known n place levels known);
-  }
-
   known_at : (o : Option (Positioned FragmentDefinition)) (levels left : ℕ)
       → ((fragment : Positioned FragmentDefinition) → o ≡ Some fragment → deep_from fragments levels (fragment_set fragment) ≡ None)
       → levels ≤ left → None ≡ option_and_then (deep_from fragments left) (option_map fragment_set o)

@@ -1,14 +1,10 @@
 -- What a loop that looks for the first of some knows of those that it has passed.
-use Rattle.std.proofs.Common.{◌≡◌, ℕ, zero, suc, ◌+◌, ◌≤◌, Bool, true, false, List, [], ◌∷◌, map, take, length, Option, Some, None, is_some, slice_get, refl, ap, sym, ◌∙◌, add-one}
-use Rattle.std.proofs.lemmas.List.{take_all}
+use Rattle.std.proofs.Common.{◌≡◌, ℕ, zero, suc, ◌+◌, Bool, true, false, List, [], ◌∷◌, take, Option, Some, None, is_some, slice_get, refl, sym, ◌∙◌, add-one}
 use Rattle.std.specs.Option.{option_copied, option_or}
 use denote.Ref.{Bor}
 use Rattle.gql_doc.specs.First.{first_in}
 
 module _ {A B : Type 0} (f : A → Option B) where
-  pub first_passed : (xs : List A) (i : ℕ) → first_in f (take i xs) ≡ None → length xs ≤ i → None ≡ first_in f xs
-  first_passed xs i before over = sym before ∙ ap (first_in f) (take_all i xs over)
-
   more-first : (xs : List A) (i : ℕ) (x : A) → first_in f (take i xs) ≡ None → slice_get xs i ≡ Some x → f x ≡ None → first_in f (take (suc i) xs) ≡ None
   more-first [] i x before at here = cc
   more-first (y ∷ ys) zero x before at here =
@@ -56,14 +52,6 @@ none_behind (Some x) b none = cc
 pub both_none : {A : Type 0} (a b : Option A) → a ≡ None → b ≡ None → option_or a b ≡ None
 both_none None b first second = second
 both_none (Some x) b first second = cc
-
-pub none_else : {A : Type 0} (a : Option A) → option_or a None ≡ a
-none_else None = refl
-none_else (Some x) = refl
-
--- the first of one alone
-pub first_alone : {A B : Type 0} (f : A → Option B) (x : A) (found : Option B) → found ≡ f x → found ≡ first_in f (x ∷ [])
-first_alone f x found told = told ∙ sym (none_else (f x))
 
 -- where nothing is found among some, nothing is found at any of them
 pub none_at : {A B : Type 0} (f : A → Option B) (xs : List A) (i : ℕ) (x : A) → first_in f xs ≡ None → slice_get xs i ≡ Some x → f x ≡ None

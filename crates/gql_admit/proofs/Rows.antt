@@ -1,5 +1,5 @@
 -- Choices and texts of refusals, computed.
-use Rattle.std.proofs.Common.{◌≡◌, ℕ, List, [], ◌∷◌, Option, Some, None, refl}
+use Rattle.std.proofs.Common.{◌≡◌, [], ◌∷◌, Some, None, refl}
 use Rattle.std.specs.Prelude.{codes}
 use Rattle.gql_doc.specs.declared.document.DocumentOperations.TheVariants.{Multiple, Single}
 use Rattle.gql_doc.specs.declared.document.OperationDefinition.{OperationDefinition}

@@ -1,5 +1,5 @@
 -- Steps of a walk over sets, whatever it looks for.
-use Rattle.std.proofs.Common.{◌≡◌, ℕ, zero, suc, ◌+◌, ◌-◌, ◌<◌, ◌≤◌, ◌≢◌, Bool, true, false, List, [], ◌∷◌, length, map, Option, Some, None, slice_get, slice_set, refl, ap, sym, ◌∙◌, inl, inr, arith}
+use Rattle.std.proofs.Common.{◌≡◌, ℕ, zero, suc, List, [], ◌∷◌, Option, Some, None, slice_get, slice_set, refl, ap, sym, ◌∙◌, inl, inr}
 use Rattle.std.specs.Prelude.{◌⊎◌, option_and_then}
 use Rattle.std.specs.Option.{option_map}
 use Rattle.std.proofs.Math.ListN.{length-map}
@@ -41,10 +41,6 @@ written_at (x ∷ xs) zero (suc j) v w at = inr at
 written_at (x ∷ xs) (suc i) zero v w at = inr at
 written_at (x ∷ xs) (suc i) (suc j) v w at =
     elim (written_at xs i j v w at) [ inl h ↦ inl (ap suc h.0, h.1) | inr h ↦ inr h ]
-
--- one level less
-pub one_less : (left : ℕ) → left ≢ 0 → left ≡ suc (left - 1)
-one_less left some = omega arith
 
 -- what is found beneath a spread, by the place of its name
 pub spread_found : {B : Type 0} (f : Positioned SelectionSet → Option B) (fragments : Fragments) (sought name : List ℕ) (place : Option ℕ) (found : Option B)

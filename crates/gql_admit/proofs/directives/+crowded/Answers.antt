@@ -1,4 +1,4 @@
-use Rattle.std.proofs.Common.{◌≡◌, Some, None, length, slice_get, refl, option_and_then, arith, sym, ap, ◌∙◌}
+use Rattle.std.proofs.Common.{Some, None, length, refl, option_and_then, arith}
 use Rattle.std.specs.Option.{option_copied, option_or}
 use Rattle.std.proofs.lemmas.Option.{slice_get_read}
 use Rattle.gql_doc.specs.declared.document.Positioned.{Positioned}
