@@ -6,13 +6,14 @@ use Rattle.gql_base.specs.Pairs.{HasDistinctNames}
 use Rattle.gql_base.specs.ReadJson.{value_of}
 use Rattle.gql_resolve.specs.declared.record_entry.RecordEntry.{RecordEntry}
 use Rattle.gql_cli.specs.Answer.{IsAnswerOf, IsRefusalOf, answers_of}
-use Rattle.gql_cli.specs.Bench.{json_of, bench_request, first_request, Gives, JsonGives, QueryGives, WithRecord}
+use Rattle.gql_cli.specs.Bench.{json_of, bench_request, first_request, BenchGives, Gives, JsonGives, QueryGives, WithRecord}
 use Rattle.gql_cli.specs.BenchAnswers.{IsBenchOf, IsSuited}
 use Rattle.gql_cli.specs.FirstBench.{AreTaken, IsField, IsConstantAnswer, IsTurns, IsShaped, IsFirstBench, IsNoFirstBench, constants}
+use Rattle.gql_cli.specs.Shape.{IsWellShaped}
 use Rattle.gql_cli.specs.Tables.{IsTableOf}
 use Rattle.gql_cli.specs.declared.bench.Command.{Command}
 use Rattle.gql_cli.specs.declared.bench.Written.{Written}
-use Rattle.gql_cli.specs.declared.bench.Written.TheVariants.{Answered, Refused, NotJson, NotBuilt}
+use Rattle.gql_cli.specs.declared.bench.Written.TheVariants.{Answered, Refused, NotJson, BadShape, NotBuilt}
 use Rattle.gql_cli.specs.declared.first_bench.FirstBench.{FirstBench}
 use Rattle.gql_cli.specs.declared.first_bench.FirstField.{FirstField}
 use Rattle.gql_cli.specs.declared.tables.Bench.{Bench}
@@ -64,7 +65,7 @@ request-same first bench made query =
 
 -- what a first bench's request gives, its JSON gives
 json-gives : (command : Command) (json : Data) (first : FirstBench) → IsFirstBench json first → (written : Written) (entries : List RecordEntry)
-    → QueryGives command (first_request first) written entries → JsonGives command json written entries
+    → QueryGives command (first_request first) written entries → BenchGives command json written entries
 json-gives command json first shaped (Answered text) entries gives = (first, shaped, gives)
 json-gives command json first shaped (Refused text) entries (refusal, none) = ((first, shaped, refusal), none)
 json-gives command json first shaped NotBuilt entries (unanswered, unrefused) = (
@@ -74,11 +75,12 @@ json-gives command json first shaped NotBuilt entries (unanswered, unrefused) = 
       unrefused text (subst (λ (f : FirstBench). IsRefusalOf f.query text) (shaped-same json other first fits.0 shaped.0) refusal),
 )
 json-gives command json first shaped NotJson entries gives = gives
+json-gives command json first shaped (BadShape line) entries gives = gives
 
 -- what a bench's request gives, the JSON of the bench gives
 pub made-gives : {E : Type 0} (Told : List RecordEntry → Type 0) (command : Command) (json : Data) (bench : Bench) → IsBenchOf json bench
     → (written : Result Written E) → IfOk written (WithRecord (QueryGives command (bench_request bench)) Told)
-    → IfOk written (WithRecord (JsonGives command json) Told)
+    → IfOk written (WithRecord (BenchGives command json) Told)
 made-gives Told command json bench made (Ok written) (entries, gives, told) =
     let same = request-same made.first bench made.tabled made.request in (
       entries,
@@ -88,9 +90,24 @@ made-gives Told command json bench made (Ok written) (entries, gives, told) =
 made-gives Told command json bench made (Err want) gives = gives
 
 -- a JSON value that is no bench has no answer
-pub no-bench : (command : Command) (json : Data) → IsNoFirstBench json → (entries : List RecordEntry) × JsonGives command json NotBuilt entries × Unit {0}
+pub no-bench : (command : Command) (json : Data) → IsNoFirstBench json → (entries : List RecordEntry) × BenchGives command json NotBuilt entries × Unit {0}
 no-bench command json none =
     ([], (λ text (first, shaped, answer). none first shaped, λ text (first, shaped, refusal). none first shaped), tt)
+
+-- what a JSON value of the shape of a bench gives as one, it gives
+shaped-gives : (command : Command) (json : Data) → IsWellShaped command json → (written : Written) (entries : List RecordEntry)
+    → BenchGives command json written entries → JsonGives command json written entries
+shaped-gives command json shaped (Answered text) entries gives = (shaped, gives)
+shaped-gives command json shaped (Refused text) entries gives = (shaped, gives)
+shaped-gives command json shaped NotBuilt entries gives = (shaped, gives)
+shaped-gives command json shaped NotJson entries gives = absurd gives
+shaped-gives command json shaped (BadShape line) entries gives = absurd gives
+
+pub well-shaped : {E : Type 0} (Told : List RecordEntry → Type 0) (command : Command) (json : Data) → IsWellShaped command json
+    → (written : Result Written E) → IfOk written (WithRecord (BenchGives command json) Told) → IfOk written (WithRecord (JsonGives command json) Told)
+well-shaped Told command json shaped (Ok written) (entries, gives, told) =
+    (entries, shaped-gives command json shaped written entries gives, told)
+well-shaped Told command json shaped (Err want) gives = gives
 
 -- what a JSON value gives, the bytes with that value give
 bytes-give : (command : Command) (bytes : List ℕ) (json : Data) → json_of bytes ≡ Some json → (written : Written) (entries : List RecordEntry)
@@ -98,7 +115,8 @@ bytes-give : (command : Command) (bytes : List ℕ) (json : Data) → json_of by
 bytes-give command bytes json is (Answered text) entries gives = (json, is, gives)
 bytes-give command bytes json is (Refused text) entries gives = (json, is, gives)
 bytes-give command bytes json is NotBuilt entries gives = (json, is, gives)
-bytes-give command bytes json is NotJson entries gives = absurd gives
+bytes-give command bytes json is (BadShape line) entries gives = (json, is, gives)
+bytes-give command bytes json is NotJson entries gives = absurd gives.1
 
 pub read-gives : {E : Type 0} (Told : List RecordEntry → Type 0) (command : Command) (bytes : List ℕ) (json : Data) → json_of bytes ≡ Some json
     → (written : Result Written E) → IfOk written (WithRecord (JsonGives command json) Told) → IfOk written (WithRecord (Gives command bytes) Told)

@@ -1,5 +1,5 @@
 -- What the bytes of a bench give is one thing, with one record.
-use Rattle.std.proofs.Common.{◌≡◌, ℕ, List, [], ◌∷◌, ◌++◌, Option, Some, None, refl, ap, sym, ◌∙◌, subst}
+use Rattle.std.proofs.Common.{◌≡◌, ℕ, List, [], ◌∷◌, ◌++◌, Option, Some, None, Ok, Err, refl, ap, sym, ◌∙◌, subst}
 use Rattle.std.specs.Str.{chars}
 use Rattle.serde_json.specs.Data.{Data}
 use Rattle.gql_base.specs.declared.value.Value.{Value}
@@ -7,11 +7,12 @@ use Rattle.gql_doc.specs.declared.document.ExecutableDocument.{ExecutableDocumen
 use Rattle.gql_doc.proofs.ParseLaws.{one_document, one_document_fault, never_both}
 use Rattle.gql_resolve.specs.declared.record_entry.RecordEntry.{RecordEntry}
 use Rattle.gql_cli.specs.Answer.{Chooses, IsAnswerOf, IsRefusalOf, IsResponse, error_of, refusal_line, response_line}
-use Rattle.gql_cli.specs.Bench.{Gives, IfResponse, IsAnswered, JsonGives, first_request, json_of, lines_for}
+use Rattle.gql_cli.specs.Bench.{BenchGives, Gives, IfResponse, IsAnswered, JsonGives, first_request, json_of, lines_for}
 use Rattle.gql_cli.specs.BenchRecord.{AreAsked, BenchTask, IsDocumentRecord, IsQueryRecord, IsRecord}
+use Rattle.gql_cli.specs.Shape.{IsBadShape, IsWellShaped, shape_line}
 use Rattle.gql_cli.specs.declared.bench.Command.{Command}
 use Rattle.gql_cli.specs.declared.bench.Written.{Written}
-use Rattle.gql_cli.specs.declared.bench.Written.TheVariants.{Answered, Refused, NotJson, NotBuilt}
+use Rattle.gql_cli.specs.declared.bench.Written.TheVariants.{Answered, Refused, NotJson, BadShape, NotBuilt}
 use Rattle.gql_cli.specs.declared.first_bench.FirstBench.{FirstBench}
 use Rattle.gql_cli.proofs.BenchLemmas.{shaped-same, some-same}
 use Rattle.gql_cli.proofs.QueryLemmas.{asks-same}
@@ -81,32 +82,73 @@ module _ (command : Command) where
       let response = answer-same request.answers request.query a.response b.response a.answers b.answers in
       (ap Answered (a.is ∙ (λ i. lines_for command (told i) ++ response i) ∙ sym b.is), told)
 
-  -- what a JSON value gives
-  json-same : (json : Data) (one other : Written) (entries others : List RecordEntry) → JsonGives command json one entries
-      → JsonGives command json other others → AreOne one other entries others
-  json-same json (Answered s) (Answered t) entries others (f, shaped, a) (g, shaped', b) =
+  -- what a JSON value gives as a bench
+  bench-same : (json : Data) (one other : Written) (entries others : List RecordEntry) → BenchGives command json one entries
+      → BenchGives command json other others → AreOne one other entries others
+  bench-same json (Answered s) (Answered t) entries others (f, shaped, a) (g, shaped', b) =
       let same = shaped-same json f g shaped.0 shaped'.0 in
       answered-same g s t entries others (subst (λ first. IsAnswered command (first_request first) s entries) same a) b
-  json-same json (Answered s) (Refused t) entries others (f, shaped, a) ((g, shaped', refusal), none) =
+  bench-same json (Answered s) (Refused t) entries others (f, shaped, a) ((g, shaped', refusal), none) =
       let same = shaped-same json g f shaped'.0 shaped.0 in
       let request = first_request f in
       absurd (never-answered request.answers f.query a.response t a.answers (subst (λ (first : FirstBench). IsRefusalOf first.query t) same refusal))
-  json-same json (Answered s) NotBuilt entries others (f, shaped, a) none = absurd (none.0 a.response (f, shaped, a.answers))
-  json-same json (Answered s) NotJson entries others a b = absurd b
-  json-same json (Refused s) (Answered t) entries others ((g, shaped', refusal), none) (f, shaped, a) =
+  bench-same json (Answered s) NotBuilt entries others (f, shaped, a) none = absurd (none.0 a.response (f, shaped, a.answers))
+  bench-same json (Answered s) NotJson entries others a b = absurd b
+  bench-same json (Refused s) (Answered t) entries others ((g, shaped', refusal), none) (f, shaped, a) =
       let same = shaped-same json g f shaped'.0 shaped.0 in
       let request = first_request f in
       absurd (never-answered request.answers f.query a.response s a.answers (subst (λ (first : FirstBench). IsRefusalOf first.query s) same refusal))
-  json-same json (Refused s) (Refused t) entries others ((f, shaped, a), none) ((g, shaped', b), none') =
+  bench-same json (Refused s) (Refused t) entries others ((f, shaped, a), none) ((g, shaped', b), none') =
       let same = shaped-same json f g shaped.0 shaped'.0 in
       (ap Refused (refusal-same g.query s t (subst (λ (first : FirstBench). IsRefusalOf first.query s) same a) b), none ∙ sym none')
-  json-same json (Refused s) NotBuilt entries others (refusal, empty) none = absurd (none.1 s refusal)
-  json-same json (Refused s) NotJson entries others a b = absurd b
-  json-same json NotBuilt (Answered t) entries others none (f, shaped, b) = absurd (none.0 b.response (f, shaped, b.answers))
-  json-same json NotBuilt (Refused t) entries others none (refusal, empty) = absurd (none.1 t refusal)
-  json-same json NotBuilt NotBuilt entries others a b = (refl, tt)
-  json-same json NotBuilt NotJson entries others a b = absurd b
-  json-same json NotJson other entries others a b = absurd a
+  bench-same json (Refused s) NotBuilt entries others (refusal, empty) none = absurd (none.1 s refusal)
+  bench-same json (Refused s) NotJson entries others a b = absurd b
+  bench-same json NotBuilt (Answered t) entries others none (f, shaped, b) = absurd (none.0 b.response (f, shaped, b.answers))
+  bench-same json NotBuilt (Refused t) entries others none (refusal, empty) = absurd (none.1 t refusal)
+  bench-same json NotBuilt NotBuilt entries others a b = (refl, tt)
+  bench-same json NotBuilt NotJson entries others a b = absurd b
+  bench-same json (Answered s) (BadShape t) entries others a b = absurd b
+  bench-same json (Refused s) (BadShape t) entries others a b = absurd b
+  bench-same json NotBuilt (BadShape t) entries others a b = absurd b
+  bench-same json NotJson other entries others a b = absurd a
+  bench-same json (BadShape s) other entries others a b = absurd a
+
+  bad-same : (json : Data) (s t : List ℕ) → IsBadShape command json s → IsBadShape command json t → s ≡ t
+  bad-same json s t (p, bad, is) (q, bad', is') =
+      let places : p ≡ q = cc in
+      is ∙ ap shape_line places ∙ sym is'
+
+  never-both : (json : Data) (s : List ℕ) → IsBadShape command json s → IsWellShaped command json → ⊥
+  never-both json s (place, bad, is) (form, well) = let wrong : Err place ≡ Ok form = sym bad ∙ well in cc
+
+  -- what a JSON value gives
+  json-same : (json : Data) (one other : Written) (entries others : List RecordEntry) → JsonGives command json one entries
+      → JsonGives command json other others → AreOne one other entries others
+  json-same json (BadShape s) (BadShape t) entries others a b = (ap BadShape (bad-same json s t a b), tt)
+  json-same json (BadShape s) (Answered t) entries others a (well, b) = absurd (never-both json s a well)
+  json-same json (BadShape s) (Refused t) entries others a (well, b) = absurd (never-both json s a well)
+  json-same json (BadShape s) NotBuilt entries others a (well, b) = absurd (never-both json s a well)
+  json-same json (BadShape s) NotJson entries others a (well, b) = absurd (never-both json s a well)
+  json-same json (Answered s) (BadShape t) entries others (well, a) b = absurd (never-both json t b well)
+  json-same json (Refused s) (BadShape t) entries others (well, a) b = absurd (never-both json t b well)
+  json-same json NotBuilt (BadShape t) entries others (well, a) b = absurd (never-both json t b well)
+  json-same json NotJson (BadShape t) entries others (well, a) b = absurd a
+  json-same json (Answered s) (Answered t) entries others (well, a) (also, b) = bench-same json (Answered s) (Answered t) entries others a b
+  json-same json (Answered s) (Refused t) entries others (well, a) (also, b) = bench-same json (Answered s) (Refused t) entries others a b
+  json-same json (Answered s) NotBuilt entries others (well, a) (also, b) = bench-same json (Answered s) NotBuilt entries others a b
+  json-same json (Answered s) NotJson entries others (well, a) (also, b) = absurd b
+  json-same json (Refused s) (Answered t) entries others (well, a) (also, b) = bench-same json (Refused s) (Answered t) entries others a b
+  json-same json (Refused s) (Refused t) entries others (well, a) (also, b) = bench-same json (Refused s) (Refused t) entries others a b
+  json-same json (Refused s) NotBuilt entries others (well, a) (also, b) = bench-same json (Refused s) NotBuilt entries others a b
+  json-same json (Refused s) NotJson entries others (well, a) (also, b) = absurd b
+  json-same json NotBuilt (Answered t) entries others (well, a) (also, b) = bench-same json NotBuilt (Answered t) entries others a b
+  json-same json NotBuilt (Refused t) entries others (well, a) (also, b) = bench-same json NotBuilt (Refused t) entries others a b
+  json-same json NotBuilt NotBuilt entries others (well, a) (also, b) = (refl, tt)
+  json-same json NotBuilt NotJson entries others (well, a) (also, b) = absurd b
+  json-same json NotJson (Answered t) entries others (well, a) (also, b) = absurd a
+  json-same json NotJson (Refused t) entries others (well, a) (also, b) = absurd a
+  json-same json NotJson NotBuilt entries others (well, a) (also, b) = absurd a
+  json-same json NotJson NotJson entries others (well, a) (also, b) = absurd a
 
   -- what bytes give, their JSON gives, where they have one
   given-json : (bytes : List ℕ) (json : Data) → json_of bytes ≡ Some json → (written : Written) (entries : List RecordEntry)
@@ -114,6 +156,7 @@ module _ (command : Command) where
   given-json bytes json is (Answered s) entries (j, is', gives) = subst (λ d. JsonGives command d (Answered s) entries) (some-same (sym is' ∙ is)) gives
   given-json bytes json is (Refused s) entries (j, is', gives) = subst (λ d. JsonGives command d (Refused s) entries) (some-same (sym is' ∙ is)) gives
   given-json bytes json is NotBuilt entries (j, is', gives) = subst (λ d. JsonGives command d NotBuilt entries) (some-same (sym is' ∙ is)) gives
+  given-json bytes json is (BadShape s) entries (j, is', gives) = subst (λ d. JsonGives command d (BadShape s) entries) (some-same (sym is' ∙ is)) gives
   given-json bytes json is NotJson entries none = let wrong : None ≡ Some json = sym none ∙ is in cc
 
   given-nothing : (bytes : List ℕ) → json_of bytes ≡ None → (written : Written) (entries : List RecordEntry)
@@ -121,6 +164,7 @@ module _ (command : Command) where
   given-nothing bytes none (Answered s) entries (j, is, gives) = let wrong : None ≡ Some j = sym none ∙ is in cc
   given-nothing bytes none (Refused s) entries (j, is, gives) = let wrong : None ≡ Some j = sym none ∙ is in cc
   given-nothing bytes none NotBuilt entries (j, is, gives) = let wrong : None ≡ Some j = sym none ∙ is in cc
+  given-nothing bytes none (BadShape s) entries (j, is, gives) = let wrong : None ≡ Some j = sym none ∙ is in cc
   given-nothing bytes none NotJson entries is = refl
 
   -- the bytes of a bench give one thing

@@ -1,9 +1,10 @@
 //! From the bytes of a bench to the text that is written.
 ghost use Rattle.std.specs.Prelude.{◌≡◌, Some, IfOk, IfErr, MatchOption, codes, option_map};
 ghost use Rattle.serde_json.specs.View.{view};
-ghost use Rattle.gql_cli.specs.Bench.{json_of, bench_request, behind, lines_for, JsonGives, QueryGives, Gives, HoldsTold, WithRecord};
+ghost use Rattle.gql_cli.specs.Bench.{json_of, bench_request, behind, lines_for, BenchGives, JsonGives, QueryGives, Gives, HoldsTold, WithRecord};
 ghost use Rattle.gql_cli.specs.BenchAnswers.{IsBenchOf, IsSuited, IsSetOf};
 ghost use Rattle.gql_cli.specs.FirstBench.{IsNoFirstBench};
+ghost use Rattle.gql_cli.specs.Shape.{form_command, shape_line, IsBadShape, IsWellShaped};
 
 use crate::answer::{refusal_of, response_of};
 use crate::first_bench::read_first_bench;
@@ -12,6 +13,7 @@ use crate::table_maker::Tables;
 use crate::tables::{Bench, bench_of_first};
 use gql_base::{Made, Text};
 use gql_doc::parse_query;
+use gql_form::{Command as FormCommand, form_of};
 use gql_resolve::{RecordEntry, ResolverSet};
 use serde_json::Value;
 use std::alloc::{AllocError, Global};
@@ -25,7 +27,9 @@ pub enum Written {
     Refused(Text),
     /// The bytes are no JSON.
     NotJson,
-    /// The JSON is no bench of the forms that are built.
+    /// The line that tells the first bad place of JSON that is no bench.
+    BadShape(Text),
+    /// The bench isn't of the forms that are built.
     NotBuilt,
 }
 
@@ -36,6 +40,18 @@ pub enum Command {
     Execute,
     /// The record of the polls that were made for it, and then the response.
     Record,
+}
+
+impl Command {
+    /// The command by which its bench is read.
+    fn form(self) -> FormCommand
+        ensures { result ≡ form_command self }
+    {
+        match self {
+            Command::Execute => FormCommand::Execute,
+            Command::Record => FormCommand::Record,
+        }
+    }
 }
 
 /// What the bytes of a bench give to a command.
@@ -64,8 +80,7 @@ fn json_value(alloc: Global, bytes: &[u8]) -> Made<Option<Value>>
     }
 }
 
-/// What a JSON value gives to a command as a bench. The value is let go of once the bench is made of it, so that its room
-/// serves the run.
+/// What a JSON value gives to a command. Its shape is looked at first, as a whole.
 fn bench_text<M: Tables>(
     alloc: Global,
     command: Command,
@@ -73,6 +88,43 @@ fn bench_text<M: Tables>(
     tables: &mut M,
 ) -> Made<Written>
     ensures { IfOk result (WithRecord (JsonGives command (view json)) (HoldsTold (M.held tables.new) M.Set.told)) }
+{
+    match bad_shape(alloc, command, &json)? {
+        Some(line) => Ok(Written::BadShape(line)),
+        None => built_text(alloc, command, json, tables),
+    }
+}
+
+/// The line that tells the first bad place of a JSON value, where it is no bench.
+fn bad_shape(alloc: Global, command: Command, json: &Value) -> Made<Option<Text>>
+    ensures { IfOk result (λ found. MatchOption found
+        (IsWellShaped command (view json.now)) (IsBadShape command (view json.now))) }
+{
+    match form_of(alloc, command.form(), json)? {
+        Ok(_) => Ok(None),
+        Err(place) => Ok(Some(bad_shape_line(alloc, place.as_str())?)),
+    }
+}
+
+/// The line that tells a bad place.
+fn bad_shape_line(alloc: Global, place: &str) -> Made<Text>
+    ensures { IfOk result (λ line. line ≡ shape_line place.now) }
+{
+    let mut out = String::from_str(alloc, "bench: bad shape at ")?;
+    out.push_str(place)?;
+    out.push_str("\n")?;
+    Ok(Text::from_string(out))
+}
+
+/// What a JSON value of the shape of a bench gives to a command. The value is let go of once the bench is made of it, so that
+/// its room serves the run.
+fn built_text<M: Tables>(
+    alloc: Global,
+    command: Command,
+    json: Value,
+    tables: &mut M,
+) -> Made<Written>
+    ensures { IfOk result (WithRecord (BenchGives command (view json)) (HoldsTold (M.held tables.new) M.Set.told)) }
 {
     let made = bench_of(alloc, command, &json)?;
     drop(json);

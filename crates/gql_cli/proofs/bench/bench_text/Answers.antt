@@ -1,13 +1,11 @@
+use Rattle.std.proofs.Common.{[]}
 use Rattle.serde_json.specs.View.{view}
-use Rattle.gql_cli.proofs.BenchLemmas.{made-gives, no-bench, suited}
+use Rattle.gql_cli.proofs.BenchLemmas.{well-shaped}
 use Rattle.gql_cli.proofs.bench.bench_text.Goals as goal
 
-pub returns-in-Ok : goal.returns-in-Ok
-returns-in-Ok g c =
-    made-gives _ c.args.command (view c.args.json) c.in-Ok.bench (rw c.in-Ok.is at c.in_ok-made.ensures.built) c.query_text.result c.query_text.ensures
+pub returns-in-Some : goal.returns-in-Some
+returns-in-Some g c = ([], rw c.in-Some.is at c.in_ok-line.ensures, tt)
 
-pub query_text-requires : goal.query_text-requires
-query_text-requires g c = suited (view c.args.json) c.in-Ok.bench (rw c.in-Ok.is at c.in_ok-made.ensures.built)
-
-pub returns : goal.returns
-returns g c = no-bench c.args.command (view c.args.json) (rw c.in-Err.is at c.in_ok-made.ensures.refused).1
+pub returns-in-None : goal.returns-in-None
+returns-in-None g c =
+    well-shaped _ c.args.command (view c.args.json) (rw c.in-None.is at c.in_ok-line.ensures) c.built_text.result c.built_text.ensures

@@ -1,0 +1,4 @@
+pub mod HeaderLemmas
+pub mod PathLemmas
+pub mod ReadLemmas
+pub mod TypeTextLemmas

@@ -1,0 +1,10 @@
+/// What the program does with a bench.
+#[derive(Clone, Copy, PartialEq, Eq, Debug)]
+pub enum Command {
+    Execute,
+    Record,
+    Batch,
+    Threads,
+    Stream,
+    Ws,
+}
