@@ -1,11 +1,18 @@
 use Rattle.std.proofs.Common.{[]}
 use Rattle.serde_json.specs.View.{view}
-use Rattle.gql_cli.proofs.BenchLemmas.{well-shaped}
+use Rattle.gql_cli.proofs.BenchLemmas.{made-gives, no-bench, suited}
 use Rattle.gql_cli.proofs.bench.bench_text.Goals as goal
 
-pub returns-in-Some : goal.returns-in-Some
-returns-in-Some g c = ([], rw c.in-Some.is at c.in_ok-line.ensures, tt)
+pub returns-in-Bench : goal.returns-in-Bench
+returns-in-Bench g c =
+    made-gives _ c.args.command (view c.args.json) c.in-Bench.bench (rw c.in-Bench.is at c.in_ok-found.ensures) c.query_text.result c.query_text.ensures
 
-pub returns-in-None : goal.returns-in-None
-returns-in-None g c =
-    well-shaped _ c.args.command (view c.args.json) (rw c.in-None.is at c.in_ok-line.ensures) c.built_text.result c.built_text.ensures
+pub query_text-requires : goal.query_text-requires
+query_text-requires g c = suited c.args.command (view c.args.json) c.in-Bench.bench (rw c.in-Bench.is at c.in_ok-found.ensures)
+
+pub returns-in-NotBuilt : goal.returns-in-NotBuilt
+returns-in-NotBuilt g c = ([], no-bench c.args.command (view c.args.json) (rw c.in-NotBuilt.is at c.in_ok-found.ensures), tt)
+
+pub returns-in_ok-bad_shape_line-in-BadAt : goal.returns-in_ok-bad_shape_line-in-BadAt
+returns-in_ok-bad_shape_line-in-BadAt g c =
+    ([], (c.in-BadAt.place, rw c.in-BadAt.is at c.in_ok-found.ensures, c.in_ok-bad_shape_line-in-BadAt.ensures), tt)
