@@ -1,5 +1,7 @@
 -- Pairs in byte order of their names: what `set_in_order`, `unset_in` and a look-up come to at a place, and that they keep the order.
-use Rattle.std.proofs.Common.{◌≡◌, ℕ, zero, suc, ◌+◌, ◌<◌, ◌≤◌, Bool, true, false, cond, not, List, [], ◌∷◌, ◌++◌, length, get_or, slice_set, Some, None, Result, Ok, Err, MatchResult, Ordering, refl, ap, sym, ◌∙◌, subst, arith, filter, Less, Equal, Greater}
+use Rattle.std.proofs.Common.{◌≡◌, ℕ, zero, suc, ◌+◌, ◌<◌, ◌≤◌, Bool, true, false, cond, not, List, [], ◌∷◌, ◌++◌, length, get_or}
+use Rattle.std.proofs.Common.{slice_set, Some, None, Result, Ok, Err, MatchResult, Ordering, refl, ap, sym, ◌∙◌, subst, arith}
+use Rattle.std.proofs.Common.{filter, Less, Equal, Greater}
 use Rattle.std.proofs.lemmas.Cmp.{nat_list_cmp_total, tied_itself}
 use Rattle.std.proofs.lemmas.List.{length-map}
 use Rattle.std.proofs.Math.ListN.{get_or-map}
@@ -78,7 +80,8 @@ module _ {T : Type 0} (name : List ℕ) where
   stands-within (p ∷ ps) zero at = omega arith
   stands-within (p ∷ ps) (suc i) at = omega (arith, stands-within ps i at.1)
 
-  pub set-standing : (ps : List (List ℕ × T)) (i : ℕ) (value : T) → StandsAt name ps i → set_in_order ps name value ≡ slice_set ps i (name, value)
+  pub set-standing : (ps : List (List ℕ × T)) (i : ℕ) (value : T) → StandsAt name ps i
+      → set_in_order ps name value ≡ slice_set ps i (name, value)
   set-standing [] i value at = absurd at
   set-standing (p ∷ ps) zero value at =
       let here : name_order p.0 name ≡ Equal = same-order p.0 name at.0 in
@@ -112,7 +115,8 @@ module _ {T : Type 0} (name : List ℕ) where
   belongs-within [] (suc i) at = absurd at
   belongs-within (p ∷ ps) (suc i) at = omega (arith, belongs-within ps i at.1)
 
-  pub set-belonging : (ps : List (List ℕ × T)) (i : ℕ) (value : T) → BelongsAt name ps i → set_in_order ps name value ≡ insert ps i (name, value)
+  pub set-belonging : (ps : List (List ℕ × T)) (i : ℕ) (value : T) → BelongsAt name ps i
+      → set_in_order ps name value ≡ insert ps i (name, value)
   set-belonging ps zero value at = λ j. none-before ps at j ++ (name, value) ∷ all-behind ps at j
   set-belonging [] (suc i) value at = absurd at
   set-belonging (p ∷ ps) (suc i) value at = set-step p ps value at.0 ∙ ap (λ qs. p ∷ qs) (set-belonging ps i value at.1)
@@ -216,7 +220,8 @@ module _ {T : Type 0} (name : List ℕ) where
       let turned : name_order name p.0 ≡ Less = subst (λ m. name_order m p.0 ≡ Less) same here in
       (reversed p.0 name ∙ ap ordering_reverse turned, behind-found n ps same below)
 
-  before-found : (n : List ℕ) (ps : List (List ℕ × T)) (i : ℕ) → StandsAt name ps i → AllByRecursion (λ m. name_order n m ≡ Less) (names_of ps)
+  before-found : (n : List ℕ) (ps : List (List ℕ × T)) (i : ℕ) → StandsAt name ps i
+      → AllByRecursion (λ m. name_order n m ≡ Less) (names_of ps)
       → name_order n name ≡ Less
   before-found n [] i at below = absurd at
   before-found n (p ∷ ps) zero at (here, below) = subst (λ m. name_order n m ≡ Less) at.0 here
@@ -231,7 +236,8 @@ module _ {T : Type 0} (name : List ℕ) where
       let rest : StandsAt name ps i = stands ps i (sorted_tail name_order p.0 (names_of ps) ordered) (omega arith) at in
       (before-found p.0 ps i rest (sorted_head name_order p.0 (names_of ps) ordered), rest)
 
-  behind-place : (ps : List (List ℕ × T)) → AllWithin (λ p. to_name p ≡ Greater) ps 0 (length ps) → AllByRecursion (λ q. name_order q.0 name ≡ Greater) ps
+  behind-place : (ps : List (List ℕ × T)) → AllWithin (λ p. to_name p ≡ Greater) ps 0 (length ps)
+      → AllByRecursion (λ q. name_order q.0 name ≡ Greater) ps
   behind-place [] behind = tt
   behind-place (p ∷ ps) behind =
       (behind 0 p (omega arith) (omega arith), behind-place ps (λ k d low high. behind (suc k) d (omega arith) (omega arith)))

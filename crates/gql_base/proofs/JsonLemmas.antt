@@ -1,5 +1,6 @@
 -- Which bytes and characters stand for themselves in a JSON string.
-use Rattle.std.proofs.Common.{rules, map, codes, ◌≡◌, ℕ, ◌+◌, ◌/◌, ◌%◌, ◌≤◌, Bool, true, false, cond, ltb, List, [], ◌∷◌, ◌++◌, refl, ap, arith, append-nil, append_assoc, sym, ◌∙◌}
+use Rattle.std.proofs.Common.{rules, map, codes, ◌≡◌, ℕ, ◌+◌, ◌/◌, ◌%◌, ◌≤◌, Bool, true, false, cond, ltb, List, [], ◌∷◌, ◌++◌}
+use Rattle.std.proofs.Common.{refl, ap, arith, append-nil, append_assoc, sym, ◌∙◌}
 use Rattle.std.proofs.Math.Utf8.{encode, encodes}
 use Rattle.std.proofs.lemmas.Bool.Decides.{nat_tests}
 use Rattle.std.proofs.lemmas.List.Elements.{All-head, All-tail, All-from_recursion}

@@ -1,3 +1,4 @@
+pub mod SendLemmas
 pub mod PairLemmas
 pub mod NamesLemmas
 pub mod PlacesLemmas

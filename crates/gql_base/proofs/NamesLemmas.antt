@@ -1,5 +1,7 @@
 -- Lists of distinct names, and the place of each.
-use Rattle.std.proofs.Common.{◌≡◌, ℕ, zero, suc, ◌+◌, ◌<◌, Bool, true, false, cond, List, [], ◌∷◌, ◌++◌, length, take, Option, Some, None, slice_get, slice_index_or, le_of_lt, length-take-le, IfSome, OnOk, OnErr, Result, Ok, Err, refl, ap, sym, ◌∙◌, arith}
+use Rattle.std.proofs.Common.{◌≡◌, ℕ, zero, suc, ◌+◌, ◌<◌, Bool, true, false, cond, List, [], ◌∷◌, ◌++◌, length, take, Option}
+use Rattle.std.proofs.Common.{Some, None, slice_get, slice_index_or, le_of_lt, length-take-le, IfSome, OnOk, OnErr, Result, Ok}
+use Rattle.std.proofs.Common.{Err, refl, ap, sym, ◌∙◌, arith}
 use Rattle.std.specs.Option.{option_map, option_map_or}
 use Rattle.std.specs.Str.{bytes_eq}
 use Rattle.std.specs.Cmp.Lexicographic.{bytes_decides, nat_list_eq_equiv}
@@ -45,7 +47,8 @@ pub or_at_none : (o : Option ℕ) (i : ℕ) → or_at o false i ≡ o
 or_at_none None i = refl
 or_at_none (Some j) i = refl
 
-pub place_pushed : (m n : List ℕ) (names : List (List ℕ)) → place_of m (names ++ n ∷ []) ≡ or_at (place_of m names) (bytes_eq m n) (length names)
+pub place_pushed : (m n : List ℕ) (names : List (List ℕ))
+    → place_of m (names ++ n ∷ []) ≡ or_at (place_of m names) (bytes_eq m n) (length names)
 place_pushed m n [] = refl
 place_pushed m n (x ∷ xs) =
     let P : Bool → Type 0 = λ b. cond b (Some 0) (next (place_of m (xs ++ n ∷ []))) ≡ or_at (cond b (Some 0) (next (place_of m xs))) (bytes_eq m n) (suc (length xs)) in
@@ -83,7 +86,8 @@ place_present (x ∷ xs) (suc i) n at none =
     place_present xs i n at (none_split (bytes_eq n x) (place_of n xs) none).1
 
 -- a name at a place isn't among the names before it
-pub place_front : (names : List (List ℕ)) (i : ℕ) (n : List ℕ) → AreDistinct names → slice_get names i ≡ Some n → place_of n (take i names) ≡ None
+pub place_front : (names : List (List ℕ)) (i : ℕ) (n : List ℕ) → AreDistinct names → slice_get names i ≡ Some n
+    → place_of n (take i names) ≡ None
 place_front [] i n distinct at = cc
 place_front (x ∷ xs) zero n distinct at = refl
 place_front (x ∷ xs) (suc i) n (fresh, distinct) at =
@@ -112,7 +116,8 @@ place_here name (x ∷ xs) (suc i) none at =
     let each = none_split (bytes_eq name x) (place_of name (take i xs)) none in
     rw each.0 (ap next (place_here name xs i each.1 at))
 
-pub place_not_here : (name : List ℕ) (names : List (List ℕ)) (i : ℕ) (other : List ℕ) → place_of name (take i names) ≡ None → i < length names
+pub place_not_here : (name : List ℕ) (names : List (List ℕ)) (i : ℕ) (other : List ℕ) → place_of name (take i names) ≡ None
+    → i < length names
     → other ≡ slice_index_or names i other → bytes_eq name other ≡ false → place_of name (take (i + 1) names) ≡ None
 place_not_here name names i other none within read differs =
     let at : slice_get names i ≡ Some other = slice_get_read names (length names) i other refl within read in

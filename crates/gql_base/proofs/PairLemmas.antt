@@ -1,5 +1,7 @@
 -- Names beside their values: what look-up, `put` and distinct names come to where the pairs are made of two lists.
-use Rattle.std.proofs.Common.{◌≡◌, ℕ, zero, suc, ◌+◌, ◌<◌, ◌≤◌, Bool, true, false, cond, not, ◌&&◌, List, [], ◌∷◌, ◌++◌, length, take, Option, Some, None, slice_get, slice_set, slice_index_or, refl, ap, sym, ◌∙◌, subst, arith, length-append}
+use Rattle.std.proofs.Common.{◌≡◌, ℕ, zero, suc, ◌+◌, ◌<◌, ◌≤◌, Bool, true, false, cond, not, ◌&&◌, List, [], ◌∷◌, ◌++◌, length}
+use Rattle.std.proofs.Common.{take, Option, Some, None, slice_get, slice_set, slice_index_or, refl, ap, sym, ◌∙◌, subst, arith}
+use Rattle.std.proofs.Common.{length-append}
 use Rattle.std.proofs.lemmas.Option.{slice_get_read, slice_get_within, get_or_from_slice_get}
 use Rattle.std.proofs.lemmas.List.{take_more, map-append}
 use Rattle.std.proofs.lemmas.Bool.Decides.{nat_tests}
@@ -88,7 +90,8 @@ module _ {T : Type 0} where
       let at : suc j ≡ i = ap (λ o. option_map_or (λ n. n) o 0) found in
       rw (sym at) (ap (λ ps. (k, y) ∷ ps) (each j refl))
 
-  pub put_zipped : (sought : List ℕ) (ks : List (List ℕ)) (vs : List T) (v : T) (i : ℕ) → length vs ≡ length ks → place_of sought ks ≡ Some i
+  pub put_zipped : (sought : List ℕ) (ks : List (List ℕ)) (vs : List T) (v : T) (i : ℕ) → length vs ≡ length ks
+      → place_of sought ks ≡ Some i
       → put (zip ks vs) sought v ≡ zip ks (slice_set vs i v)
   put_zipped sought [] vs v i e found = cc
   put_zipped sought (k ∷ ks) [] v i e found = absurd (omega arith)
@@ -115,7 +118,8 @@ module _ {T : Type 0} (ks : List (List ℕ)) (vs : List T) (ps : List (List ℕ 
   pairs_values = ap values_of (sym made) ∙ values_zipped ks vs same
 
   -- what a name and a value at one place are as a pair
-  pub pair_at : (i : ℕ) (k : List ℕ) (v : T) → i < length ps → slice_get ks i ≡ Some k → v ≡ slice_index_or vs i v → slice_get ps i ≡ Some (k, v)
+  pub pair_at : (i : ℕ) (k : List ℕ) (v : T) → i < length ps → slice_get ks i ≡ Some k → v ≡ slice_index_or vs i v
+      → slice_get ps i ≡ Some (k, v)
   pair_at i k v within named value =
       let long = pairs_long in
       ap (λ qs. slice_get qs i) (sym made) ∙ zipped_at ks vs i k v named (slice_get_read vs (length ks) i v (sym same) (omega (arith, long)) value)
@@ -151,10 +155,12 @@ module _ {T : Type 0} (sought : List ℕ) (ps : List (List ℕ × T)) where
   same_lengths : length (values_of ps) ≡ length (names_of ps)
   same_lengths = length-map ps (λ p. p.1) ∙ sym (length-map ps (λ p. p.0))
 
-  pub put_in_place : (i : ℕ) (v : T) → Some i ≡ place_of sought (names_of ps) → zip (names_of ps) (slice_set (values_of ps) i v) ≡ put ps sought v
+  pub put_in_place : (i : ℕ) (v : T) → Some i ≡ place_of sought (names_of ps)
+      → zip (names_of ps) (slice_set (values_of ps) i v) ≡ put ps sought v
   put_in_place i v found = put_found sought (names_of ps) (values_of ps) ps same_lengths (zipped_again ps) i v found
 
-  pub under_in_place : (i : ℕ) (v : T) → Some i ≡ place_of sought (names_of ps) → slice_get (values_of ps) i ≡ Some v → Some v ≡ under sought ps
+  pub under_in_place : (i : ℕ) (v : T) → Some i ≡ place_of sought (names_of ps) → slice_get (values_of ps) i ≡ Some v
+      → Some v ≡ under sought ps
   under_in_place i v found at =
       sym (under_place sought (names_of ps) (values_of ps) ps same_lengths (zipped_again ps) ∙ ap (option_and_then (slice_get (values_of ps))) (sym found) ∙ at)
 
@@ -246,7 +252,8 @@ same_zipped E (k ∷ ks) (j ∷ js) (v ∷ vs) (w ∷ ws) d e =
 
 -- the same by what two tests have told
 module _ {T : Type 0} (E : T → T → Bool) (ks js : List (List ℕ)) (vs ws : List T) (ps qs : List (List ℕ × T)) where
-  pub same_pairs : (named valued : Bool) → named ≡ pointwise bytes_eq ks js → valued ≡ pointwise E vs ws → length vs ≡ length ks → length ws ≡ length js
+  pub same_pairs : (named valued : Bool) → named ≡ pointwise bytes_eq ks js → valued ≡ pointwise E vs ws
+      → length vs ≡ length ks → length ws ≡ length js
       → zip ks vs ≡ ps → zip js ws ≡ qs → (named && valued) ≡ pointwise (same_pair E) ps qs
   same_pairs named valued told-names told-values one two made-one made-two =
       (λ i. told-names i && told-values i) ∙ sym (same_zipped E ks js vs ws one two)

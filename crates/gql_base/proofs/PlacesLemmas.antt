@@ -1,5 +1,6 @@
 -- An index of places: what it has once it is changed, or copied.
-use Rattle.std.proofs.Common.{◌≡◌, ℕ, ◌+◌, ◌<◌, Bool, true, false, cond, List, [], ◌∷◌, ◌++◌, length, take, Some, None, slice_get, slice_index_or, String, string_bytes, Global, refl, ap, sym, ◌∙◌, subst, length-append, arith}
+use Rattle.std.proofs.Common.{◌≡◌, ℕ, ◌+◌, ◌<◌, Bool, true, false, cond, List, [], ◌∷◌, ◌++◌, length, take, Some, None, slice_get}
+use Rattle.std.proofs.Common.{slice_index_or, String, string_bytes, Global, refl, ap, sym, ◌∙◌, subst, length-append, arith}
 use Rattle.std.specs.Str.{bytes_eq}
 use Rattle.std.specs.String.{string_cmp, string_eq}
 use Rattle.std.specs.Cmp.Lexicographic.{bytes_decides, nat_list_eq_equiv, slice_cmp}
@@ -35,7 +36,8 @@ tree_set m n name key place named updates other =
     ∙ ap (λ k. cond (bytes_eq k other) (Some place) (tree.get_by_text m other)) named
 
 -- what an index has once the next name is in it
-pub has_places_pushed : (old new : Places) (names : List (List ℕ)) (name : List ℕ) (place : ℕ) → place ≡ length names → place_of name names ≡ None
+pub has_places_pushed : (old new : Places) (names : List (List ℕ)) (name : List ℕ) (place : ℕ) → place ≡ length names
+    → place_of name names ≡ None
     → HasPlaces old names → SetsPlace old new name place → HasPlaces new (names ++ name ∷ [])
 has_places_pushed old new names name place at none has sets other =
     let P : Bool → Type 0 = λ b. (b ≡ true → name ≡ other) → bytes_eq other name ≡ b
@@ -64,14 +66,16 @@ length_more : (names : List (List ℕ)) (name : List ℕ) → length (names ++ n
 length_more names name = length-append names (name ∷ [])
 
 -- an index in which there is room for one name more, once its place is in it
-pub index_pushed : (room new : Places) (names : List (List ℕ)) (name : List ℕ) (place : ℕ) → place ≡ length names → place_of name names ≡ None
+pub index_pushed : (room new : Places) (names : List (List ℕ)) (name : List ℕ) (place : ℕ) → place ≡ length names
+    → place_of name names ≡ None
     → HasPlaces room names → IsBounded room (length names + 1) → SetsPlace room new name place → ((size : ℕ) → IsBounded room size → IsBounded new size)
     → IsIndex new (names ++ name ∷ [])
 index_pushed room new names name place at none has bound sets form =
     (has_places_pushed room new names name place at none has sets, subst (λ size. IsBounded new size) (sym (length_more names name)) (form (length names + 1) bound))
 
 -- an index in which there is room for one name more, and whose places stayed
-pub index_kept : (room new : Places) (names : List (List ℕ)) → HasPlaces room names → IsBounded room (length names + 1) → SamePlaces room new
+pub index_kept : (room new : Places) (names : List (List ℕ)) → HasPlaces room names → IsBounded room (length names + 1)
+    → SamePlaces room new
     → ((size : ℕ) → IsBounded room size → IsBounded new size) → IsIndex new names
 index_kept room new names has bound same form = ((λ name. same name ∙ has name), bounded_less new (length names) (form (length names + 1) bound))
 

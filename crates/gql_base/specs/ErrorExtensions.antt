@@ -27,7 +27,8 @@ extended error values = record error { extensions = Some (overlaid (values_or_no
 abbrev pub bare : List ℕ → Error
 bare text = record { message = text; extensions = None }
 
-module _ {C S E : Type 0} (g : Once C (Bor S × (MutBor Values × Unit {0})) (Result (Unit {0}) E × (MutBor Values × Unit {0}))) (callback : C) (value : S) where
+module _ {C S E : Type 0} (g : Once C (Bor S × (MutBor Values × Unit {0})) (Result (Unit {0}) E × (MutBor Values × Unit {0})))
+    (callback : C) (value : S) where
   -- a callback may be called on a value and any extensions
   abbrev pub IsCallableOn : Type 0
   IsCallableOn = (seen : Bor S) (given : MutBor Values) → seen.now ≡ value → g.pre callback (seen, (given, tt))
@@ -49,7 +50,9 @@ module _ {C S E : Type 0} (g : Once C (Bor S × (MutBor Values × Unit {0})) (Re
     pub is : made ≡ extended plain values
 
 -- a result whose error is told with what a callback adds
-abbrev pub IsExtendedResult : {C T S E : Type 0} (g : Once C (Bor S × (MutBor Values × Unit {0})) (Result (Unit {0}) E × (MutBor Values × Unit {0}))) → C → (S → Error) → Result T S → Result T Error → Type 0
+abbrev pub IsExtendedResult : {C T S E : Type 0}
+    (g : Once C (Bor S × (MutBor Values × Unit {0})) (Result (Unit {0}) E × (MutBor Values × Unit {0})))
+    → C → (S → Error) → Result T S → Result T Error → Type 0
 IsExtendedResult g callback told (Ok value) (Ok other) = other ≡ value
 IsExtendedResult g callback told (Ok value) (Err error) = ⊥
 IsExtendedResult g callback told (Err value) (Ok other) = ⊥

@@ -3,7 +3,8 @@
 use Rattle.std.specs.Prelude.{ℕ, ◌||◌, pos, Bool, false, List, [], ◌∷◌, ◌++◌, length, codes, if◌then◌else◌, Option, Result, Ok, Err}
 use Rattle.std.specs.Result.{result_ok}
 use Rattle.std.specs.Str.{bytes_eq}
-use Rattle.serde_json.specs.Data.{Num, unsigned, negative, float, Data, null, boolean, number, string, array, object, Items, no_items, item, Members, no_members, member}
+use Rattle.serde_json.specs.Data.{Num, unsigned, negative, float, Data, null, boolean, number, string, array, object}
+use Rattle.serde_json.specs.Data.{Items, no_items, item, Members, no_members, member}
 use Rattle.gql_base.specs.Letters.{is_name}
 use Rattle.gql_base.specs.Pairs.{put}
 use Rattle.gql_base.specs.declared.path_segment.PathSegment.{PathSegment}

@@ -1,4 +1,5 @@
-ghost use Rattle.std.specs.Prelude.{All, ◌≡◌, [], ◌∷◌, ◌++◌, ◌<◌, ◌/◌, ◌%◌, ◌↔◌, IsTrue, length, map, codes, IfOk, OnOk, string_bytes, encode_utf8};
+ghost use Rattle.std.specs.Prelude.{◌≡◌, ◌↔◌, [], ◌∷◌, ◌++◌, ◌<◌, ◌/◌, ◌%◌, All, IsTrue, length, map, codes};
+ghost use Rattle.std.specs.Prelude.{IfOk, OnOk, string_bytes, encode_utf8};
 ghost use Rattle.std.specs.Char.{digit_char};
 ghost use Rattle.std.specs.List.{flat_map};
 ghost use Rattle.gql_base.specs.Json.{escaped, IsPlain, quoted, comma_of, colon_of, name_text, member, value_text, json, literal};
@@ -195,7 +196,8 @@ fn push_character(out: &mut String, character: char) -> Made<()>
 /// Appends the escape of a character under U+0020 by its number.
 fn push_code(out: &mut String, character: char) -> Made<()>
     requires { character < 32 }
-    ensures { OnOk result (string_bytes out.new ≡ string_bytes out.old ++ (codes "\\u00" ++ digit_char (character / 16) ∷ digit_char (character % 16) ∷ [])) }
+    ensures { OnOk result (string_bytes out.new ≡ string_bytes out.old
+        ++ (codes "\\u00" ++ digit_char (character / 16) ∷ digit_char (character % 16) ∷ [])) }
 {
     let code = u32::from(character);
     out.push_str("\\u00")?;

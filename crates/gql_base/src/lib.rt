@@ -8,14 +8,10 @@ mod error;
 mod error_extension_values;
 mod error_extensions;
 mod error_json;
-#[cfg(test)]
-mod error_tests;
 mod items;
 mod json;
 mod json_list;
 mod json_place;
-#[cfg(test)]
-mod json_tests;
 mod letters;
 mod made;
 mod name;
@@ -24,8 +20,6 @@ mod no_memory;
 mod number;
 mod order;
 mod pairs;
-#[cfg(test)]
-mod pairs_tests;
 mod path_segment;
 mod places;
 mod pos;
@@ -35,8 +29,6 @@ mod result_ext;
 mod server_error;
 mod shared;
 mod steps;
-#[cfg(test)]
-mod tests;
 mod text;
 mod type_ref;
 mod value;

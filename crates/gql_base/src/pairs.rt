@@ -1,4 +1,5 @@
-ghost use Rattle.std.specs.Prelude.{◌≡◌, ◌↔◌, [], ◌∷◌, ◌++◌, ◌<◌, IsTrue, length, slice_get, slice_set, IfOk, IfSome, OnOk, OnErr, Some, None, vec_len};
+ghost use Rattle.std.specs.Prelude.{◌≡◌, ◌↔◌, [], ◌∷◌, ◌++◌, ◌<◌, IsTrue, length, slice_get, slice_set, vec_len};
+ghost use Rattle.std.specs.Prelude.{IfOk, IfSome, OnOk, OnErr, Some, None};
 ghost use Rattle.std.specs.Borrow.{Lends, LendsIf, sem};
 ghost use Rattle.std.specs.List.{zip};
 ghost use Rattle.std.specs.Option.{option_copied, option_copied_mut};

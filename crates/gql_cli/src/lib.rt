@@ -10,21 +10,13 @@ mod list_turns;
 mod outcome;
 mod program;
 mod query;
-#[cfg(test)]
-mod record_tests;
 mod record_text;
 mod rule;
-#[cfg(test)]
-mod runs;
 mod shared;
 mod status;
 mod table;
 mod table_maker;
-#[cfg(test)]
-mod table_tests;
 mod tables;
-#[cfg(test)]
-mod tests;
 
 pub use bench::{Command, Written, bench_of};
 pub use gql_io::{

@@ -24,11 +24,16 @@ use Rattle.gql_doc.specs.declared.document.DocumentOperations.{DocumentOperation
 use Rattle.gql_doc.specs.declared.document.DocumentOperations.TheVariants.{Single, Multiple}
 use Rattle.gql_doc.specs.declared.document.ExecutableDocument.{ExecutableDocument}
 use Rattle.gql_doc.specs.declared.tree.SetTree.{SetTree}
-use Rattle.gql_doc.specs.declared.tree.ValueTree.{ValueTree, Variable, Number, String, Boolean, Null, Enum, List', Object', Row_of-ValueTree, end_of-ValueTree, more_of-ValueTree, Row_of-MemberTree, end_of-MemberTree, more_of-MemberTree}
+use Rattle.gql_doc.specs.declared.tree.ValueTree.{ValueTree, Variable, Number, String, Boolean, Null, Enum}
+use Rattle.gql_doc.specs.declared.tree.ValueTree.{List', Object', Row_of-ValueTree, end_of-ValueTree}
+use Rattle.gql_doc.specs.declared.tree.ValueTree.{more_of-ValueTree, Row_of-MemberTree, end_of-MemberTree}
+use Rattle.gql_doc.specs.declared.tree.ValueTree.{more_of-MemberTree}
 use Rattle.gql_doc.specs.declared.tree.ArgumentTree.{ArgumentTree}
 use Rattle.gql_doc.specs.declared.tree.DirectiveTree.{DirectiveTree}
 use Rattle.gql_doc.specs.declared.tree.VariableTree.{VariableTree}
-use Rattle.gql_doc.specs.declared.tree.SelectionTree.{SelectionTree, Field', Spread, Inline', Row_of-SelectionTree, end_of-SelectionTree, more_of-SelectionTree}
+use Rattle.gql_doc.specs.declared.tree.SelectionTree.{SelectionTree, Field', Spread, Inline'}
+use Rattle.gql_doc.specs.declared.tree.SelectionTree.{Row_of-SelectionTree, end_of-SelectionTree}
+use Rattle.gql_doc.specs.declared.tree.SelectionTree.{more_of-SelectionTree}
 use Rattle.gql_doc.specs.declared.tree.OperationTree.{OperationTree}
 use Rattle.gql_doc.specs.declared.tree.FragmentTree.{FragmentTree}
 use Rattle.gql_doc.specs.declared.tree.DefinitionTree.{DefinitionTree}
@@ -77,7 +82,8 @@ abbrev mutual
 
   pub constant_members_of : {m : Count} → Row_of-MemberTree m → List (List ℕ × Value)
   constant_members_of end_of-MemberTree = []
-  constant_members_of (more_of-MemberTree name value members) = (name.node, constant_of value) ∷ constant_members_of members
+  constant_members_of (more_of-MemberTree name value members) = (name.node, constant_of value)
+      ∷ constant_members_of members
 
 -- Argument (section 2.6)
 abbrev pub argument_of : ArgumentTree → Argument
@@ -109,7 +115,8 @@ abbrev mutual
       (selection.Field (placed (head_pos alias name)
       (roll-Field (record { alias = alias; name = name; arguments = map argument_of arguments; directives = map directive_of directives; selection_set = set_of set (selections_of selections) }))))
   selection_of (Spread pos name directives) =
-      placed pos (selection.FragmentSpread (placed pos (record { fragment_name = name; directives = map directive_of directives })))
+      placed pos (selection.FragmentSpread (placed pos
+      (record { fragment_name = name; directives = map directive_of directives })))
   selection_of (Inline' pos condition directives set _ selections) =
       placed pos
       (selection.InlineFragment (placed pos
@@ -159,11 +166,15 @@ fragments_of (Operation operation) = []
 fragments_of (Fragment fragment) = (fragment.name.node, fragment_of fragment) ∷ []
 
 -- an operation without a name stands alone; others stand under their names, even a single one
-abbrev pub operations_of : Option (Positioned OperationDefinition) → List (List ℕ × Positioned OperationDefinition) → DocumentOperations
+abbrev pub operations_of : Option (Positioned OperationDefinition)
+    → List (List ℕ × Positioned OperationDefinition) → DocumentOperations
 operations_of (Some anonymous) named = Single anonymous
 operations_of None named = Multiple named
 
 -- Document (section 2.2)
 abbrev pub document_of : List DefinitionTree → ExecutableDocument
 document_of definitions =
-    record { operations = operations_of (first_in anonymous_of definitions) (flat_map named_of definitions); fragments = flat_map fragments_of definitions }
+    record {
+      operations = operations_of (first_in anonymous_of definitions) (flat_map named_of definitions);
+      fragments = flat_map fragments_of definitions;
+    }

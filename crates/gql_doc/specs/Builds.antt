@@ -43,7 +43,8 @@ abbrev pub doubled_in_member : List (List ℕ) → MemberTree → Option Pos
 doubled_in_member names member = option_or (if_doubled names member.name) (doubled_in_value member.value)
 
 -- the first fault of parts that have names, behind those of these names
-abbrev pub first_behind : {A : Type 0} → (A → List (List ℕ)) → (List (List ℕ) → A → Option Pos) → List (List ℕ) → List A → Option Pos
+abbrev pub first_behind : {A : Type 0} → (A → List (List ℕ)) → (List (List ℕ) → A → Option Pos) → List (List ℕ)
+    → List A → Option Pos
 first_behind names_in f names [] = None
 first_behind names_in f names (x ∷ xs) = option_or (f names x) (first_behind names_in f (names ++ names_in x) xs)
 

@@ -35,9 +35,11 @@ field_set field = (out-Field field.node).selection_set
 abbrev pub fragment_set : Positioned FragmentDefinition → Positioned SelectionSet
 fragment_set fragment = fragment.node.selection_set
 
-abbrev pub set_under : Fragments → Selection-F Selection Field InlineFragment SelectionSet → Option (Positioned SelectionSet)
+abbrev pub set_under : Fragments → Selection-F Selection Field InlineFragment SelectionSet
+    → Option (Positioned SelectionSet)
 set_under fragments (Selection-F.Field field) = if_any (selections_of (field_set field)) (field_set field)
-set_under fragments (Selection-F.FragmentSpread spread) = option_map fragment_set (under spread.node.fragment_name.node fragments)
+set_under fragments (Selection-F.FragmentSpread spread) = option_map fragment_set
+    (under spread.node.fragment_name.node fragments)
 set_under fragments (Selection-F.InlineFragment fragment) = Some (out-InlineFragment fragment.node).selection_set
 
 -- the set one level deeper that a selection leads to, entering a spread where it stands
@@ -49,7 +51,8 @@ set_beneath fragments selection = set_under fragments (out-Selection selection.n
 abbrev pub deep_from : Fragments → ℕ → Positioned SelectionSet → Option Pos
 deep_from fragments zero set = Some set.pos
 deep_from fragments (suc left) set =
-    first_in (λ selection. option_and_then (deep_from fragments left) (set_beneath fragments selection)) (selections_of set)
+    first_in (λ selection. option_and_then (deep_from fragments left) (set_beneath fragments selection))
+    (selections_of set)
 
 abbrev pub operation_set : Positioned OperationDefinition → Positioned SelectionSet
 operation_set operation = operation.node.selection_set
@@ -62,4 +65,5 @@ operations_in (Multiple operations) = values_of operations
 -- the place of the first set that lies deeper than the limit, where the set of an operation has depth 0
 abbrev pub deep : ExecutableDocument → ℕ → Option Pos
 deep document limit =
-    first_in (λ operation. deep_from document.fragments (suc limit) (operation_set operation)) (operations_in document.operations)
+    first_in (λ operation. deep_from document.fragments (suc limit) (operation_set operation))
+    (operations_in document.operations)

@@ -10,20 +10,26 @@ use Rattle.gql_doc.specs.declared.document.OperationType.{OperationType}
 use Rattle.gql_doc.specs.declared.document.OperationType.TheVariants.{Query, Mutation, Subscription}
 use Rattle.gql_doc.specs.declared.tree.Variables.{Variables}
 use Rattle.gql_doc.specs.declared.tree.Variables.TheVariants.{Allowed, Forbidden}
-use Rattle.gql_doc.specs.declared.tree.ValueTree.{ValueTree, Variable, Number, String, Boolean, Null, Enum, List', Object', Row_of-ValueTree, end_of-ValueTree, more_of-ValueTree, Row_of-MemberTree, end_of-MemberTree, more_of-MemberTree}
+use Rattle.gql_doc.specs.declared.tree.ValueTree.{ValueTree, Variable, Number, String, Boolean, Null, Enum}
+use Rattle.gql_doc.specs.declared.tree.ValueTree.{List', Object', Row_of-ValueTree, end_of-ValueTree}
+use Rattle.gql_doc.specs.declared.tree.ValueTree.{more_of-ValueTree, Row_of-MemberTree, end_of-MemberTree}
+use Rattle.gql_doc.specs.declared.tree.ValueTree.{more_of-MemberTree}
 use Rattle.gql_doc.specs.declared.tree.MemberTree.{MemberTree}
 use Rattle.gql_doc.specs.declared.tree.ArgumentTree.{ArgumentTree}
 use Rattle.gql_doc.specs.declared.tree.DirectiveTree.{DirectiveTree}
 use Rattle.gql_base.specs.declared.type_ref.TypeRef as type
 use Rattle.gql_base.specs.declared.type_ref.TypeRef.{TypeRef, Row_of-TypeRef, end_of-TypeRef, more_of-TypeRef}
 use Rattle.gql_doc.specs.declared.tree.VariableTree.{VariableTree}
-use Rattle.gql_doc.specs.declared.tree.SelectionTree.{SelectionTree, Field', Spread, Inline', Row_of-SelectionTree, end_of-SelectionTree, more_of-SelectionTree}
+use Rattle.gql_doc.specs.declared.tree.SelectionTree.{SelectionTree, Field', Spread, Inline'}
+use Rattle.gql_doc.specs.declared.tree.SelectionTree.{Row_of-SelectionTree, end_of-SelectionTree}
+use Rattle.gql_doc.specs.declared.tree.SelectionTree.{more_of-SelectionTree}
 use Rattle.gql_doc.specs.declared.tree.SetTree.{SetTree}
 use Rattle.gql_doc.specs.declared.tree.OperationTree.{OperationTree}
 use Rattle.gql_doc.specs.declared.tree.FragmentTree.{FragmentTree}
 use Rattle.gql_doc.specs.declared.tree.DefinitionTree.{DefinitionTree}
 use Rattle.gql_doc.specs.declared.tree.DefinitionTree.TheVariants.{Operation, Fragment}
-use Rattle.gql_doc.specs.Words.{Word, Language, Nothing, ◌▸◌, Each, Maybe, One, Sign, SignAt, Keyword, KeywordAt, OneAt, Opens, OpensAt, Placed}
+use Rattle.gql_doc.specs.Words.{Word, Language, Nothing, ◌▸◌, Each, Maybe, One, Sign, SignAt, Keyword}
+use Rattle.gql_doc.specs.Words.{KeywordAt, OneAt, Opens, OpensAt, Placed}
 use Rattle.gql_doc.specs.Words.{PlacedName, PlacedType, PlacedValue}
 
 -- levels of nesting that a text may have, of each kind
@@ -101,7 +107,8 @@ AreDirectives variables = Each (IsDirective variables)
 abbrev mutual
   pub IsType : ℕ → TypeRef → Language
   IsType levels (type.Named name) = One (lexeme.Name name)
-  IsType levels (type.List' _ inner) = Opens levels sign.OpenBracket ▸ (IsTypeIn (pred levels) inner ▸ Sign sign.CloseBracket)
+  IsType levels (type.List' _ inner) = Opens levels sign.OpenBracket ▸
+      (IsTypeIn (pred levels) inner ▸ Sign sign.CloseBracket)
   IsType levels (type.NonNull' _ inner) = IsNullableIn levels inner ▸ Sign sign.Bang
 
   pub IsNullableType : ℕ → TypeRef → Language
@@ -130,7 +137,8 @@ abbrev pub IsVariable : VariableTree → Language
 IsVariable variable =
     SignAt sign.Dollar variable.pos
     ▸ (IsName variable.name
-    ▸ (Sign sign.Colon ▸ (IsPlacedType variable.ty ▸ (Maybe IsDefault variable.default ▸ AreDirectives Forbidden variable.directives))))
+    ▸ (Sign sign.Colon ▸ (IsPlacedType variable.ty ▸
+    (Maybe IsDefault variable.default ▸ AreDirectives Forbidden variable.directives))))
 
 -- VariableDefinitions (section 2.10)
 abbrev pub AreVariables : List VariableTree → Language
@@ -160,11 +168,13 @@ abbrev mutual
   pub IsSelection : ℕ → SelectionTree → Language
   IsSelection levels (Field' alias name arguments directives set _ selections) =
       IsHead alias name
-      ▸ (AreArguments Allowed arguments ▸ (AreDirectives Allowed directives ▸ IsSetOrNone levels (head_pos alias name) set selections))
+      ▸ (AreArguments Allowed arguments ▸ (AreDirectives Allowed directives ▸ IsSetOrNone levels
+      (head_pos alias name) set selections))
   IsSelection levels (Spread pos name directives) =
       SignAt sign.Spread pos ▸ (IsFragmentName name ▸ AreDirectives Allowed directives)
   IsSelection levels (Inline' pos condition directives set _ selections) =
-      SignAt sign.Spread pos ▸ (Maybe IsCondition condition ▸ (AreDirectives Allowed directives ▸ IsSetOf levels set selections))
+      SignAt sign.Spread pos ▸ (Maybe IsCondition condition ▸
+      (AreDirectives Allowed directives ▸ IsSetOf levels set selections))
 
   pub IsSetOrNone : ℕ → Pos → Pos → {m : Count} → Row_of-SelectionTree m → Language
   IsSetOrNone levels field set end_of-SelectionTree = λ ms. (set ≡ field) × Nothing ms

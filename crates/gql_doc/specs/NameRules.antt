@@ -8,11 +8,15 @@ use Rattle.gql_base.specs.declared.pos.Pos.{Pos}
 use Rattle.std.specs.Option.{option_or}
 use Rattle.gql_doc.specs.First.{first_in}
 use Rattle.gql_doc.specs.declared.tree.SetTree.{SetTree}
-use Rattle.gql_doc.specs.declared.tree.ValueTree.{ValueTree, List', Object', Row_of-ValueTree, end_of-ValueTree, more_of-ValueTree, Row_of-MemberTree, end_of-MemberTree, more_of-MemberTree}
+use Rattle.gql_doc.specs.declared.tree.ValueTree.{ValueTree, List', Object', Row_of-ValueTree}
+use Rattle.gql_doc.specs.declared.tree.ValueTree.{end_of-ValueTree, more_of-ValueTree, Row_of-MemberTree}
+use Rattle.gql_doc.specs.declared.tree.ValueTree.{end_of-MemberTree, more_of-MemberTree}
 use Rattle.gql_doc.specs.declared.tree.ArgumentTree.{ArgumentTree}
 use Rattle.gql_doc.specs.declared.tree.DirectiveTree.{DirectiveTree}
 use Rattle.gql_doc.specs.declared.tree.VariableTree.{VariableTree}
-use Rattle.gql_doc.specs.declared.tree.SelectionTree.{SelectionTree, Field', Spread, Inline', Row_of-SelectionTree, end_of-SelectionTree, more_of-SelectionTree}
+use Rattle.gql_doc.specs.declared.tree.SelectionTree.{SelectionTree, Field', Spread, Inline'}
+use Rattle.gql_doc.specs.declared.tree.SelectionTree.{Row_of-SelectionTree, end_of-SelectionTree}
+use Rattle.gql_doc.specs.declared.tree.SelectionTree.{more_of-SelectionTree}
 use Rattle.gql_doc.specs.declared.tree.OperationTree.{OperationTree}
 use Rattle.gql_doc.specs.declared.tree.FragmentTree.{FragmentTree}
 use Rattle.gql_doc.specs.declared.tree.DefinitionTree.{DefinitionTree}
@@ -71,7 +75,8 @@ abbrev mutual
   pub doubled_in_members : List (List ℕ) → {m : Count} → Row_of-MemberTree m → Option Pos
   doubled_in_members names end_of-MemberTree = None
   doubled_in_members names (more_of-MemberTree name value members) =
-      option_or (option_or (if_doubled names name) (doubled_in_value value)) (doubled_in_members (names ++ name.node ∷ []) members)
+      option_or (option_or (if_doubled names name) (doubled_in_value value))
+      (doubled_in_members (names ++ name.node ∷ []) members)
 
 abbrev pub doubled_in_argument : ArgumentTree → Option Pos
 doubled_in_argument argument = doubled_in_value argument.value.node
@@ -90,12 +95,14 @@ doubled_in_default None = None
 doubled_in_default (Some default) = doubled_in_value default.node
 
 abbrev pub doubled_in_variable : VariableTree → Option Pos
-doubled_in_variable variable = option_or (doubled_in_default variable.default) (doubled_in_directives variable.directives)
+doubled_in_variable variable = option_or (doubled_in_default variable.default)
+    (doubled_in_directives variable.directives)
 
 abbrev mutual
   pub doubled_in_selection : SelectionTree → Option Pos
   doubled_in_selection (Field' alias name arguments directives set _ selections) =
-      option_or (doubled_in_arguments arguments) (option_or (doubled_in_directives directives) (doubled_in_selections selections))
+      option_or (doubled_in_arguments arguments) (option_or (doubled_in_directives directives)
+      (doubled_in_selections selections))
   doubled_in_selection (Spread pos name directives) = doubled_in_directives directives
   doubled_in_selection (Inline' pos condition directives set _ selections) =
       option_or (doubled_in_directives directives) (doubled_in_selections selections)

@@ -1,6 +1,7 @@
 -- Readers: what recursive descent with one token of sight answers for the tokens that are left. A reading is a value or
 -- the trouble, with the tokens behind the value, or those from the trouble on.
-use Rattle.std.specs.Prelude.{◌≡◌, ℕ, zero, suc, Bool, true, false, List, [], ◌∷◌, length, Option, Some, None, Result, Ok, Err}
+use Rattle.std.specs.Prelude.{◌≡◌, ℕ, zero, suc, Bool, true, false, List, [], ◌∷◌, length, Option, Some, None}
+use Rattle.std.specs.Prelude.{Result, Ok, Err}
 use Rattle.gql_base.specs.declared.pos.Pos.{Pos}
 use Rattle.gql_tokens.specs.declared.token.Token.{Token}
 use Rattle.gql_doc.specs.declared.trouble.Trouble.{Trouble}
@@ -101,7 +102,8 @@ placed make f tokens = mapped (make (place_of tokens)) f tokens
 
 -- where no level is left: an opening token is too deep
 abbrev pub too_deep : {A : Type 0} → (Token → Bool) → Reader A
-too_deep opens tokens = choose (begins opens tokens) (λ here. (Err TooDeep, here)) (λ here. (Err Unexpected, here)) tokens
+too_deep opens tokens = choose (begins opens tokens) (λ here. (Err TooDeep, here))
+    (λ here. (Err Unexpected, here)) tokens
 
 -- What a function returned, and the tokens that it left, are the reading; but want of memory says nothing.
 abbrev pub Leaves : {A : Type 0} → Result A ReadError → Tokens → Reading A → Type 0

@@ -1,5 +1,6 @@
 -- One reader for each part of the grammar.
-use Rattle.std.specs.Prelude.{◌≡◌, IsErr, ℕ, zero, suc, Bool, true, false, not, ◌&&◌, nat_eq, List, [], ◌∷◌, Option, Some, None, Result, Ok, Err, codes, if◌then◌else◌}
+use Rattle.std.specs.Prelude.{◌≡◌, IsErr, ℕ, zero, suc, Bool, true, false, not, ◌&&◌, nat_eq, List, [], ◌∷◌}
+use Rattle.std.specs.Prelude.{Option, Some, None, Result, Ok, Err, codes, if◌then◌else◌}
 use Rattle.std.specs.Cmp.Lexicographic.{pointwise}
 use denote.Enum.Bare.{sameb}
 use Rattle.gql_base.specs.declared.pos.Pos.{Pos}
@@ -13,7 +14,8 @@ use Rattle.gql_doc.specs.declared.document.OperationType.{OperationType}
 use Rattle.gql_doc.specs.declared.document.OperationType.TheVariants.{Query, Mutation, Subscription}
 use Rattle.gql_doc.specs.declared.tree.Variables.{Variables}
 use Rattle.gql_doc.specs.declared.tree.Variables.TheVariants.{Allowed, Forbidden}
-use Rattle.gql_doc.specs.declared.tree.ValueTree.{ValueTree, Variable, Number, String, Boolean, Null, Enum, List as ListValue, Object}
+use Rattle.gql_doc.specs.declared.tree.ValueTree.{ValueTree, Variable, Number, String, Boolean, Null, Enum}
+use Rattle.gql_doc.specs.declared.tree.ValueTree.{List as ListValue, Object}
 use Rattle.gql_doc.specs.declared.tree.MemberTree.{MemberTree}
 use Rattle.gql_doc.specs.declared.tree.ArgumentTree.{ArgumentTree}
 use Rattle.gql_doc.specs.declared.tree.DirectiveTree.{DirectiveTree}
@@ -36,7 +38,8 @@ use Rattle.gql_doc.specs.declared.fault.ParseFault.{ParseFault}
 use Rattle.gql_doc.specs.Words.{Tokens}
 use Rattle.gql_doc.specs.Spelling.{kind_of}
 use Rattle.gql_doc.specs.Grammar.{max_levels, head_pos}
-use Rattle.gql_doc.specs.Readers.{Reader, ◌then◌, gives, mapped, past, ended, take_one, branch, many, some, optional, place_of, placed, too_deep}
+use Rattle.gql_doc.specs.Readers.{Reader, ◌then◌, gives, mapped, past, ended, take_one, branch, many, some}
+use Rattle.gql_doc.specs.Readers.{optional, place_of, placed, too_deep}
 use Rattle.gql_doc.specs.Words.{PlacedName, PlacedType, PlacedValue}
 
 -- Tests of a token.
@@ -219,13 +222,15 @@ placed_value variables = placed (λ pos value. record { pos = pos; node = value 
 unfoldable pub argument : Variables → Reader ArgumentTree
 argument variables =
     take_name
-    then (λ name. past (take_sign sign.Colon) (mapped (λ value. record { name = name; value = value }) (placed_value variables)))
+    then (λ name. past (take_sign sign.Colon) (mapped (λ value. record { name = name; value = value })
+    (placed_value variables)))
 
 -- in parentheses, once at least; or not at all
 abbrev pub in_parentheses : {A : Type 0} → Reader A → Reader (List A)
 in_parentheses f =
     branch (is_sign sign.OpenParen)
-    (past (take_sign sign.OpenParen) (ended (some (other_than sign.CloseParen) f) (take_sign sign.CloseParen))) (gives [])
+    (past (take_sign sign.OpenParen) (ended (some (other_than sign.CloseParen) f) (take_sign sign.CloseParen)))
+    (gives [])
 
 unfoldable pub arguments : Variables → Reader (List ArgumentTree)
 arguments variables = in_parentheses (argument variables)
@@ -285,7 +290,8 @@ variables = in_parentheses variable
 unfoldable pub head : Reader (Option PlacedName × PlacedName)
 head =
     take_name
-    then (λ first. branch (is_sign sign.Colon) (past (take_sign sign.Colon) (mapped (λ name. (Some first, name)) take_name)) (gives (None, first)))
+    then (λ first. branch (is_sign sign.Colon) (past (take_sign sign.Colon)
+    (mapped (λ name. (Some first, name)) take_name)) (gives (None, first)))
 
 unfoldable pub condition : Reader PlacedName
 condition = past (take_word (codes "on")) take_name
@@ -298,10 +304,12 @@ field_by set =
     head
     then (λ head. arguments Allowed
     then (λ arguments. directives Allowed
-    then (λ directives. mapped (λ set. Field head.0 head.1 arguments directives set.pos set.selections) (set_or_none (head_pos head.0 head.1) set))))
+    then (λ directives. mapped (λ set. Field head.0 head.1 arguments directives set.pos set.selections)
+    (set_or_none (head_pos head.0 head.1) set))))
 
 abbrev pub spread_behind : Pos → Reader SelectionTree
-spread_behind pos = take_fragment_name then (λ name. mapped (λ directives. Spread pos name directives) (directives Allowed))
+spread_behind pos = take_fragment_name then (λ name. mapped (λ directives. Spread pos name directives)
+    (directives Allowed))
 
 abbrev pub inline_behind : Pos → Reader SetTree → Reader SelectionTree
 inline_behind pos set =
@@ -318,7 +326,8 @@ selection_by set = branch (is_sign sign.Spread) (spread_by set) (field_by set)
 abbrev pub set_by : Reader SelectionTree → Reader SetTree
 set_by selection =
     take_sign sign.OpenBrace
-    then (λ pos. mapped (λ selections. record { pos = pos; selections = selections }) (ended (some (other_than sign.CloseBrace) selection) (take_sign sign.CloseBrace)))
+    then (λ pos. mapped (λ selections. record { pos = pos; selections = selections })
+    (ended (some (other_than sign.CloseBrace) selection) (take_sign sign.CloseBrace)))
 
 unfoldable pub set_at : ℕ → Reader SetTree
 set_at zero tokens = too_deep (is_sign sign.OpenBrace) tokens

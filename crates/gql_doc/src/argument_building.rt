@@ -1,6 +1,7 @@
 //! Builds arguments (section 2.6) and directives (section 2.12).
 ghost use Rattle.std.specs.Prelude.{map};
-ghost use Rattle.gql_doc.specs.NameRules.{doubled_in_argument, doubled_in_arguments, doubled_in_directive, doubled_in_directives};
+ghost use Rattle.gql_doc.specs.NameRules.{doubled_in_argument, doubled_in_arguments};
+ghost use Rattle.gql_doc.specs.NameRules.{doubled_in_directive, doubled_in_directives};
 ghost use Rattle.gql_doc.specs.Building.{argument_of, directive_of};
 ghost use Rattle.gql_doc.specs.Builds.{Builds};
 

@@ -2,7 +2,8 @@
 ghost use Rattle.std.specs.Prelude.{◌≡◌};
 ghost use Rattle.gql_tokens.specs.declared.token.Punctuator.TheVariants.{CloseParen};
 ghost use Rattle.gql_doc.specs.Readers.{Leaves, some};
-ghost use Rattle.gql_doc.specs.Reading.{other_than, argument, arguments as arguments_at, directive, directives as directives_at};
+ghost use Rattle.gql_doc.specs.Reading.{other_than, argument, arguments as arguments_at, directive};
+ghost use Rattle.gql_doc.specs.Reading.{directives as directives_at};
 
 use crate::cursor::Cursor;
 use crate::lists::list_of;

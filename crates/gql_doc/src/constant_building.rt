@@ -4,7 +4,8 @@ ghost use Rattle.gql_base.specs.Pairs.{names_of};
 ghost use Rattle.gql_doc.specs.First.{first_in};
 ghost use Rattle.gql_doc.specs.NameRules.{doubled_in_value};
 ghost use Rattle.gql_doc.specs.Building.{constant_of};
-ghost use Rattle.gql_doc.specs.Builds.{Builds, Adds, constant_member_of, doubled_in_member, doubled_among_members};
+ghost use Rattle.gql_doc.specs.Builds.{Builds, Adds, constant_member_of, doubled_in_member};
+ghost use Rattle.gql_doc.specs.Builds.{doubled_among_members};
 
 use crate::tree::{MemberTree, ValueTree};
 use crate::trouble::BuildError;
@@ -65,7 +66,8 @@ fn add_constant_member(
     tree: MemberTree,
     members: &mut Pairs<Value>,
 ) -> Result<(), BuildError>
-    ensures { Adds result (doubled_in_member (names_of members.old) tree) members.old members.new (constant_member_of tree ∷ []) }
+    ensures { Adds result (doubled_in_member (names_of members.old) tree) members.old members.new
+        (constant_member_of tree ∷ []) }
 {
     let MemberTree { name, value } = tree;
     refuse_taken(members, &name.node, name.pos)?;

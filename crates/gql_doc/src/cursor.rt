@@ -3,7 +3,14 @@ ghost use Rattle.std.specs.Prelude.{◌≡◌, [], ◌∷◌, MatchOption};
 ghost use Rattle.std.specs.Option.{option_copied};
 ghost use Rattle.gql_doc.specs.Readers.{first, behind_first, begins, place_of, too_deep as deep_at, Leaves};
 ghost use Rattle.gql_doc.specs.Reading as reading;
-ghost use Rattle.gql_doc.specs.Reading.{is_sign, is_word, is_name, is_fragment_name, is_scalar, is_end, other_than, before_end, says_sign, says_word, scalar_in, named_value, next_operation as kind_next, take_sign as read_sign, take_word as read_word, take_name as read_name, take_fragment_name as read_fragment_name, take_scalar as read_scalar, take_operation as read_operation, take_end as read_end};
+ghost use Rattle.gql_doc.specs.Reading.{is_sign, is_word, is_name, is_fragment_name, is_scalar};
+ghost use Rattle.gql_doc.specs.Reading.{is_end, other_than, before_end, says_sign, says_word};
+ghost use Rattle.gql_doc.specs.Reading.{scalar_in, named_value, next_operation as kind_next};
+ghost use Rattle.gql_doc.specs.Reading.{take_sign as read_sign, take_word as read_word};
+ghost use Rattle.gql_doc.specs.Reading.{take_name as read_name};
+ghost use Rattle.gql_doc.specs.Reading.{take_fragment_name as read_fragment_name};
+ghost use Rattle.gql_doc.specs.Reading.{take_scalar as read_scalar};
+ghost use Rattle.gql_doc.specs.Reading.{take_operation as read_operation, take_end as read_end};
 
 use crate::document::{OperationType, Positioned};
 use crate::tree::ValueTree;
@@ -46,7 +53,8 @@ impl Cursor {
 
     /// Takes the next token.
     pub fn pop(&mut self) -> Option<Token>
-        ensures { MatchOption result ((self.old ≡ []) × (self.new ≡ [])) (λ token. self.old ≡ token ∷ self.new) }
+        ensures { MatchOption result ((self.old ≡ []) × (self.new ≡ []))
+            (λ token. self.old ≡ token ∷ self.new) }
     {
         self.tokens.pop()
     }

@@ -2,8 +2,11 @@
 ghost use Rattle.std.specs.Prelude.{◌≡◌, [], ◌∷◌, ◌++◌, OnOk};
 ghost use Rattle.gql_base.specs.Pairs.{names_of};
 ghost use Rattle.std.specs.Option.{option_or};
-ghost use Rattle.gql_doc.specs.NameRules.{if_among, if_named_among, doubled_in_operation, doubled_in_fragment, doubled_in_definition, doubled_name};
-ghost use Rattle.gql_doc.specs.Building.{operation_of, fragment_of, anonymous_of, named_of, fragments_of, operations_of, document_of, if_with_name, if_without_name};
+ghost use Rattle.gql_doc.specs.NameRules.{if_among, if_named_among, doubled_in_operation};
+ghost use Rattle.gql_doc.specs.NameRules.{doubled_in_fragment, doubled_in_definition, doubled_name};
+ghost use Rattle.gql_doc.specs.Building.{operation_of, fragment_of, anonymous_of, named_of};
+ghost use Rattle.gql_doc.specs.Building.{fragments_of, operations_of, document_of, if_with_name};
+ghost use Rattle.gql_doc.specs.Building.{if_without_name};
 ghost use Rattle.gql_doc.specs.Builds.{Builds, Refuses, IsFresh};
 
 use crate::argument_building::build_directives;
@@ -47,10 +50,13 @@ pub fn build_document(
 impl Draft {
     /// Builds one more definition.
     fn add(&mut self, alloc: Global, definition: DefinitionTree) -> Result<(), BuildError>
-        ensures doubled { Refuses result (doubled_in_definition (names_of self.old.named) (names_of self.old.fragments) definition) }
-        ensures anonymous { OnOk result (self.new.anonymous ≡ option_or self.old.anonymous (anonymous_of definition)) }
+        ensures doubled { Refuses result (doubled_in_definition (names_of self.old.named)
+            (names_of self.old.fragments) definition) }
+        ensures anonymous { OnOk result (self.new.anonymous
+            ≡ option_or self.old.anonymous (anonymous_of definition)) }
         ensures named { OnOk result (self.new.named ≡ self.old.named ++ named_of definition) }
-        ensures fragments { OnOk result (self.new.fragments ≡ self.old.fragments ++ fragments_of definition) }
+        ensures fragments { OnOk result (self.new.fragments ≡ self.old.fragments
+            ++ fragments_of definition) }
     {
         match definition {
             DefinitionTree::Operation(operation) => self.add_operation(alloc, operation),
@@ -61,9 +67,12 @@ impl Draft {
     /// Builds one more operation.
     #[tactic(auto, using(crate::proofs::BuildLaws::first_of_both))]
     fn add_operation(&mut self, alloc: Global, tree: OperationTree) -> Result<(), BuildError>
-        ensures doubled { Refuses result (option_or (if_named_among (names_of self.old.named) tree.name tree.pos) (doubled_in_operation tree)) }
-        ensures anonymous { OnOk result (self.new.anonymous ≡ option_or self.old.anonymous (if_without_name tree.name (operation_of tree))) }
-        ensures named { OnOk result (self.new.named ≡ self.old.named ++ if_with_name tree.name (operation_of tree)) }
+        ensures doubled { Refuses result (option_or
+            (if_named_among (names_of self.old.named) tree.name tree.pos) (doubled_in_operation tree)) }
+        ensures anonymous { OnOk result (self.new.anonymous
+            ≡ option_or self.old.anonymous (if_without_name tree.name (operation_of tree))) }
+        ensures named { OnOk result (self.new.named ≡ self.old.named
+            ++ if_with_name tree.name (operation_of tree)) }
         ensures fragments { self.new.fragments ≡ self.old.fragments }
     {
         refuse_taken_if_named(&self.named, &tree.name, tree.pos)?;
@@ -79,7 +88,8 @@ impl Draft {
         operation: Positioned<OperationDefinition>,
     ) -> Made<()>
         requires { IsFresh name self.old.named }
-        ensures anonymous { OnOk result (self.new.anonymous ≡ option_or self.old.anonymous (if_without_name name operation)) }
+        ensures anonymous { OnOk result (self.new.anonymous
+            ≡ option_or self.old.anonymous (if_without_name name operation)) }
         ensures named { OnOk result (self.new.named ≡ self.old.named ++ if_with_name name operation) }
         ensures fragments { self.new.fragments ≡ self.old.fragments }
     {
@@ -97,10 +107,12 @@ impl Draft {
     /// Builds one more fragment.
     #[tactic(auto, using(crate::proofs::BuildLaws::first_of_both))]
     fn add_fragment(&mut self, alloc: Global, tree: FragmentTree) -> Result<(), BuildError>
-        ensures doubled { Refuses result (option_or (if_among (names_of self.old.fragments) tree.name.node tree.pos) (doubled_in_fragment tree)) }
+        ensures doubled { Refuses result (option_or
+            (if_among (names_of self.old.fragments) tree.name.node tree.pos) (doubled_in_fragment tree)) }
         ensures anonymous { self.new.anonymous ≡ self.old.anonymous }
         ensures named { self.new.named ≡ self.old.named }
-        ensures fragments { OnOk result (self.new.fragments ≡ self.old.fragments ++ (tree.name.node, fragment_of tree) ∷ []) }
+        ensures fragments { OnOk result (self.new.fragments ≡ self.old.fragments
+            ++ (tree.name.node, fragment_of tree) ∷ []) }
     {
         refuse_taken(&self.fragments, &tree.name.node, tree.pos)?;
         let (name, fragment) = build_fragment(alloc, tree)?;

@@ -1,6 +1,7 @@
 //! Reads definitions (sections 2.2, 2.3 and 2.8) and whole texts.
 ghost use Rattle.gql_doc.specs.Readers.{Leaves, some, optional};
-ghost use Rattle.gql_doc.specs.Reading.{is_name, before_end, take_name, set as set_at, shorthand, operation, fragment, definition, document, type_text};
+ghost use Rattle.gql_doc.specs.Reading.{is_name, before_end, take_name, set as set_at, shorthand};
+ghost use Rattle.gql_doc.specs.Reading.{operation, fragment, definition, document, type_text};
 
 use crate::arguments::read_directives;
 use crate::cursor::Cursor;

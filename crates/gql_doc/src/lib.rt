@@ -10,18 +10,12 @@ mod definition_building;
 mod definitions;
 mod depth;
 mod document;
-#[cfg(test)]
-mod example_tests;
 mod fault;
 mod lists;
 mod operation_rule;
 mod parse;
 mod selection_building;
 mod selections;
-#[cfg(test)]
-mod summary;
-#[cfg(test)]
-mod tests;
 mod tree;
 mod tree_of;
 mod trouble;

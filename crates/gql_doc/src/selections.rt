@@ -3,7 +3,9 @@ ghost use Rattle.std.specs.Prelude.{◌≡◌};
 ghost use Rattle.gql_tokens.specs.declared.token.Punctuator.TheVariants.{CloseBrace};
 ghost use Rattle.gql_doc.specs.Grammar.{head_pos};
 ghost use Rattle.gql_doc.specs.Readers.{Leaves, some, optional};
-ghost use Rattle.gql_doc.specs.Reading.{is_word, other_than, head as head_at, condition, set_at, set_by, set_or_none, selection_at, spread_at, spread_behind, inline_behind, field_at};
+ghost use Rattle.gql_doc.specs.Reading.{is_word, other_than, head as head_at, condition, set_at};
+ghost use Rattle.gql_doc.specs.Reading.{set_by, set_or_none, selection_at, spread_at};
+ghost use Rattle.gql_doc.specs.Reading.{spread_behind, inline_behind, field_at};
 ghost use Rattle.std.specs.Prelude.{codes};
 
 use crate::arguments::{read_arguments, read_directives};

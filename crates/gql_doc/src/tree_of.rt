@@ -25,8 +25,10 @@ pub fn document_tree(
 ) -> Made<Result<Items<DefinitionTree>, ParseFault>>
     requires { EndFinally tokens }
     ensures settled { IfOk result (λ outcome. Settles IsDocument tokens outcome) }
-    ensures spelled { (tree : List DefinitionTree) → Spells IsDocument tokens tree → IfOk result (λ outcome. outcome ≡ Ok tree) }
-    ensures faulty { (fault : ParseFault) → IsFault IsDocument tokens fault → IfOk result (λ outcome. outcome ≡ Err fault) }
+    ensures spelled { (tree : List DefinitionTree) → Spells IsDocument tokens tree → IfOk result
+        (λ outcome. outcome ≡ Ok tree) }
+    ensures faulty { (fault : ParseFault) → IsFault IsDocument tokens fault → IfOk result
+        (λ outcome. outcome ≡ Err fault) }
     ensures read { IfOk result (λ outcome. outcome ≡ parsed_by document tokens) }
 {
     read_all_definitions(alloc, tokens)
@@ -36,8 +38,10 @@ pub fn document_tree(
 pub fn type_tree(alloc: Global, tokens: Items<Token>) -> Made<Result<TypeRef, ParseFault>>
     requires { EndFinally tokens }
     ensures settled { IfOk result (λ outcome. Settles IsTypeText tokens outcome) }
-    ensures spelled { (ty : TypeRef) → Spells IsTypeText tokens ty → IfOk result (λ outcome. outcome ≡ Ok ty) }
-    ensures faulty { (fault : ParseFault) → IsFault IsTypeText tokens fault → IfOk result (λ outcome. outcome ≡ Err fault) }
+    ensures spelled { (ty : TypeRef) → Spells IsTypeText tokens ty → IfOk result
+        (λ outcome. outcome ≡ Ok ty) }
+    ensures faulty { (fault : ParseFault) → IsFault IsTypeText tokens fault → IfOk result
+        (λ outcome. outcome ≡ Err fault) }
     ensures read { IfOk result (λ outcome. outcome ≡ parsed_by type_text tokens) }
 {
     read_whole_type(alloc, tokens)

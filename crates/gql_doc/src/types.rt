@@ -1,6 +1,7 @@
 //! Reads types (section 2.11).
 ghost use Rattle.gql_doc.specs.Readers.{Leaves};
-ghost use Rattle.gql_doc.specs.Reading.{type_at, bare_type_by, list_type_at, list_type_by, null_or_not, placed_type};
+ghost use Rattle.gql_doc.specs.Reading.{type_at, bare_type_by, list_type_at, list_type_by};
+ghost use Rattle.gql_doc.specs.Reading.{null_or_not, placed_type};
 
 use crate::cursor::Cursor;
 use crate::document::Positioned;

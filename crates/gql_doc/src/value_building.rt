@@ -4,7 +4,8 @@ ghost use Rattle.gql_base.specs.Pairs.{under, names_of};
 ghost use Rattle.gql_doc.specs.First.{first_in};
 ghost use Rattle.gql_doc.specs.NameRules.{if_among, doubled_in_value};
 ghost use Rattle.gql_doc.specs.Building.{value_of};
-ghost use Rattle.gql_doc.specs.Builds.{Builds, Refuses, Adds, member_of, doubled_in_member, doubled_among_members};
+ghost use Rattle.gql_doc.specs.Builds.{Builds, Refuses, Adds, member_of, doubled_in_member};
+ghost use Rattle.gql_doc.specs.Builds.{doubled_among_members};
 
 use crate::document::DocValue;
 use crate::tree::{MemberTree, ValueTree};
@@ -62,7 +63,8 @@ fn add_member(
     tree: MemberTree,
     members: &mut Pairs<DocValue>,
 ) -> Result<(), BuildError>
-    ensures { Adds result (doubled_in_member (names_of members.old) tree) members.old members.new (member_of tree ∷ []) }
+    ensures { Adds result (doubled_in_member (names_of members.old) tree) members.old members.new
+        (member_of tree ∷ []) }
 {
     let MemberTree { name, value } = tree;
     refuse_taken(members, &name.node, name.pos)?;

@@ -2,7 +2,9 @@
 ghost use Rattle.std.specs.Prelude.{◌≡◌};
 ghost use Rattle.gql_tokens.specs.declared.token.Punctuator.TheVariants.{CloseBracket, CloseBrace};
 ghost use Rattle.gql_doc.specs.Readers.{Leaves, many};
-ghost use Rattle.gql_doc.specs.Reading.{other_than, value_at, list_at, list_by, object_at, object_by, plain_value, variable_value, member_at, placed_value};
+ghost use Rattle.gql_doc.specs.Reading.{other_than, value_at, list_at, list_by, object_at};
+ghost use Rattle.gql_doc.specs.Reading.{object_by, plain_value, variable_value, member_at};
+ghost use Rattle.gql_doc.specs.Reading.{placed_value};
 
 use crate::cursor::Cursor;
 use crate::document::Positioned;
@@ -116,7 +118,8 @@ fn read_values(
     variables: Variables,
     levels: usize,
 ) -> Result<Items<ValueTree>, ReadError>
-    ensures { Leaves result cursor.new (many (other_than CloseBracket) (value_at variables levels) cursor.old) }
+    ensures { Leaves result cursor.new (many (other_than CloseBracket)
+        (value_at variables levels) cursor.old) }
 {
     let mut values = Items::new(alloc);
     'values: while cursor.is_before(Punctuator::CloseBracket) {
@@ -167,7 +170,8 @@ fn read_members(
     variables: Variables,
     levels: usize,
 ) -> Result<Items<MemberTree>, ReadError>
-    ensures { Leaves result cursor.new (many (other_than CloseBrace) (member_at variables levels) cursor.old) }
+    ensures { Leaves result cursor.new (many (other_than CloseBrace)
+        (member_at variables levels) cursor.old) }
 {
     let mut members = Items::new(alloc);
     'members: while cursor.is_before(Punctuator::CloseBrace) {

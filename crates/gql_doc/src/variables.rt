@@ -1,7 +1,8 @@
 //! Reads definitions of variables (section 2.10).
 ghost use Rattle.gql_tokens.specs.declared.token.Punctuator.TheVariants.{CloseParen};
 ghost use Rattle.gql_doc.specs.Readers.{Leaves, some};
-ghost use Rattle.gql_doc.specs.Reading.{other_than, default as default_at, variable, variables as variables_at};
+ghost use Rattle.gql_doc.specs.Reading.{other_than, default as default_at, variable};
+ghost use Rattle.gql_doc.specs.Reading.{variables as variables_at};
 
 use crate::arguments::read_directives;
 use crate::cursor::Cursor;

@@ -8,8 +8,6 @@ mod assembling;
 mod collect_fields;
 mod completion;
 mod given;
-#[cfg(test)]
-mod meeting;
 mod occurrence;
 mod picking;
 mod place;
@@ -21,8 +19,6 @@ mod scheduler;
 mod settling;
 mod shape;
 mod shared;
-#[cfg(test)]
-mod tests;
 mod turning;
 mod waiting;
 

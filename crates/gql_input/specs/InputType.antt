@@ -1,5 +1,6 @@
 -- What values give at an input type.
-use Rattle.std.specs.Prelude.{◌≡◌, ℕ, ℤ, List, Option, Some, None, Result, Ok, Err, int_le, pos, negsuc, ◌&&◌, if◌then◌else◌, option_and_then}
+use Rattle.std.specs.Prelude.{◌≡◌, ℕ, ℤ, List, Option, Some, None, Result, Ok, Err, int_le, pos, negsuc, ◌&&◌}
+use Rattle.std.specs.Prelude.{if◌then◌else◌, option_and_then}
 use Rattle.std.specs.Option.{ok_or, unwrap_or}
 use Rattle.gql_base.specs.Kinds.{is_null, number_of}
 use Rattle.gql_base.specs.declared.value.Value.{Value}

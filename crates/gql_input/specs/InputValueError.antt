@@ -13,7 +13,8 @@ extensions_of error = error.extensions
 
 -- that a value isn't of the type of a name
 abbrev pub expected_text : List ℕ → Value → List ℕ
-expected_text name actual = codes "Expected input type \"" ++ (name ++ (codes "\", found " ++ (literal actual ++ codes ".")))
+expected_text name actual = codes "Expected input type \""
+    ++ (name ++ (codes "\", found " ++ (literal actual ++ codes ".")))
 
 -- that a value of the type of a name is refused for a reason
 abbrev pub custom_text : List ℕ → List ℕ → List ℕ

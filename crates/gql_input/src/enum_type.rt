@@ -78,7 +78,8 @@ fn parse_item<T: EnumType>(alloc: Global, type_name: &str, name: &str) -> Made<I
 /// The enum value whose name stands for a value, which has to be that of an item.
 pub fn enum_value<T: EnumType>(alloc: Global, value: T) -> Made<Value>
     requires { IsSome (name_of_item T.eq value T.listed) }
-    ensures { IfOk result (λ made. option_map values.Enum (name_of_item T.eq value T.listed) ≡ Some made) }
+    ensures { IfOk result
+        (λ made. option_map values.Enum (name_of_item T.eq value T.listed) ≡ Some made) }
 {
     match name_for(T::items(), value) {
         Some(name) => Ok(Value::Enum(Name::new(alloc, name)?)),

@@ -1,7 +1,8 @@
 ghost use Rattle.std.specs.Prelude.{◌≡◌, [], ◌∷◌, IfOk, None, Some};
 ghost use Rattle.std.specs.Option.{unwrap_or};
 ghost use Rattle.gql_base.specs.ErrorExtensionValues.{set_in_order};
-ghost use Rattle.gql_input.specs.InputValueError.{custom_text, expected_text, extensions_of, message_of, propagated};
+ghost use Rattle.gql_input.specs.InputValueError.{custom_text, expected_text, extensions_of};
+ghost use Rattle.gql_input.specs.InputValueError.{message_of, propagated};
 
 use crate::input_type::InputType;
 use gql_base::{ErrorExtensionValues, Items, Made, Pos, ServerError, Text, Value, literal_of};
@@ -38,7 +39,8 @@ impl<T: InputType> InputValueError<T> {
 
     /// The error as one of another type, whose name the message tells where it is another name.
     pub fn propagate<U: InputType>(self, alloc: Global) -> Made<InputValueError<U>>
-        ensures message { IfOk result (λ error. message_of error ≡ propagated T.name U.name (message_of self)) }
+        ensures message { IfOk result
+            (λ error. message_of error ≡ propagated T.name U.name (message_of self)) }
         ensures extensions { IfOk result (λ error. extensions_of error ≡ extensions_of self) }
     {
         let InputValueError {

@@ -10,8 +10,6 @@ mod iterators;
 mod list_accessor;
 mod object_accessor;
 mod scalar_type;
-#[cfg(test)]
-mod tests;
 mod value_accessor;
 
 pub use access_fault::AccessFault;

@@ -1,4 +1,5 @@
-ghost use Rattle.std.specs.Prelude.{◌≡◌, ◌↔◌, ◌≤◌, ◌<◌, ◌⊎◌, IsTrue, MatchOption, MatchResult, None, Some, [], length, slice_get, slice_range};
+ghost use Rattle.std.specs.Prelude.{◌≡◌, ◌↔◌, ◌≤◌, ◌<◌, ◌⊎◌, IsTrue, MatchOption, MatchResult};
+ghost use Rattle.std.specs.Prelude.{None, Some, [], length, slice_get, slice_range};
 ghost use Rattle.gql_input.specs.Accessor.{value_behind, items_behind};
 ghost use Rattle.gql_input.specs.Iterators.{items_left};
 
@@ -60,8 +61,10 @@ impl<'a> ListAccessor<'a> {
 
     /// The item at a place, counted from 0; the fault tells the place where it is past the end.
     pub fn try_get(&self, idx: usize) -> Result<ValueAccessor<'a>, AccessFault<'static>>
-        ensures { MatchResult result (λ found. slice_get (items_behind self.now) idx ≡ Some (value_behind found))
-            (λ fault. (fault ≡ AccessFault.NoIndex idx) × (slice_get (items_behind self.now) idx ≡ None)) }
+        ensures { MatchResult result (λ found. slice_get (items_behind self.now) idx
+            ≡ Some (value_behind found))
+            (λ fault. (fault ≡ AccessFault.NoIndex idx)
+            × (slice_get (items_behind self.now) idx ≡ None)) }
     {
         match self.get(idx) {
             Some(found) => Ok(found),
@@ -77,8 +80,10 @@ impl<'a> ListAccessor<'a> {
         end: usize,
     ) -> Result<ListAccessor<'a>, AccessFault<'static>>
         ensures { MatchResult result
-            (λ part. (start ≤ end) × (end ≤ length (items_behind self.now)) × (items_behind part ≡ slice_range (items_behind self.now) start end))
-            (λ fault. (fault ≡ AccessFault.BadSlice) × ((end < start) ⊎ (length (items_behind self.now) < end))) }
+            (λ part. (start ≤ end) × (end ≤ length (items_behind self.now))
+            × (items_behind part ≡ slice_range (items_behind self.now) start end))
+            (λ fault. (fault ≡ AccessFault.BadSlice)
+            × ((end < start) ⊎ (length (items_behind self.now) < end))) }
     {
         if start <= end && end <= self.items.len() {
             Ok(ListAccessor::new(&self.items[start..end]))

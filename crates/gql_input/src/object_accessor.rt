@@ -40,8 +40,10 @@ impl<'a> ObjectAccessor<'a> {
 
     /// The value of the member of this name; the fault tells the name where there is none.
     pub fn try_get<'k>(&self, name: &'k str) -> Result<ValueAccessor<'a>, AccessFault<'k>>
-        ensures { MatchResult result (λ found. under name.now (members_behind self.now) ≡ Some (value_behind found))
-            (λ fault. (fault ≡ AccessFault.NoKey name.entry) × (under name.now (members_behind self.now) ≡ None)) }
+        ensures { MatchResult result (λ found. under name.now (members_behind self.now)
+            ≡ Some (value_behind found))
+            (λ fault. (fault ≡ AccessFault.NoKey name.entry)
+            × (under name.now (members_behind self.now) ≡ None)) }
     {
         match self.get(name) {
             Some(found) => Ok(found),

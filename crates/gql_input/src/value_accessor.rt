@@ -2,7 +2,8 @@ ghost use Rattle.std.specs.Prelude.{◌≡◌, ◌↔◌, ℤ, IsTrue, MatchResu
 ghost use Rattle.std.specs.Int.{w64};
 ghost use Rattle.std.specs.Option.{ok_or};
 ghost use Rattle.gql_input.specs.Accessor.{value_behind, members_behind, items_behind};
-ghost use Rattle.gql_base.specs.Kinds.{boolean_of, enum_name_of, number_of, unsigned_number_of, string_of, object_of, list_of};
+ghost use Rattle.gql_base.specs.Kinds.{boolean_of, enum_name_of, number_of, unsigned_number_of};
+ghost use Rattle.gql_base.specs.Kinds.{string_of, object_of, list_of};
 
 use crate::access_fault::AccessFault;
 use crate::list_accessor::ListAccessor;
@@ -66,7 +67,8 @@ impl<'a> ValueAccessor<'a> {
     pub fn i64(&self) -> Result<i64, AccessFault<'static>>
         ensures { MatchResult result (λ number. number_of (value_behind self.now) ≡ Some number)
             (λ fault. (fault ≡ AccessFault.NotSigned)
-            × ((number : ℤ) → number_of (value_behind self.now) ≡ Some number → ¬ (FitsSigned w64 number))) }
+            × ((number : ℤ) → number_of (value_behind self.now) ≡ Some number
+            → ¬ (FitsSigned w64 number))) }
     {
         if let Value::Number(number) = self.value
             && let Some(signed) = number.as_i64()
@@ -101,7 +103,8 @@ impl<'a> ValueAccessor<'a> {
 
     /// The members, where the value is an object.
     pub fn object(&self) -> Result<ObjectAccessor<'a>, AccessFault<'static>>
-        ensures { MatchResult result (λ object. object_of (value_behind self.now) ≡ Some (members_behind object))
+        ensures { MatchResult result (λ object. object_of (value_behind self.now)
+            ≡ Some (members_behind object))
             (λ fault. (fault ≡ AccessFault.NotObject) × (object_of (value_behind self.now) ≡ None)) }
     {
         match self.value {

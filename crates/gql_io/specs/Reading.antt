@@ -8,7 +8,8 @@ use Rattle.gql_io.specs.declared.reading.Reading.TheVariants.{Whole, Failed, Too
 
 -- The whole input was these bytes. They are no more than the limit, so many were given, and where the source tells what
 -- is left, it was these, and is nothing now.
-pub record IsInput {I : Type 0} (left : I → Option (List ℕ)) (given : I → ℕ) (old new : I) (bytes : List ℕ) : Type 0 where
+pub record IsInput {I : Type 0} (left : I → Option (List ℕ)) (given : I → ℕ) (old new : I)
+    (bytes : List ℕ) : Type 0 where
   pub within : length bytes ≤ input_limit
   pub counted : RisesBy (given old) (given new) (length bytes)
   pub told : IfSome (left old) (λ known. (known ≡ bytes) × (left new ≡ Some []))

@@ -8,8 +8,6 @@ mod sink;
 mod source;
 mod streams;
 mod sure;
-#[cfg(test)]
-mod tests;
 mod writing;
 
 pub use memory::{MemorySink, MemorySource};

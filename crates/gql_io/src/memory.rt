@@ -73,7 +73,8 @@ impl MemorySource {
 }
 
 impl Source for MemorySource {
-    ghost use Rattle.std.specs.Prelude.{Some, ◌≡◌, ◌+◌, ◌≤◌, ◌++◌, ◌↔◌, min, length, take, IsErr, IfOk, OnOk, OnErr, Contains};
+    ghost use Rattle.std.specs.Prelude.{Some, ◌≡◌, ◌+◌, ◌≤◌, ◌++◌, ◌↔◌, min, length, take, IsErr};
+    ghost use Rattle.std.specs.Prelude.{IfOk, OnOk, OnErr, Contains};
     ghost use Rattle.gql_io.specs.Counts.{one_more};
     ghost use Rattle.gql_io.specs.Memory.{rest_of, given_of, read_step, failing_reads, reads, read_faults};
 
@@ -86,12 +87,16 @@ impl Source for MemorySource {
     fn read(&mut self, buf: &mut [u8]) -> Result<usize, Failed>
         // It fails exactly at the listed reads, and then takes nothing.
         ensures fails { IsErr result ↔ Contains (failing_reads self.old) (reads self.old) }
-        ensures failed { OnErr result ((rest_of self.new ≡ rest_of self.old) × (given_of self.new ≡ given_of self.old)) }
+        ensures failed { OnErr result ((rest_of self.new ≡ rest_of self.old)
+            × (given_of self.new ≡ given_of self.old)) }
         ensures faults { OnErr result (read_faults self.new ≡ one_more (read_faults self.old)) }
 
         // Any other read gives as many bytes as there are, in the step and the buffer.
-        ensures count { IfOk result (λ count. count ≡ min (read_step self.old) (min (length buf.new) (length (rest_of self.old)))) }
-        ensures taken { IfOk result (λ count. rest_of self.old ≡ take count buf.new ++ rest_of self.new) }
+        ensures count { IfOk result
+            (λ count. count ≡ min (read_step self.old)
+            (min (length buf.new) (length (rest_of self.old)))) }
+        ensures taken { IfOk result
+            (λ count. rest_of self.old ≡ take count buf.new ++ rest_of self.new) }
         ensures counted { IfOk result (λ count. given_of self.new ≡ given_of self.old + count) }
         ensures faults_grow { read_faults self.old ≤ read_faults self.new }
         ensures no_fault { OnOk result (read_faults self.new ≡ read_faults self.old) }
@@ -142,7 +147,8 @@ impl MemorySink {
 }
 
 impl Sink for MemorySink {
-    ghost use Rattle.std.specs.Prelude.{Some, ◌≡◌, ◌≤◌, ◌++◌, ◌↔◌, min, length, take, IfOk, OnOk, OnErr, IsErrOf, Contains};
+    ghost use Rattle.std.specs.Prelude.{Some, ◌≡◌, ◌≤◌, ◌++◌, ◌↔◌, min, length, take, IfOk, OnOk};
+    ghost use Rattle.std.specs.Prelude.{OnErr, IsErrOf, Contains};
     ghost use Rattle.gql_io.specs.Counts.{one_more};
     ghost use Rattle.gql_io.specs.Memory.{held_by, write_step, failing_writes, writes, write_faults};
 
@@ -152,16 +158,20 @@ impl Sink for MemorySink {
 
     fn write(&mut self, bytes: &[u8]) -> Result<usize, SinkFault>
         // It fails exactly at the listed writes, and a refusal leaves what is held.
-        ensures fails { IsErrOf result SinkFault.Failed ↔ Contains (failing_writes self.old) (writes self.old) }
+        ensures fails { IsErrOf result SinkFault.Failed ↔ Contains (failing_writes self.old)
+            (writes self.old) }
         ensures refused { OnErr result (held_by self.new ≡ held_by self.old) }
-        ensures faults { IsErrOf result SinkFault.Failed → write_faults self.new ≡ one_more (write_faults self.old) }
+        ensures faults { IsErrOf result SinkFault.Failed
+            → write_faults self.new ≡ one_more (write_faults self.old) }
 
         // Any other write takes as many bytes as there are in the step and the piece.
         ensures count { IfOk result (λ count. count ≡ min (write_step self.old) (length bytes.now)) }
-        ensures taken { IfOk result (λ count. held_by self.new ≡ held_by self.old ++ take count bytes.now) }
+        ensures taken { IfOk result
+            (λ count. held_by self.new ≡ held_by self.old ++ take count bytes.now) }
         ensures faults_grow { write_faults self.old ≤ write_faults self.new }
         ensures no_fault { OnOk result (write_faults self.new ≡ write_faults self.old) }
-        ensures no_memory { IsErrOf result SinkFault.NoMemory → write_faults self.new ≡ write_faults self.old }
+        ensures no_memory { IsErrOf result SinkFault.NoMemory
+            → write_faults self.new ≡ write_faults self.old }
 
         ensures writes { writes self.new ≡ one_more (writes self.old) }
         ensures failing { failing_writes self.new ≡ failing_writes self.old }

@@ -30,7 +30,8 @@ pub trait Sink {
         ensures within { IfOk result (λ count. count ≤ length bytes.now) }
         ensures some { IfOk result (λ count. 0 < length bytes.now → 0 < count) }
         ensures faults_grow { faults self.old ≤ faults self.new }
-        ensures appended { IfOk result (λ count. Appends (held self.old) (held self.new) (take count bytes.now)) }
+        ensures appended { IfOk result
+            (λ count. Appends (held self.old) (held self.new) (take count bytes.now)) }
 
         // A refusal has a cause, and leaves what is held.
         ensures cause { IsErrOf result SinkFault.Failed → HasRisen (faults self.old) (faults self.new) }

@@ -1,4 +1,5 @@
-ghost use Rattle.std.specs.Prelude.{◌≡◌, ◌↔◌, ℕ, ◌<◌, ◌≤◌, List, [], length, take, Option, IfSome, IfOk, OnErr};
+ghost use Rattle.std.specs.Prelude.{◌≡◌, ◌↔◌, ℕ, ◌<◌, ◌≤◌, List, [], length, take, Option, IfSome};
+ghost use Rattle.std.specs.Prelude.{IfOk, OnErr};
 ghost use Rattle.std.specs.Io.KnownBytes.{Keeps, Consumes};
 ghost use Rattle.gql_io.specs.Counts.{HasRisen, RisesBy};
 
@@ -35,7 +36,8 @@ pub trait Source {
 
         // Any other read counts what it gave, and takes it off what is left.
         ensures counted { IfOk result (RisesBy (given self.old) (given self.new)) }
-        ensures taken { IfOk result (λ count. Consumes (left self.old) (left self.new) (take count buf.new)) }
+        ensures taken { IfOk result
+            (λ count. Consumes (left self.old) (left self.new) (take count buf.new)) }
         ensures end { IfOk result (λ count. 0 < length buf.new
             → IfSome (left self.old) (λ bytes. (count ≡ 0) ↔ (bytes ≡ []))) };
 }

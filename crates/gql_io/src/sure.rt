@@ -1,5 +1,6 @@
 //! A source and a sink in memory that never fail.
-ghost use Rattle.std.specs.Prelude.{◌≡◌, ◌+◌, ◌<◌, ◌≤◌, ◌++◌, [], min, length, take, Ok, IsOk, IsErr, OnErr, IfOk, Some};
+ghost use Rattle.std.specs.Prelude.{◌≡◌, ◌+◌, ◌<◌, ◌≤◌, ◌++◌, [], min, length, take, Ok, IsOk};
+ghost use Rattle.std.specs.Prelude.{IsErr, OnErr, IfOk, Some};
 
 use crate::sink::{Sink, SinkFault};
 use crate::source::{Failed, Source};
@@ -45,8 +46,10 @@ impl Source for SureSource {
     ghost faults = { λ _. 0 };
 
     fn read(&mut self, buf: &mut [u8]) -> Result<usize, Failed>
-        ensures count { result ≡ Ok (min (read_step self.old) (min (length buf.new) (length (rest_of self.old)))) }
-        ensures taken { IfOk result (λ count. rest_of self.old ≡ take count buf.new ++ rest_of self.new) }
+        ensures count { result ≡ Ok (min (read_step self.old)
+            (min (length buf.new) (length (rest_of self.old)))) }
+        ensures taken { IfOk result
+            (λ count. rest_of self.old ≡ take count buf.new ++ rest_of self.new) }
         ensures counted { IfOk result (λ count. given_of self.new ≡ given_of self.old + count) }
         ensures step { read_step self.new ≡ read_step self.old }
     {
@@ -99,7 +102,8 @@ impl Sink for SureSink {
 
     fn write(&mut self, bytes: &[u8]) -> Result<usize, SinkFault>
         ensures count { IfOk result (λ count. count ≡ min (write_step self.old) (length bytes.now)) }
-        ensures taken { IfOk result (λ count. held_by self.new ≡ held_by self.old ++ take count bytes.now) }
+        ensures taken { IfOk result
+            (λ count. held_by self.new ≡ held_by self.old ++ take count bytes.now) }
         ensures refused { OnErr result (held_by self.new ≡ held_by self.old) }
         ensures memory { OnErr result (IsErrOf result SinkFault.NoMemory) }
         ensures step { write_step self.new ≡ write_step self.old }

@@ -53,7 +53,7 @@ module _ {V : Type 0} (is_root : Bool) (execution : Execution) (answer : Call V 
   named_fits true object asked objects inner otherwise at = leaf_fits V objects (value.String object) inner at
   named_fits false object asked objects inner otherwise at = otherwise inner at
 
-  pub are_fitting : AreFitting execution.known (setting_in execution) (declared_arguments execution.schema) (named_outcome is_root execution answer)
+  pub are_fitting : AreFitting (named_outcome is_root execution answer) (setting_in execution)
   are_fitting = λ object parent name arguments inner at.
       named_fits (is_typename name) object (asking is_root execution object parent name arguments) (objects_of execution.schema.table (field_in execution.schema object name)) inner
       (λ inner' at'. tested_fits (execution.only_introspection || is_typename name) (field_in execution.schema object name) parent arguments inner' at') at
@@ -132,7 +132,7 @@ module _ {V : Type 0} (execution : Execution) (answer : Call V → Answer V) (on
   pub needs_no_answer : (other : Call V → Answer V) (levels : ℕ) (asked : Asked V) → query_merged execution answer levels asked ≡ query_merged execution other levels asked
   needs_no_answer other levels asked =
       λ i. grouped (kept_reading execution)
-      (answered (kept_reading execution) (λ field. field.pos) (λ object parent field. outcomes_same other false object parent field i)) levels asked.object
+      (answered (λ field. field.pos) (λ object parent field. outcomes_same other false object parent field i)) levels asked.object
       asked.parent (kept_in execution asked)
 
 module _ {V W : Type 0} (execution : Execution) (effect : Call V → W → W) (asked : Asked V) (only : execution.only_introspection ≡ true) where

@@ -194,10 +194,10 @@ abbrev comes : ℕ → ℕ → Occurrence × List Occurrence → Outcome ℕ ℕ
 comes object parent f = record { non_null = false; added = []; headers = []; shape = shape_at f.0 }
 
 abbrev merged_members : Members
-merged_members = grouped doubled (answered doubled (λ f. place) comes) 2 0 0 (o_first ∷ o_second ∷ [])
+merged_members = grouped doubled (answered (λ f. place) comes) 2 0 0 (o_first ∷ o_second ∷ [])
 
 abbrev apart_members : Members
-apart_members = respond doubled (answered doubled (λ f. place) comes) join 2 0 0 (o_first ∷ o_second ∷ [])
+apart_members = respond doubled (answered (λ f. place) comes) join 2 0 0 (o_first ∷ o_second ∷ [])
 
 abbrev data_due : Value
 data_due = value.Object ((codes "o", value.Object ((codes "x", value.Number (pos 1)) ∷ (codes "y", value.Null) ∷ [])) ∷ [])

@@ -1,6 +1,7 @@
 -- What an answer comes to by the type of its field (GraphQL, October 2021, sections 6.4.3 and 3.5 to 3.8). Nothing is asked or
 -- rolled out here: the value of an object stands in the shape with the name of its type.
-use Rattle.std.specs.Prelude.{ℕ, ℤ, ◌++◌, ◌&&◌, not, Bool, true, false, List, map, Option, Some, None, Result, Ok, Err, option_and_then, option_map, if◌then◌else◌, codes}
+use Rattle.std.specs.Prelude.{ℕ, ℤ, ◌++◌, ◌&&◌, not, Bool, true, false, List, map, Option, Some, None, Result}
+use Rattle.std.specs.Prelude.{Ok, Err, option_and_then, option_map, if◌then◌else◌, codes}
 use Rattle.std.specs.Fmt.{signed_decimal}
 use Rattle.std.specs.Option.{option_or}
 use Rattle.std.specs.Str.{bytes_eq}
@@ -57,19 +58,22 @@ pub record AbstractTexts : Type 0 where
 abbrev pub interface_texts : List ℕ → AbstractTexts
 interface_texts name = record {
   unnamed = codes "internal: invalid value for interface \"" ++ (name ++ codes "\", expected \"FieldValue::WithType\"");
-  foreign = λ object. codes "internal: object \"" ++ (object ++ (codes "\" does not implement interface \"" ++ (name ++ codes "\"")));
+  foreign = λ object. codes "internal: object \"" ++
+      (object ++ (codes "\" does not implement interface \"" ++ (name ++ codes "\"")));
 }
 
 -- a union that the object isn't a member of
 abbrev pub union_texts : List ℕ → AbstractTexts
 union_texts name = record {
   unnamed = codes "internal: invalid value for union \"" ++ (name ++ codes "\", expected \"FieldValue::WithType\"");
-  foreign = λ object. codes "internal: union \"" ++ (name ++ (codes "\" does not contain object \"" ++ (object ++ codes "\"")));
+  foreign = λ object. codes "internal: union \"" ++
+      (name ++ (codes "\" does not contain object \"" ++ (object ++ codes "\"")));
 }
 
 -- a number of the type `ID` is shown as its decimal text (section 3.5.5)
 abbrev pub shown_number : List ℕ → ℤ → Value
-shown_number name number = if bytes_eq name (codes "ID") then value.String (signed_decimal number) else value.Number number
+shown_number name number = if bytes_eq name (codes "ID") then value.String
+    (signed_decimal number) else value.Number number
 
 -- one level of it: what isn't a number stays as it is
 abbrev pub shown_here : List ℕ → Value → Value-F Value → Value
@@ -114,7 +118,8 @@ module _ {V : Type 0} where
 
   -- the items of a list, or of a value that is a list
   abbrev pub all_items_in : FieldValue V → Option (List (FieldValue V))
-  all_items_in given = option_or (items_in given) (option_map (map kind.Value) (option_and_then list_of (value_in given)))
+  all_items_in given = option_or (items_in given) (option_map (map kind.Value)
+      (option_and_then list_of (value_in given)))
 
   -- null stands at each nullable type but an object, whose fields are asked of null too
   abbrev pub unless_null : FieldValue V → Completed V → Completed V
@@ -137,11 +142,15 @@ module _ {V : Type 0} where
 
   -- a value at a type of the table; no field of a sound table has another type than these
   abbrev pub at_type : TypeTable → List ℕ → Option SchemaType → FieldValue V → Completed V
-  at_type table name (Some (types.Scalar scalar)) given = unless_null given (at_scalar name (rule_of scalar) (value_in given))
-  at_type table name (Some (types.Enum enum)) given = unless_null given (at_enum name (items_of enum) (option_and_then enum_name_of (value_in given)))
+  at_type table name (Some (types.Scalar scalar)) given = unless_null given
+      (at_scalar name (rule_of scalar) (value_in given))
+  at_type table name (Some (types.Enum enum)) given = unless_null given
+      (at_enum name (items_of enum) (option_and_then enum_name_of (value_in given)))
   at_type table name (Some (types.Object object)) given = shape.Object name given
-  at_type table name (Some (types.Interface interface)) given = unless_null given (at_abstract table name (interface_texts name) (named_in given))
-  at_type table name (Some (types.Union union)) given = unless_null given (at_abstract table name (union_texts name) (named_in given))
+  at_type table name (Some (types.Interface interface)) given = unless_null given
+      (at_abstract table name (interface_texts name) (named_in given))
+  at_type table name (Some (types.Union union)) given = unless_null given
+      (at_abstract table name (union_texts name) (named_in given))
   at_type table name _ given = shape.Absent
 
   -- what is absent where a value is due is a fault
@@ -165,9 +174,18 @@ module _ {V : Type 0} where
 
   -- one level of a type
   abbrev pub completing_step : TypeTable → TypeRef-F (Completing V) → Completing V
-  completing_step table (TypeRef-F.Named name) = record { non_null = false; completes = if_given (at_type table name (under name table)) }
-  completing_step table (TypeRef-F.NonNull inner) = record { non_null = true; completes = λ given. required (inner.completes given) }
-  completing_step table (TypeRef-F.List inner) = record { non_null = false; completes = if_given (λ given. unless_null given (at_items inner (all_items_in given))) }
+  completing_step table (TypeRef-F.Named name) = record {
+    non_null = false;
+    completes = if_given (at_type table name (under name table));
+  }
+  completing_step table (TypeRef-F.NonNull inner) = record {
+    non_null = true;
+    completes = λ given. required (inner.completes given);
+  }
+  completing_step table (TypeRef-F.List inner) = record {
+    non_null = false;
+    completes = if_given (λ given. unless_null given (at_items inner (all_items_in given)));
+  }
 
   -- CompleteValue at a type
   abbrev pub completing : TypeTable → TypeRef → Completing V

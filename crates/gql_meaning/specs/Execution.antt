@@ -1,5 +1,6 @@
 -- What a field of a request asks, and what comes of the answer (GraphQL, October 2021, sections 6.4.1 to 6.4.3).
-use Rattle.std.specs.Prelude.{ℕ, ◌||◌, Bool, true, false, List, [], Option, Some, None, option_and_then, option_map, if◌then◌else◌, codes}
+use Rattle.std.specs.Prelude.{ℕ, ◌||◌, Bool, true, false, List, [], Option, Some, None, option_and_then}
+use Rattle.std.specs.Prelude.{option_map, if◌then◌else◌, codes}
 use Rattle.std.specs.Str.{bytes_eq}
 use Rattle.gql_base.specs.declared.type_ref.TypeRef.{TypeRef}
 use Rattle.gql_base.specs.declared.value.Value.{Value}
@@ -16,14 +17,16 @@ use Rattle.gql_resolve.specs.Call.{Call}
 use Rattle.gql_resolve.specs.declared.answer.Answer.{Answer}
 use Rattle.gql_resolve.specs.declared.field_value.FieldValue.{FieldValue}
 use Rattle.gql_schema.specs.TableReading.{Declared}
+use Rattle.gql_select.specs.Alike.{arguments_of, name_of}
 use Rattle.gql_select.specs.Collected.{Setting}
+use Rattle.gql_select.specs.Constants.{constants}
 
 -- what an execution knows, but for answers and worlds
 pub record Execution : Type 0 where
   pub schema : Schema
   -- the fragments of the document, as they are written
   pub fragments : Fragments
-  -- how many levels of sets and fragments are entered
+  -- how many levels of fragments are entered within one set, the set itself among them
   pub levels : ℕ
   -- what each variable stands for: the request's value, else its default, else null
   pub known : List ℕ → Value
@@ -58,13 +61,21 @@ module _ {V : Type 0} (is_root : Bool) (execution : Execution) where
   -- what the field of a name asks, if anything: `__typename` asks nothing, and in introspection-only mode no field does
   abbrev pub asking : List ℕ → FieldValue V → List ℕ → List (List ℕ × Value) → Option (Asking V)
   asking object parent name arguments =
-      if execution.only_introspection || is_typename name then None else option_and_then (asking_at parent arguments) (field_in execution.schema object name)
+      if execution.only_introspection || is_typename name then None
+      else option_and_then (asking_at parent arguments) (field_in execution.schema object name)
+
+  -- what an occurrence asks, at the constants of its arguments
+  abbrev pub field_asking : List ℕ → FieldValue V → Positioned Field → Option (Asking V)
+  field_asking object parent field =
+      asking object parent (name_of field)
+      (constants execution.known (declared_arguments execution.schema object (name_of field)) (arguments_of field))
 
   -- the name of an object, which is never null
   abbrev pub typename_outcome : List ℕ → Outcome (List ℕ) (FieldValue V)
-  typename_outcome object = record { non_null = true; added = []; headers = []; shape = shape.Leaf (value.String object) }
+  typename_outcome object =
+      record { non_null = true; added = []; headers = []; shape = shape.Leaf (value.String object) }
 
-  -- where nothing is asked nothing stands
+  -- where nothing is asked nothing stands, which is null (admission lets no unknown field through)
   abbrev pub absent_outcome : Outcome (List ℕ) (FieldValue V)
   absent_outcome = record { non_null = false; added = []; headers = []; shape = shape.Absent }
 
@@ -81,4 +92,4 @@ module _ {V : Type 0} (is_root : Bool) (execution : Execution) where
 
     -- what an occurrence comes to, at the constants of its arguments
     abbrev pub field_outcome : List ℕ → FieldValue V → Positioned Field → Outcome (List ℕ) (FieldValue V)
-    field_outcome = outcome_named execution.known (setting_in execution) (declared_arguments execution.schema) named_outcome
+    field_outcome = outcome_named named_outcome execution.known (declared_arguments execution.schema)

@@ -9,7 +9,8 @@ use Rattle.gql_doc.specs.declared.document.Positioned.{Positioned}
 use Rattle.gql_meaning.specs.Completion.{shape_of}
 use Rattle.gql_meaning.specs.Counted.{asked_count}
 use Rattle.gql_meaning.specs.Execution.{Execution, setting_in}
-use Rattle.gql_meaning.specs.Responses.{Asked, asking_keys, last_world, mutation_apart, mutation_merged, query_apart, query_merged, world_behind_first}
+use Rattle.gql_meaning.specs.Responses.{Asked, asking_keys, last_world, mutation_apart, mutation_merged}
+use Rattle.gql_meaning.specs.Responses.{query_apart, query_merged, world_behind_first}
 use Rattle.gql_place.specs.Filled.{objects_in}
 use Rattle.gql_resolve.specs.Call.{Call}
 use Rattle.gql_resolve.specs.declared.answer.Answer.{Answer}
@@ -34,30 +35,36 @@ QueryApartIsMerged V E =
 -- the same of a mutation; its worlds are the same in both, since its root keys are merged in both
 abbrev pub MutationApartIsMerged : (V W E : Type 0) → Type 0
 MutationApartIsMerged V W E =
-    (execution : Execution) (answer : Call V → W → Answer V) (effect : Call V → W → W) (told : Positioned Field → E) (levels : ℕ) (asked : Asked V) (world : W)
+    (execution : Execution) (answer : Call V → W → Answer V) (effect : Call V → W → W)
+    (told : Positioned Field → E) (levels : ℕ) (asked : Asked V) (world : W)
     → conflicts (reading (setting_in execution)) told (suc levels) asked.object asked.selections ≡ []
-    → mutation_apart execution effect answer levels asked world ≡ mutation_merged execution effect answer levels asked world
+    → mutation_apart execution effect answer levels asked world
+    ≡ mutation_merged execution effect answer levels asked world
 
 -- the world behind all root keys that ask an answer is the last one: the others leave the world as it was
 abbrev pub OnlyAnswersChangeWorlds : (V W : Type 0) → Type 0
 OnlyAnswersChangeWorlds V W =
     (execution : Execution) (effect : Call V → W → W) (asked : Asked V) (world : W)
-    → last_world execution effect asked world ≡ world_behind_first execution effect (length (asking_keys execution asked)) asked world
+    → last_world execution effect asked world ≡ world_behind_first execution effect
+    (length (asking_keys execution asked)) asked world
 
 -- in introspection-only mode no answer is asked
 abbrev pub IntrospectionAsksNothing : (V : Type 0) → Type 0
 IntrospectionAsksNothing V =
-    (execution : Execution) (answer : Call V → Answer V) (levels : ℕ) (asked : Asked V) → execution.only_introspection ≡ true
+    (execution : Execution) (answer : Call V → Answer V) (levels : ℕ) (asked : Asked V)
+    → execution.only_introspection ≡ true
     → asked_count execution answer levels asked ≡ 0
 
 -- so the places are the same, whatever would be answered
 abbrev pub IntrospectionNeedsNoAnswer : (V : Type 0) → Type 0
 IntrospectionNeedsNoAnswer V =
-    (execution : Execution) (answer other : Call V → Answer V) (levels : ℕ) (asked : Asked V) → execution.only_introspection ≡ true
+    (execution : Execution) (answer other : Call V → Answer V) (levels : ℕ) (asked : Asked V)
+    → execution.only_introspection ≡ true
     → query_merged execution answer levels asked ≡ query_merged execution other levels asked
 
 -- and a mutation leaves the world as it was
 abbrev pub IntrospectionChangesNoWorld : (V W : Type 0) → Type 0
 IntrospectionChangesNoWorld V W =
-    (execution : Execution) (effect : Call V → W → W) (asked : Asked V) (world : W) → execution.only_introspection ≡ true
+    (execution : Execution) (effect : Call V → W → W) (asked : Asked V) (world : W)
+    → execution.only_introspection ≡ true
     → last_world execution effect asked world ≡ world

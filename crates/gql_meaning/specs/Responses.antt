@@ -1,4 +1,4 @@
--- The responses of queries and mutations (GraphQL, October 2021, sections 6.2 and 6.3): merged execution, in which each key of a set is
+-- The responses of queries and mutations (GraphQL, October 2021, sections 6.2 to 6.4): merged execution, in which each key of a set is
 -- answered once, and apart execution, in which each occurrence is, and places under one key are joined.
 use Rattle.std.specs.Prelude.{ℕ, Bool, true, false, List, [], Option, Some, None, is_some, take, filter}
 use Rattle.gql_base.specs.declared.pos.Pos.{Pos}
@@ -7,8 +7,7 @@ use Rattle.gql_base.specs.declared.value.Value.{Value}
 use Rattle.gql_doc.specs.declared.document.Field.{Field}
 use Rattle.gql_doc.specs.declared.document.Positioned.{Positioned}
 use Rattle.gql_doc.specs.declared.document.Selection.{Selection}
-use Rattle.gql_meaning.specs.Execution.{asking, Asking, Execution, field_outcome, setting_in}
-use Rattle.gql_meaning.specs.TableSetting.{declared_arguments}
+use Rattle.gql_meaning.specs.Execution.{Asking, Execution, field_asking, field_outcome, setting_in}
 use Rattle.gql_place.specs.Answered.{answered}
 use Rattle.gql_place.specs.Faults.{faults_of}
 use Rattle.gql_place.specs.HeaderOps.{ops_of}
@@ -20,8 +19,6 @@ use Rattle.gql_request.specs.declared.header_op.HeaderOp.{HeaderOp}
 use Rattle.gql_resolve.specs.Call.{Call}
 use Rattle.gql_resolve.specs.declared.answer.Answer.{Answer}
 use Rattle.gql_resolve.specs.declared.field_value.FieldValue.{FieldValue}
-use Rattle.gql_select.specs.Alike.{arguments_of, name_of}
-use Rattle.gql_select.specs.Constants.{constants}
 use Rattle.gql_select.specs.Documents.{reading}
 use Rattle.gql_select.specs.Grouped.{grouped, respond, serial_grouped, serial_respond, world_behind}
 use Rattle.gql_select.specs.Kept.{kept, kept_setting}
@@ -47,27 +44,29 @@ kept_in execution asked = kept execution.known asked.selections
 
 module _ {V : Type 0} (execution : Execution) where
   -- the place of an occurrence with an answer of its own, given what is beneath its objects
-  abbrev pub placed : Bool → (Call V → Answer V) → List ℕ → FieldValue V → Positioned Field → (List ℕ → FieldValue V → Members) → Place
-  placed is_root answer = answered (kept_reading execution) (λ field. field.pos) (field_outcome is_root execution answer)
+  abbrev pub placed : Bool → (Call V → Answer V) → List ℕ → FieldValue V → Positioned Field
+      → (List ℕ → FieldValue V → Members) → Place
+  placed is_root answer = answered (λ field. field.pos) (field_outcome is_root execution answer)
 
   module _ (answer : Call V → Answer V) (levels : ℕ) (asked : Asked V) where
     -- ExecuteQuery: the members of the root, each key answered once
     abbrev pub query_merged : Members
-    query_merged = grouped (kept_reading execution) (placed false answer) levels asked.object asked.parent (kept_in execution asked)
+    query_merged = grouped (kept_reading execution) (placed false answer) levels asked.object asked.parent
+        (kept_in execution asked)
 
     -- the same, each occurrence answered apart
     abbrev pub query_apart : Members
-    query_apart = respond (kept_reading execution) (placed false answer) join levels asked.object asked.parent (kept_in execution asked)
+    query_apart = respond (kept_reading execution) (placed false answer) join levels asked.object asked.parent
+        (kept_in execution asked)
 
   -- what an occurrence at the root of a mutation asks
   abbrev pub root_asking : Asked V → Positioned Field → Option (Asking V)
-  root_asking asked field =
-      asking true execution asked.object asked.parent (name_of field)
-      (constants execution.known (declared_arguments execution.schema asked.object (name_of field)) (arguments_of field))
+  root_asking asked field = field_asking true execution asked.object asked.parent field
 
   -- the root keys in their order, each merged over its occurrences
   abbrev pub root_keys : Asked V → List (List ℕ × Positioned Field)
-  root_keys asked = merged (kept_reading execution) ((kept_reading execution).fields asked.object (kept_in execution asked))
+  root_keys asked = merged (kept_reading execution)
+      ((kept_reading execution).fields asked.object (kept_in execution asked))
 
   -- the root keys that ask an answer
   abbrev pub asking_keys : Asked V → List (List ℕ × Positioned Field)
@@ -95,13 +94,15 @@ module _ {V : Type 0} (execution : Execution) where
       -- ExecuteMutation: the root keys one after another, each answered in the world that those before it left
       abbrev pub mutation_merged : Members
       mutation_merged =
-          serial_grouped (kept_reading execution) (world_after asked) (λ w. placed true (λ call. answer call w)) (λ w. placed false (λ call. answer call w))
+          serial_grouped (kept_reading execution) (world_after asked) (λ w. placed true (λ call. answer call w))
+          (λ w. placed false (λ call. answer call w))
           levels asked.object asked.parent (kept_in execution asked) world
 
       -- the same, each occurrence below the root answered apart
       abbrev pub mutation_apart : Members
       mutation_apart =
-          serial_respond (kept_reading execution) (world_after asked) (λ w. placed true (λ call. answer call w)) (λ w. placed false (λ call. answer call w))
+          serial_respond (kept_reading execution) (world_after asked) (λ w. placed true (λ call. answer call w))
+          (λ w. placed false (λ call. answer call w))
           join levels asked.object asked.parent (kept_in execution asked) world
 
 -- the place of a whole response: its data may be null
@@ -117,4 +118,8 @@ pub record Response : Type 0 where
 
 -- the response that these members make, whose operation stands at this place
 abbrev pub response : Pos → Members → Response
-response pos members = record { value = raised (root_place pos members); errors = faults_of (root_place pos members); headers = ops_of (root_place pos members) }
+response pos members = record {
+  value = raised (root_place pos members);
+  errors = faults_of (root_place pos members);
+  headers = ops_of (root_place pos members);
+}

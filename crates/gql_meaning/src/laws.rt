@@ -1,6 +1,7 @@
 //! Laws on what execution means. Each is the contract of a function without parameters.
 
-ghost use Rattle.gql_meaning.specs.Laws.{CompletionFits, IntrospectionAsksNothing, IntrospectionChangesNoWorld, IntrospectionNeedsNoAnswer};
+ghost use Rattle.gql_meaning.specs.Laws.{CompletionFits, IntrospectionAsksNothing};
+ghost use Rattle.gql_meaning.specs.Laws.{IntrospectionChangesNoWorld, IntrospectionNeedsNoAnswer};
 ghost use Rattle.gql_meaning.specs.Laws.{MutationApartIsMerged, OnlyAnswersChangeWorlds, QueryApartIsMerged};
 
 /// An answer comes to objects alone that the type of its field can be (GraphQL, October 2021, section 6.4.3).

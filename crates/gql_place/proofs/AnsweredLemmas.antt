@@ -19,7 +19,7 @@ module _ {O P : Type 0} where
       ∙ (λ i. record { pos = one; non_null = outcome.non_null; added = outcome.added; headers = outcome.headers; tree = filled_both one other b c outcome.shape i })
 
 module _ {O P F X : Type 0} (reading : Reading O F X) (pos : F → Pos) (outcome : O → P → F → Outcome O P) (is : IsAnswering reading pos outcome) where
-  pub answered_places : IsPlacing reading (answered reading pos outcome) join
+  pub answered_places : IsPlacing reading (answered pos outcome) join
   answered_places = record {
     same = λ o p f b c same. λ i. record {
       pos = pos f;

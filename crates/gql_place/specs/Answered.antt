@@ -6,15 +6,18 @@ use Rattle.gql_place.specs.Filled.{Outcome, objects_in, place_with}
 use Rattle.gql_select.specs.Reading.{Reading}
 use Rattle.gql_place.specs.declared.place.Place.{Place}
 
-module _ {O P F X : Type 0} (reading : Reading O F X) (pos : F → Pos) (outcome : O → P → F → Outcome O P) where
-  -- the place of a field on an object, with what is beneath its objects
-  abbrev pub answered : O → P → F → (O → P → List (List ℕ × Place)) → Place
-  answered object parent field below = place_with (pos field) (outcome object parent field) below
+-- the place of a field on an object, with what is beneath its objects
+abbrev pub answered : {O P F : Type 0} → (F → Pos) → (O → P → F → Outcome O P) → O → P → F → (O → P → List (List ℕ × Place)) → Place
+answered pos outcome object parent field below = place_with (pos field) (outcome object parent field) below
 
+module _ {O P F X : Type 0} (reading : Reading O F X) (pos : F → Pos) (outcome : O → P → F → Outcome O P) where
   -- answers hang on what a field asks alone, and come to objects that are possible beneath it
   pub record IsAnswering : Type 0 where
     pub pos_of_both : (f g : F) → pos (reading.both f g) ≡ pos f
-    pub outcome_of_both : (object : O) (parent : P) (f g : F) → outcome object parent (reading.both f g) ≡ outcome object parent f
-    pub outcome_of_alike : (object : O) (parent : P) (f g : F) → reading.alike f g ≡ true → outcome object parent g ≡ outcome object parent f
-    pub objects_are_possible : (object : O) (parent : P) (f : F) (inner : O) → Contains (objects_in (outcome object parent f).shape) inner
+    pub outcome_of_both : (object : O) (parent : P) (f g : F) → outcome object parent (reading.both f g)
+        ≡ outcome object parent f
+    pub outcome_of_alike : (object : O) (parent : P) (f g : F) → reading.alike f g ≡ true
+        → outcome object parent g ≡ outcome object parent f
+    pub objects_are_possible : (object : O) (parent : P) (f : F) (inner : O)
+        → Contains (objects_in (outcome object parent f).shape) inner
         → Contains (reading.objects object f) inner

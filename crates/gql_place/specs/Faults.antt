@@ -13,7 +13,8 @@ use Rattle.gql_place.specs.declared.place.Tree.TheFolds.{fold-Place, fold-Tree}
 
 -- an error at a position of the request and a path of the response
 abbrev pub located : Pos → List PathSegment → Error → ServerError
-located pos path error = record { message = error.message; locations = pos ∷ []; path = path; extensions = error.extensions }
+located pos path error =
+    record { message = error.message; locations = pos ∷ []; path = path; extensions = error.extensions }
 
 -- the errors at each path
 abbrev pub AtPath : Type 0

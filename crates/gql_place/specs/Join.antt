@@ -1,5 +1,6 @@
 -- How the places of one key are joined: the first's position, added errors, headers and fault stay; objects are united key by key, and
--- lists item by item (GraphQL, October 2021, section 6.3.2: the fields of one key are one field, with the selections of all).
+-- lists item by item (GraphQL, October 2021, section 6.4.3, MergeSelectionSets: the fields of one key are one field, with the selections of
+-- all). The recursion runs over the second place and builds a function of the first: with no first, the second stands as it is.
 use Rattle.std.specs.Prelude.{ℕ, List, [], ◌∷◌, map, Option, Some, None}
 use Rattle.gql_base.specs.Pairs.{under, put}
 use Rattle.gql_place.specs.declared.place.Place.{Place}

@@ -1,6 +1,7 @@
 //! Laws on places. Each is the contract of a function without parameters.
 
-ghost use Rattle.gql_place.specs.Laws.{DocumentsApartAreMerged, JoinedWithItself, MutationPlacesApartAreMerged};
+ghost use Rattle.gql_place.specs.Laws.{DocumentsApartAreMerged, JoinedWithItself};
+ghost use Rattle.gql_place.specs.Laws.{MutationPlacesApartAreMerged};
 ghost use Rattle.gql_place.specs.Laws.{PlacesApartAreMerged};
 
 /// The places of answers, of which each occurrence has one of its own, joined under their keys, are those of merged

@@ -18,6 +18,3 @@ pub use place_faults::faults;
 pub use place_headers::header_ops;
 pub use raising::raise;
 pub use shape::Shape;
-
-#[cfg(test)]
-mod tests;

@@ -1,5 +1,6 @@
 ghost use Rattle.std.specs.Prelude.{◌≡◌, ◌++◌, IfOk, OnOk, map};
-ghost use Rattle.gql_place.specs.Faults.{faults_of, faults_at, tree_faults, member_faults, item_faults, located};
+ghost use Rattle.gql_place.specs.Faults.{faults_of, faults_at, tree_faults, member_faults};
+ghost use Rattle.gql_place.specs.Faults.{item_faults, located};
 
 use crate::place::{Place, Tree};
 use gql_base::{Copied, Error, Items, Made, Pairs, PathSegment, Pos, ServerError, Text};

@@ -1,6 +1,7 @@
 -- How data find their keys: each key has two links to keys that were added later. The way to a key begins at the first key, and where
 -- a key is another one it takes the link of the lowest bit of the key that is sought, which is then left out.
-use Rattle.std.specs.Prelude.{◌≡◌, ℕ, ◌+◌, ◌*◌, ◌/◌, ◌%◌, ◌<◌, ◌≤◌, ◌==◌, List, [], Option, Some, None, length, slice_get, slice_set, slice_index_or}
+use Rattle.std.specs.Prelude.{◌≡◌, ℕ, ◌+◌, ◌*◌, ◌/◌, ◌%◌, ◌<◌, ◌≤◌, ◌==◌, List, [], Option, Some, None}
+use Rattle.std.specs.Prelude.{length, slice_get, slice_set, slice_index_or}
 use Rattle.std.specs.List.{position_or_len}
 use Rattle.gql_request.specs.declared.key_tree.Sought.{Sought}
 use Rattle.gql_request.specs.declared.key_tree.Sought.TheVariants.{At, Missing}
@@ -16,7 +17,8 @@ end_of links link = slice_index_or links link None
 -- that the way from a place, by the bits that are left, comes to the goal
 pub data Leads (links : List (Option ℕ)) (goal : ℕ) : ℕ → ℕ → Type 0 where
   Arrives : (bits : ℕ) → Leads links goal goal bits
-  GoesOn : (place bits next : ℕ) → end_of links (link_at place bits) ≡ Some next → Leads links goal next (bits / 2) → Leads links goal place bits
+  GoesOn : (place bits next : ℕ) → end_of links (link_at place bits) ≡ Some next
+      → Leads links goal next (bits / 2) → Leads links goal place bits
 
 pub record IsKeyTree (keys : List ℕ) (links : List (Option ℕ)) : Type 0 where
   -- each key has two links
@@ -38,7 +40,8 @@ Extends links more = (link next : ℕ) → end_of links link ≡ Some next → e
 pub record Ends (links : List (Option ℕ)) (place bits link : ℕ) : Type 0 where
   pub within : link < length links
   pub free : end_of links link ≡ None
-  pub leads : (more : List (Option ℕ)) (goal : ℕ) → Extends links more → end_of more link ≡ Some goal → Leads more goal place bits
+  pub leads : (more : List (Option ℕ)) (goal : ℕ) → Extends links more → end_of more link ≡ Some goal
+      → Leads more goal place bits
 
 -- where the way from a place by these bits ends: there is no key at all, or there is such a link
 abbrev pub EndsAt : List (Option ℕ) → ℕ → ℕ → Option ℕ → Type 0

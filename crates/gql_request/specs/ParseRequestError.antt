@@ -2,7 +2,8 @@
 use Rattle.std.specs.Prelude.{◌≡◌, ℕ, List, ◌++◌, Result, Ok, Err, codes}
 use Rattle.gql_request.specs.Reading.{Reading}
 use Rattle.gql_request.specs.declared.parse_request_error.ParseRequestError.{ParseRequestError}
-use Rattle.gql_request.specs.declared.parse_request_error.ParseRequestError.TheVariants.{InvalidRequest, UnsupportedBatch}
+use Rattle.gql_request.specs.declared.parse_request_error.ParseRequestError.TheVariants.{InvalidRequest}
+use Rattle.gql_request.specs.declared.parse_request_error.ParseRequestError.TheVariants.{UnsupportedBatch}
 
 -- the error in words
 abbrev pub error_text : ParseRequestError → List ℕ

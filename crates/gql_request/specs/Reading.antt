@@ -3,7 +3,9 @@ use Rattle.std.specs.Prelude.{◌≡◌, ℕ, List, Option, Some, None, Result, 
 use Rattle.gql_request.specs.declared.reading.Fault.{Fault}
 use Rattle.gql_request.specs.declared.reading.Fault.TheVariants.{Refused, NoMemory}
 use Rattle.gql_request.specs.declared.reading.Reason.{Reason}
-use Rattle.gql_request.specs.declared.reading.Reason.TheVariants.{NoObject, NoQueryText, NoNameText, VariablesList, NoVariables, NoExtensions, NoRequest}
+use Rattle.gql_request.specs.declared.reading.Reason.TheVariants.{NoObject, NoQueryText, NoNameText}
+use Rattle.gql_request.specs.declared.reading.Reason.TheVariants.{VariablesList, NoVariables, NoExtensions}
+use Rattle.gql_request.specs.declared.reading.Reason.TheVariants.{NoRequest}
 
 abbrev pub Reading : Type 0 → Type 0
 Reading A = Result A (List ℕ)

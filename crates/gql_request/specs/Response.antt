@@ -14,4 +14,5 @@ errors_member (error ∷ others) = codes ",\"errors\":" ++ list_json error_json 
 abbrev pub response_json : Response → List ℕ
 response_json response =
     codes "{\"data\":"
-    ++ (json response.result ++ (extensions_member (Some response.extensions) ++ (errors_member response.errors ++ codes "}")))
+    ++ (json response.result ++ (extensions_member (Some response.extensions)
+    ++ (errors_member response.errors ++ codes "}")))

@@ -1,6 +1,7 @@
 ghost use Rattle.std.specs.Prelude.{◌≡◌, ◌<◌, [], length, map, slice_get, Some, IfOk, MatchResult};
 ghost use Rattle.std.specs.Borrow.{Lends, sem};
-ghost use Rattle.gql_request.specs.BatchRequest.{requests_of, each_request, with_request, requests_in, some_requests_in, batch_of};
+ghost use Rattle.gql_request.specs.BatchRequest.{requests_of, each_request, with_request};
+ghost use Rattle.gql_request.specs.BatchRequest.{requests_in, some_requests_in, batch_of};
 ghost use Rattle.gql_request.specs.Data.{put_key};
 ghost use Rattle.gql_request.specs.ParseRequestError.{Tells};
 ghost use Rattle.gql_request.specs.Reading.{IsRead};
@@ -29,7 +30,8 @@ impl BatchRequest {
     /// The single request. It refuses exactly batches.
     pub fn into_single(self) -> Result<Request, ParseRequestError>
         ensures { MatchResult result (λ request. self ≡ BatchRequest.Single request)
-            (λ error. (error ≡ ParseRequestError.UnsupportedBatch) × (self ≡ BatchRequest.Batch (requests_of self))) }
+            (λ error. (error ≡ ParseRequestError.UnsupportedBatch)
+            × (self ≡ BatchRequest.Batch (requests_of self))) }
     {
         match self {
             BatchRequest::Single(request) => Ok(request),
@@ -65,7 +67,8 @@ impl BatchRequest {
     /// The request at a place, counted from 0, to be changed.
     pub fn at_mut(&mut self, place: usize) -> &mut Request
         requires { place < length (requests_of self.old) }
-        ensures* writes_back { sem 𝓛 (Lends the_row request_row self.entry result (with_request self.old place)) }
+        ensures* writes_back { sem 𝓛 (Lends the_row request_row self.entry result
+            (with_request self.old place)) }
         ensures value { slice_get (requests_of self.old) place ≡ Some result.now }
     {
         match self {
@@ -77,7 +80,8 @@ impl BatchRequest {
     /// This batch, each request with a copy of these variables in place of its own.
     #[tactic(auto, using(crate::proofs::BatchLemmas::none_changed, crate::proofs::BatchLemmas::one_changed, crate::proofs::BatchLemmas::all_changed))]
     pub fn variables(mut self, alloc: Global, variables: &Variables) -> Made<BatchRequest>
-        ensures { IfOk result (λ batch. batch ≡ each_request (λ request. record request { variables = variables.now }) self) }
+        ensures { IfOk result
+            (λ batch. batch ≡ each_request (λ request. record request { variables = variables.now }) self) }
     {
         for place in 0..self.len() {
             self.at_mut(place).variables = variables.try_clone(alloc)?;
@@ -88,7 +92,8 @@ impl BatchRequest {
     /// This batch, each request with a copy of a value under a key of its layer of data.
     #[tactic(auto, using(crate::proofs::BatchLemmas::none_changed, crate::proofs::BatchLemmas::one_changed, crate::proofs::BatchLemmas::all_changed))]
     pub fn data(mut self, alloc: Global, key: DataKey, value: &Value) -> Made<BatchRequest>
-        ensures { IfOk result (λ batch. batch ≡ each_request (λ request. record request { query_data = put_key request.query_data key.0 value.now }) self) }
+        ensures { IfOk result
+            (λ batch. batch ≡ each_request (λ request. record request { query_data = put_key request.query_data key.0 value.now }) self) }
     {
         for place in 0..self.len() {
             let copy = value.try_clone(alloc)?;
@@ -99,14 +104,16 @@ impl BatchRequest {
 
     /// This batch, to whose requests fields of the schema have no values.
     pub fn disable_introspection(self) -> BatchRequest
-        ensures { result ≡ each_request (λ request. record request { introspection_mode = IntrospectionMode.Disabled }) self }
+        ensures { result ≡ each_request
+            (λ request. record request { introspection_mode = IntrospectionMode.Disabled }) self }
     {
         self.in_mode(IntrospectionMode::Disabled)
     }
 
     /// This batch, to whose requests fields of the schema alone have values.
     pub fn introspection_only(self) -> BatchRequest
-        ensures { result ≡ each_request (λ request. record request { introspection_mode = IntrospectionMode.IntrospectionOnly }) self }
+        ensures { result ≡ each_request
+            (λ request. record request { introspection_mode = IntrospectionMode.IntrospectionOnly }) self }
     {
         self.in_mode(IntrospectionMode::IntrospectionOnly)
     }

@@ -1,4 +1,5 @@
-ghost use Rattle.std.specs.Prelude.{◌≡◌, [], ◌+◌, ◌*◌, ◌↔◌, ◌<◌, ◌≤◌, IsTrue, OnOk, OnErr, IfOk, length, vec_len, vec_capacity};
+ghost use Rattle.std.specs.Prelude.{◌≡◌, [], ◌+◌, ◌*◌, ◌↔◌, ◌<◌, ◌≤◌, IsTrue, OnOk, OnErr, IfOk};
+ghost use Rattle.std.specs.Prelude.{length, vec_len, vec_capacity};
 ghost use Rattle.std.specs.List.{zip};
 ghost use Rattle.std.specs.Option.{option_copied};
 ghost use Rattle.gql_request.specs.KeyTree.{IsKeyTree};
@@ -41,7 +42,8 @@ impl Model for Data {
 
     ghost view = { λ held. zip held.tree.keys.items held.values.items };
 
-    ghost invariant = { λ held. IsKeyTree held.tree.keys.items held.tree.links.items × (length held.values.items ≡ length held.tree.keys.items) };
+    ghost invariant = { λ held. IsKeyTree held.tree.keys.items held.tree.links.items
+        × (length held.values.items ≡ length held.tree.keys.items) };
 }
 
 impl Data {
@@ -190,7 +192,8 @@ fn put_all(
     requires link_room { vec_len tree.old.links + 2 * length other_values.items ≤ vec_capacity tree.old.links }
     ensures tree { IsKeyTree tree.new.keys.items tree.new.links.items }
     ensures same { length values.new.items ≡ length tree.new.keys.items }
-    ensures pairs { zip tree.new.keys.items values.new.items ≡ put_keys (zip tree.old.keys.items values.old.items) (zip other_keys.now other_values.items) }
+    ensures pairs { zip tree.new.keys.items values.new.items
+        ≡ put_keys (zip tree.old.keys.items values.old.items) (zip other_keys.now other_values.items) }
 {
     let mut place = 0;
     for value in other_values {
@@ -209,7 +212,8 @@ fn put_within(tree: &mut KeyTree, values: &mut Vec<Value>, key: u32, value: Valu
     requires link_room { vec_len tree.old.links + 2 ≤ vec_capacity tree.old.links }
     ensures tree { IsKeyTree tree.new.keys.items tree.new.links.items }
     ensures same { length values.new.items ≡ length tree.new.keys.items }
-    ensures pairs { zip tree.new.keys.items values.new.items ≡ put_key (zip tree.old.keys.items values.old.items) key value }
+    ensures pairs { zip tree.new.keys.items values.new.items
+        ≡ put_key (zip tree.old.keys.items values.old.items) key value }
     ensures room { vec_len values.new ≤ vec_len values.old + 1 }
     ensures capacity { vec_capacity values.old ≤ vec_capacity values.new }
     ensures key_room { vec_len tree.new.keys ≤ vec_len tree.old.keys + 1 }

@@ -18,7 +18,8 @@ pub trait DataContext<'a> {
 
     /// The value under a key, or that there is none.
     fn data(&self, key: DataKey) -> Result<&'a Value, NoData>
-        ensures { MatchResult result (λ value. held self.now key.0 ≡ Some value.now) (λ no. (no.0 ≡ key) × (held self.now key.0 ≡ None)) };
+        ensures { MatchResult result (λ value. held self.now key.0 ≡ Some value.now)
+            (λ no. (no.0 ≡ key) × (held self.now key.0 ≡ None)) };
 
     /// The value under a key that is there.
     fn data_unchecked(&self, key: DataKey) -> &'a Value

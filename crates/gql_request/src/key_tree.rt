@@ -1,6 +1,7 @@
 //! The keys of data, so that a look-up takes at most 33 steps whatever the keys are.
 
-ghost use Rattle.std.specs.Prelude.{◌≡◌, [], ◌∷◌, ◌++◌, ◌+◌, ◌*◌, ◌<◌, ◌≤◌, ℕ, Some, IfOk, OnOk, length, slice_get, vec_len, vec_capacity};
+ghost use Rattle.std.specs.Prelude.{◌≡◌, [], ◌∷◌, ◌++◌, ◌+◌, ◌*◌, ◌<◌, ◌≤◌, ℕ, Some, IfOk, OnOk};
+ghost use Rattle.std.specs.Prelude.{length, slice_get, vec_len, vec_capacity};
 ghost use Rattle.gql_request.specs.KeyTree.{IsKeyTree, Leads, EndsAt, EndsWithin, Finds, with_end};
 
 use gql_base::Made;

@@ -14,13 +14,7 @@ mod query_env;
 mod query_path_node;
 mod reading;
 mod request;
-#[cfg(test)]
-mod request_tests;
 mod response;
-#[cfg(test)]
-mod response_tests;
-#[cfg(test)]
-mod tests;
 
 pub use batch_request::{BatchRequest, Requests};
 pub use batch_response::BatchResponse;

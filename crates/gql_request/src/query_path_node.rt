@@ -1,4 +1,5 @@
-ghost use Rattle.std.specs.Prelude.{◌≡◌, ◌<◌, ◌++◌, IsSome, Some, IfOk, OnOk, length, map, codes, string_bytes};
+ghost use Rattle.std.specs.Prelude.{◌≡◌, ◌<◌, ◌++◌, IsSome, Some, IfOk, OnOk, length, map, codes};
+ghost use Rattle.std.specs.Prelude.{string_bytes};
 ghost use Rattle.gql_base.specs.PathSegment.{path_text, segment_text};
 ghost use Rattle.gql_base.specs.Separated.{before};
 ghost use Rattle.gql_request.specs.Path.{last_field};
@@ -103,7 +104,8 @@ impl<'a> Iterator for Parents<'a> {
     ghost use Rattle.gql_request.specs.Parents.{path_behind};
 
     ghost next_gives = { λ before parent after.
-        YieldsPrefix (proper_prefixes (path_behind before)) (option_map (λ node. node.segments.now) parent) (proper_prefixes (path_behind after)) };
+        YieldsPrefix (proper_prefixes (path_behind before))
+        (option_map (λ node. node.segments.now) parent) (proper_prefixes (path_behind after)) };
 
     ghost remaining = { item_count (λ parents. proper_prefixes (path_behind parents)) };
 

@@ -1,4 +1,5 @@
-ghost use Rattle.std.specs.Prelude.{◌≡◌, ◌↔◌, ℕ, List, IsTrue, IsSome, IfSome, IfOk, MatchResult, OnErr, Ok, Err, Some, None};
+ghost use Rattle.std.specs.Prelude.{◌≡◌, ◌↔◌, ℕ, List, IsTrue, IsSome, IfSome, IfOk, MatchResult};
+ghost use Rattle.std.specs.Prelude.{OnErr, Ok, Err, Some, None};
 ghost use Rattle.std.specs.Borrow.{sem};
 ghost use Rattle.std.specs.Str.{chars};
 ghost use Rattle.gql_doc.specs.Spelled.{GivesDocument, SpellsDocument, IsDocumentFault};
@@ -7,7 +8,8 @@ ghost use Rattle.gql_doc.specs.declared.fault.ParseFault.{ParseFault};
 ghost use Rattle.gql_request.specs.Data.{put_key};
 ghost use Rattle.gql_request.specs.ParseRequestError.{Tells};
 ghost use Rattle.gql_request.specs.Reading.{IsRead};
-ghost use Rattle.gql_request.specs.Request.{request_for, set_document, with_document, GivesParsed, ends_parsed, request_of};
+ghost use Rattle.gql_request.specs.Request.{request_for, set_document, with_document, GivesParsed};
+ghost use Rattle.gql_request.specs.Request.{ends_parsed, request_of};
 
 use crate::data::{Data, DataKey};
 use crate::parse_request_error::ParseRequestError;
@@ -71,7 +73,8 @@ impl Request {
 
     /// This request with a value under a key of its layer of data.
     pub fn data(mut self, key: DataKey, value: Value) -> Made<Request>
-        ensures { IfOk result (λ request. request ≡ record self { query_data = put_key self.query_data key.0 value }) }
+        ensures { IfOk result
+            (λ request. request ≡ record self { query_data = put_key self.query_data key.0 value }) }
     {
         self.query_data.insert(key, value)?;
         Ok(self)

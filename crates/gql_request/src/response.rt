@@ -1,4 +1,5 @@
-ghost use Rattle.std.specs.Prelude.{◌≡◌, ◌↔◌, ◌<◌, ◌++◌, [], length, IsTrue, IfOk, OnOk, MatchResult, Some, string_bytes};
+ghost use Rattle.std.specs.Prelude.{◌≡◌, ◌↔◌, ◌<◌, ◌++◌, [], length, IsTrue, IfOk, OnOk};
+ghost use Rattle.std.specs.Prelude.{MatchResult, Some, string_bytes};
 ghost use Rattle.gql_base.specs.ErrorExtensionValues.{set_in_order};
 ghost use Rattle.gql_base.specs.ErrorJson.{extensions_member};
 ghost use Rattle.gql_request.specs.Response.{errors_member, response_json};
@@ -49,7 +50,8 @@ impl Response {
 
     /// This response with one more extension, in place of one of its name.
     pub fn extension(mut self, name: &str, value: Value) -> Made<Response>
-        ensures { IfOk result (λ response. response ≡ record self { extensions = set_in_order self.extensions name.now value }) }
+        ensures { IfOk result
+            (λ response. response ≡ record self { extensions = set_in_order self.extensions name.now value }) }
     {
         self.extensions.set(name, value)?;
         Ok(self)
@@ -120,7 +122,8 @@ pub fn push_response(out: &mut String, response: &Response) -> Made<()>
 }
 
 fn push_extensions(out: &mut String, extensions: &ErrorExtensionValues) -> Made<()>
-    ensures { OnOk result (string_bytes out.new ≡ string_bytes out.old ++ extensions_member (Some extensions.now)) }
+    ensures { OnOk result (string_bytes out.new ≡ string_bytes out.old
+        ++ extensions_member (Some extensions.now)) }
 {
     if extensions.len() == 0 {
         return Ok(());

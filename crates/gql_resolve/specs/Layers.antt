@@ -7,7 +7,8 @@ use Rattle.gql_resolve.specs.declared.layers.Layers.{Layers}
 
 -- the layers in the order of search: what hooks added for the execution, then the request's, the session's, the schema's
 abbrev pub layers_of : Layers → List (List (ℕ × Value))
-layers_of layers = option_to_list (option_copied layers.execute) ++ layers.query.now ∷ layers.session.now ∷ layers.schema.now ∷ []
+layers_of layers = option_to_list (option_copied layers.execute) ++ layers.query.now ∷ layers.session.now
+    ∷ layers.schema.now ∷ []
 
 -- the value of a key in the first layer that has the key
 abbrev pub found : ℕ → List (List (ℕ × Value)) → Option Value

@@ -20,7 +20,9 @@ pub struct Answer<V> {
 impl<V> Answer<V> {
     /// Sets a header to one value.
     pub fn insert_http_header(&mut self, name: HeaderName, value: HeaderValue) -> Made<()>
-        ensures ok { OnOk result (self.new ≡ record self.old { headers = self.old.headers ++ op.Insert name value ∷ [] }) }
+        ensures ok { OnOk result (self.new ≡ record self.old {
+          headers = self.old.headers ++ op.Insert name value ∷ [];
+        }) }
         ensures err { OnErr result (self.new ≡ self.old) }
     {
         self.headers.push(HeaderOp::Insert(name, value))
@@ -28,7 +30,9 @@ impl<V> Answer<V> {
 
     /// Adds a value to a header.
     pub fn append_http_header(&mut self, name: HeaderName, value: HeaderValue) -> Made<()>
-        ensures ok { OnOk result (self.new ≡ record self.old { headers = self.old.headers ++ op.Append name value ∷ [] }) }
+        ensures ok { OnOk result (self.new ≡ record self.old {
+          headers = self.old.headers ++ op.Append name value ∷ [];
+        }) }
         ensures err { OnErr result (self.new ≡ self.old) }
     {
         self.headers.push(HeaderOp::Append(name, value))

@@ -6,15 +6,9 @@ mod copied;
 mod field_future;
 mod field_value;
 mod layers;
-#[cfg(test)]
-mod parts;
 mod record_entry;
 mod resolver_context;
 mod resolver_set;
-#[cfg(test)]
-mod sample;
-#[cfg(test)]
-mod tests;
 mod turns;
 
 pub use answer::{Answer, Polled};

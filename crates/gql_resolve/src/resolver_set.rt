@@ -1,6 +1,7 @@
 ghost use Rattle.std.specs.Prelude.{◌≡◌, IfOk};
 ghost use Rattle.gql_resolve.specs.Call.{Call, call_of};
-ghost use Rattle.gql_resolve.specs.Lawful.{PromisesStart, PromisesPoll, StartsLawfully, PollsLawfully, PollsRootLawfully};
+ghost use Rattle.gql_resolve.specs.Lawful.{PromisesStart, PromisesPoll, StartsLawfully};
+ghost use Rattle.gql_resolve.specs.Lawful.{PollsLawfully, PollsRootLawfully};
 ghost use Rattle.gql_resolve.specs.Paced.{StartsPaced, PollsPaced};
 ghost use Rattle.gql_resolve.specs.Record.{with_more, entries_of_start, entries_of_poll, tasks_of_start};
 
@@ -69,8 +70,10 @@ pub trait ResolverSet {
         ensures promise { IfOk result (PromisesStart is_for (call_of call.now)) }
         ensures rules { rules self.new ≡ rules self.old }
         ensures lawful { is_lawful self.old → is_lawful self.new
-            × StartsLawfully (answer (rules self.old)) (effect (rules self.old)) (call_of call.now) (world self.old) (world self.new) result }
-        ensures paced { is_paced self.old → is_paced self.new × IfOk result (StartsPaced number (delay (rules self.old) call.now.resolver)) }
+            × StartsLawfully (answer (rules self.old)) (effect (rules self.old)) (call_of call.now)
+            (world self.old) (world self.new) result }
+        ensures paced { is_paced self.old → is_paced self.new
+            × IfOk result (StartsPaced number (delay (rules self.old) call.now.resolver)) }
         ensures told { told self.new ≡ with_more (told self.old) (entries_of_start call.now result) }
         ensures begun { begun self.new ≡ with_more (begun self.old) (tasks_of_start call.now result) };
 
@@ -82,11 +85,14 @@ pub trait ResolverSet {
         call: &ResolverContext<'_, Self::Own>,
     ) -> Made<Polled<Self::Own>>
         requires { is_for future.old (call_of call.now) }
-        ensures promise { IfOk result (PromisesPoll is_for number (call_of call.now) future.old future.new) }
+        ensures promise { IfOk result (PromisesPoll is_for number
+            (call_of call.now) future.old future.new) }
         ensures rules { rules self.new ≡ rules self.old }
         ensures lawful { is_lawful self.old → is_lawful self.new
-            × PollsLawfully (answer (rules self.old)) (call_of call.now) (world self.old) (world self.new) result }
-        ensures paced { is_paced self.old → is_paced self.new × IfOk result (PollsPaced number future.old future.new) }
+            × PollsLawfully (answer (rules self.old)) (call_of call.now) (world self.old)
+            (world self.new) result }
+        ensures paced { is_paced self.old → is_paced self.new
+            × IfOk result (PollsPaced number future.old future.new) }
         ensures told { told self.new ≡ with_more (told self.old) (entries_of_poll call.now result) }
         ensures begun { begun self.new ≡ begun self.old };
 
@@ -98,11 +104,14 @@ pub trait ResolverSet {
         call: &ResolverContext<'_, Self::Own>,
     ) -> Made<Polled<Self::Own>>
         requires { is_for future.old (call_of call.now) }
-        ensures promise { IfOk result (PromisesPoll is_for number (call_of call.now) future.old future.new) }
+        ensures promise { IfOk result (PromisesPoll is_for number
+            (call_of call.now) future.old future.new) }
         ensures rules { rules self.new ≡ rules self.old }
         ensures lawful { is_lawful self.old → is_lawful self.new
-            × PollsRootLawfully (answer (rules self.old)) (effect (rules self.old)) (call_of call.now) (world self.old) (world self.new) result }
-        ensures paced { is_paced self.old → is_paced self.new × IfOk result (PollsPaced number future.old future.new) }
+            × PollsRootLawfully (answer (rules self.old)) (effect (rules self.old))
+            (call_of call.now) (world self.old) (world self.new) result }
+        ensures paced { is_paced self.old → is_paced self.new
+            × IfOk result (PollsPaced number future.old future.new) }
         ensures told { told self.new ≡ with_more (told self.old) (entries_of_poll call.now result) }
         ensures begun { begun self.new ≡ begun self.old };
 

@@ -55,6 +55,3 @@ pub use subscription::Subscription;
 pub use subscription_field::SubscriptionField;
 pub use types::Types;
 pub use union::Union;
-
-#[cfg(test)]
-mod tests;

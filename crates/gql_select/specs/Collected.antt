@@ -14,11 +14,11 @@ use Rattle.gql_doc.specs.declared.document.SelectionSet.{SelectionSet}
 -- what the fields of a request are read by
 pub record Setting : Type 0 where
   pub fragments : Fragments
-  -- how many levels of sets and fragments are entered
+  -- how many levels of fragments are entered within one set, the set itself among them
   pub levels : ℕ
-  -- whether a condition on a type lets an object in
+  -- whether a condition on a type (the first name) lets an object type (the second) in
   pub covers : List ℕ → List ℕ → Bool
-  -- the objects that are possible beneath the field of this name on an object
+  -- the object types that are possible beneath the field of a name (the second) on an object type (the first)
   pub beneath : List ℕ → List ℕ → List (List ℕ)
 
 -- the selections of a field's own set
@@ -30,7 +30,8 @@ module _ (setting : Setting) (object : List ℕ) (deeper : List (Positioned Sele
   abbrev pub fields_of_spread : Option (Positioned FragmentDefinition) → List (Positioned Field)
   fields_of_spread None = []
   fields_of_spread (Some fragment) =
-      if setting.covers fragment.node.type_condition.node object then deeper (selections_of (fragment_set fragment)) else []
+      if setting.covers fragment.node.type_condition.node object then deeper
+      (selections_of (fragment_set fragment)) else []
 
   -- the fields of a fragment in place, which applies to each object where it has no condition
   abbrev pub fields_under : Option (Positioned (List ℕ)) → List (Positioned Selection) → List (Positioned Field)
@@ -39,19 +40,22 @@ module _ (setting : Setting) (object : List ℕ) (deeper : List (Positioned Sele
 
   -- the fields of a fragment in place
   abbrev pub fields_of_inline : InlineFragment → List (Positioned Field)
-  fields_of_inline fragment = fields_under (out-InlineFragment fragment).type_condition (selections_of (out-InlineFragment fragment).selection_set)
+  fields_of_inline fragment = fields_under (out-InlineFragment fragment).type_condition
+      (selections_of (out-InlineFragment fragment).selection_set)
 
   -- the fields that a selection stands for
   abbrev pub fields_of : Selection-F Selection Field InlineFragment SelectionSet → List (Positioned Field)
   fields_of (Selection-F.Field field) = field ∷ []
-  fields_of (Selection-F.FragmentSpread spread) = fields_of_spread (under spread.node.fragment_name.node setting.fragments)
+  fields_of (Selection-F.FragmentSpread spread) = fields_of_spread
+      (under spread.node.fragment_name.node setting.fragments)
   fields_of (Selection-F.InlineFragment fragment) = fields_of_inline fragment.node
 
 -- CollectFields: an object's fields in the selections, as many levels of fragments deep as are left
 abbrev pub collect_within : Setting → ℕ → List ℕ → List (Positioned Selection) → List (Positioned Field)
 collect_within setting zero object selections = []
 collect_within setting (suc left) object selections =
-    flat_map (λ selection. fields_of setting object (collect_within setting left object) (out-Selection selection.node)) selections
+    flat_map (λ selection. fields_of setting object (collect_within setting left object)
+    (out-Selection selection.node)) selections
 
 -- CollectFields: an object's fields in the selections
 abbrev pub collect : Setting → List ℕ → List (Positioned Selection) → List (Positioned Field)

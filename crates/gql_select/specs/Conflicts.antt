@@ -10,8 +10,10 @@ module _ {O F X : Type 0} (reading : Reading O F X) where
   abbrev pub Agree : ℕ → O → List X → List X → Type 0
   Agree zero o one other = Unit {0}
   Agree (suc n) o one other =
-      (f g : F) → Contains (reading.fields o one) f → Contains (reading.fields o other) g → reading.key f ≡ reading.key g
-      → (reading.alike f g ≡ true) × ((inner : O) → Contains (reading.objects o f) inner → Agree n inner (reading.set f) (reading.set g))
+      (f g : F) → Contains (reading.fields o one) f → Contains (reading.fields o other) g
+      → reading.key f ≡ reading.key g
+      → (reading.alike f g ≡ true) × ((inner : O) → Contains (reading.objects o f) inner
+      → Agree n inner (reading.set f) (reading.set g))
 
   -- of two occurrences of a key the second is merged into the first where they are alike
   abbrev pub both_alike : F → F → F
@@ -25,11 +27,13 @@ module _ {O F X : Type 0} (reading : Reading O F X) where
     -- the first occurrence of a key that isn't like the key's field
     abbrev pub first_differing : List ℕ × F → List F → List E
     first_differing m [] = []
-    first_differing m (f ∷ fs) = if bytes_eq (reading.key f) m.0 && not (reading.alike m.1 f) then told f ∷ [] else first_differing m fs
+    first_differing m (f ∷ fs) =
+        if bytes_eq (reading.key f) m.0 && not (reading.alike m.1 f) then told f ∷ [] else first_differing m fs
 
     -- what is told of each key of a set that has unlike occurrences, and of the sets beneath, on each object that is possible there
     abbrev pub conflicts : ℕ → O → List X → List E
     conflicts zero o set = []
     conflicts (suc n) o set =
-        flat_map (λ m. first_differing m (reading.fields o set) ++ flat_map (λ inner. conflicts n inner (reading.set m.1)) (reading.objects o m.1))
+        flat_map (λ m. first_differing m (reading.fields o set)
+        ++ flat_map (λ inner. conflicts n inner (reading.set m.1)) (reading.objects o m.1))
         (agreeing (reading.fields o set))

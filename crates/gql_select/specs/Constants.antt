@@ -24,7 +24,8 @@ default_of name definitions = default_in (find (λ definition. bytes_eq definiti
 
 -- what a variable stands for: the request's value, else its default, else null
 abbrev pub variable_value : List (List ℕ × Value) → List (Positioned VariableDefinition) → List ℕ → Value
-variable_value variables definitions name = unwrap_or (under name variables) (unwrap_or (default_of name definitions) value.Null)
+variable_value variables definitions name = unwrap_or (under name variables)
+    (unwrap_or (default_of name definitions) value.Null)
 
 -- a value of a document, with its variables replaced
 abbrev pub value_step : (List ℕ → Value) → DocValue-F Value → Value

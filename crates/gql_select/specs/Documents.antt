@@ -13,8 +13,10 @@ use Rattle.gql_select.specs.Reading.{Reading}
 -- a field with these selections for its own
 abbrev pub with_selections : Field → List (Positioned Selection) → Field
 with_selections field selections =
-    roll-Field
-    (record (out-Field field) { selection_set = record { pos = (out-Field field).selection_set.pos; node = roll-SelectionSet (record { items = selections }) } })
+    roll-Field (record (out-Field field) {
+      selection_set =
+          record { pos = (out-Field field).selection_set.pos; node = roll-SelectionSet (record { items = selections }) };
+    })
 
 -- the first of two occurrences, with the second's selections behind its own
 abbrev pub both : Positioned Field → Positioned Field → Positioned Field

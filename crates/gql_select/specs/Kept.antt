@@ -1,5 +1,6 @@
 -- What `@skip` and `@include` leave of a document (GraphQL, October 2021, sections 3.13.1, 3.13.2 and 6.3.2).
-use Rattle.std.specs.Prelude.{ℕ, Bool, true, false, not, ◌||◌, ◌==◌, List, [], ◌∷◌, Option, Some, None, option_map, unwrap_or, if◌then◌else◌, codes, filter, filter_map, map}
+use Rattle.std.specs.Prelude.{ℕ, Bool, true, false, not, ◌||◌, ◌==◌, List, [], ◌∷◌, Option, Some, None}
+use Rattle.std.specs.Prelude.{option_map, unwrap_or, if◌then◌else◌, codes, filter, filter_map, map}
 use Rattle.std.specs.List.{list_all}
 use Rattle.std.specs.Str.{bytes_eq}
 use Rattle.gql_base.specs.Kinds.{boolean_of}
@@ -14,7 +15,8 @@ use Rattle.gql_doc.specs.declared.document.Positioned.{Positioned}
 use Rattle.gql_doc.specs.declared.document.Selection.{Selection}
 use Rattle.gql_doc.specs.declared.document.Selection.TheVariants as selection
 use Rattle.gql_doc.specs.declared.document.Selection.TheOpen.{Selection-F, Field-F, InlineFragment-F, SelectionSet-F}
-use Rattle.gql_doc.specs.declared.document.Selection.TheFolds.{fold-Selection, fold-Field, fold-InlineFragment, fold-SelectionSet}
+use Rattle.gql_doc.specs.declared.document.Selection.TheFolds.{fold-Selection, fold-Field}
+use Rattle.gql_doc.specs.declared.document.Selection.TheFolds.{fold-InlineFragment, fold-SelectionSet}
 use Rattle.gql_doc.specs.declared.document.SelectionSet.{SelectionSet, roll-SelectionSet}
 use Rattle.gql_select.specs.Collected.{Setting}
 use Rattle.gql_select.specs.Constants.{given, resolved}
@@ -33,7 +35,8 @@ is_truth value = unwrap_or (boolean_of value) false
 
 -- what the `if` of a directive comes to, where there is one
 abbrev pub condition : (List ℕ → Value) → Directive → Option Bool
-condition known directive = option_map (λ written. is_truth (resolved known written)) (given (codes "if") directive.arguments)
+condition known directive = option_map (λ written. is_truth (resolved known written))
+    (given (codes "if") directive.arguments)
 
 -- whether a directive leaves its selection in the document: one without `if` does
 abbrev pub allows : (List ℕ → Value) → Directive → Bool
@@ -60,17 +63,20 @@ module _ (known : List ℕ → Value) where
 
   -- a fragment in place without them
   abbrev pub other_inline : InlineFragment → InlineFragment
-  other_inline fragment = roll-InlineFragment (record (out-InlineFragment fragment) { directives = others (out-InlineFragment fragment).directives })
+  other_inline fragment = roll-InlineFragment (record
+      (out-InlineFragment fragment) { directives = others (out-InlineFragment fragment).directives })
 
   -- a selection without the two directives, where it is kept; what stands beneath was looked at before
   abbrev pub selection_step : Selection-F (Option Selection) Field InlineFragment SelectionSet → Option Selection
   selection_step (Selection-F.Field field) =
-      kept_if (out-Field field.node).directives (selection.Field (record { pos = field.pos; node = other_field field.node }))
+      kept_if (out-Field field.node).directives (selection.Field
+      (record { pos = field.pos; node = other_field field.node }))
   selection_step (Selection-F.FragmentSpread spread) =
       kept_if spread.node.directives
       (selection.FragmentSpread (record { pos = spread.pos; node = record spread.node { directives = others spread.node.directives } }))
   selection_step (Selection-F.InlineFragment fragment) =
-      kept_if (out-InlineFragment fragment.node).directives (selection.InlineFragment (record { pos = fragment.pos; node = other_inline fragment.node }))
+      kept_if (out-InlineFragment fragment.node).directives
+      (selection.InlineFragment (record { pos = fragment.pos; node = other_inline fragment.node }))
 
   -- a field whose set was looked at
   abbrev pub field_step : Field-F (Option Selection) Field InlineFragment SelectionSet → Field
@@ -109,7 +115,8 @@ module _ (known : List ℕ → Value) where
 
   -- what is left of selections
   abbrev pub kept : List (Positioned Selection) → List (Positioned Selection)
-  kept selections = filter_map (λ selection. if_kept (record { pos = selection.pos; node = kept_selection selection.node })) selections
+  kept selections = filter_map (λ selection. if_kept
+      (record { pos = selection.pos; node = kept_selection selection.node })) selections
 
   -- a fragment of which the set is kept
   abbrev pub kept_fragment : Positioned FragmentDefinition → Positioned FragmentDefinition

@@ -1,4 +1,4 @@
--- How the selection sets of an object are read, over any kind of object, occurrence and selection
+-- How the selection sets of an object are read, over any kind of object type (O), of occurrence of a field (F) and of selection (X)
 -- (GraphQL, October 2021, sections 5.3.2 and 6.3.2).
 use Rattle.std.specs.Prelude.{◌≡◌, ℕ, Bool, true, List, [], ◌∷◌, ◌++◌, map}
 use Rattle.gql_base.specs.Pairs.{unite_all}
@@ -18,9 +18,11 @@ pub record Reading (O F X : Type 0) : Type 0 where
   -- the objects that are possible beneath an occurrence on an object
   pub objects : O → F → List O
 
--- a set is read as its parts are, and of united occurrences the first one counts
+-- A set is read as its parts are. Of united occurrences the first one counts, with the sets of both; uniting is associative. Being alike
+-- is asked of first occurrences, goes both ways and through a third, and alike occurrences have the same possible objects.
 pub record IsReading {O F X : Type 0} (reading : Reading O F X) : Type 0 where
-  pub fields_of_both : (o : O) (xs ys : List X) → reading.fields o (xs ++ ys) ≡ reading.fields o xs ++ reading.fields o ys
+  pub fields_of_both : (o : O) (xs ys : List X) → reading.fields o (xs ++ ys) ≡ reading.fields o xs
+      ++ reading.fields o ys
   pub set_of_both : (f g : F) → reading.set (reading.both f g) ≡ reading.set f ++ reading.set g
   pub both_of_both : (f g h : F) → reading.both (reading.both f g) h ≡ reading.both f (reading.both g h)
   pub objects_of_both : (o : O) (f g : F) → reading.objects o (reading.both f g) ≡ reading.objects o f

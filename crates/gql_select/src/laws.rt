@@ -1,6 +1,8 @@
 //! Laws on selections. Each is the contract of a function without parameters.
 
-ghost use Rattle.gql_select.specs.Laws.{ApartIsMerged, DocumentsAreRead, KeptAgrees, KeptApartIsMerged, MutationApartIsMerged, NoConflictAgrees, SameConstants};
+ghost use Rattle.gql_select.specs.Laws.{ApartIsMerged, DocumentsAreRead, KeptAgrees};
+ghost use Rattle.gql_select.specs.Laws.{KeptApartIsMerged, MutationApartIsMerged, NoConflictAgrees};
+ghost use Rattle.gql_select.specs.Laws.{SameConstants};
 
 /// A set without conflicts between the fields of one key agrees with itself (GraphQL, October 2021, section 5.3.2).
 pub fn no_conflict_agrees<O, F, X, E>()

@@ -1,5 +1,6 @@
 -- The lines of a block string, and its value (GraphQL, October 2021, section 2.9.4, BlockStringValue).
-use Rattle.std.specs.Prelude.{ℕ, List, [], ◌∷◌, ◌==◌, if◌then◌else◌, Bool, Option, Some, None, min, map, drop, reverse, fold, length, unwrap_or}
+use Rattle.std.specs.Prelude.{ℕ, List, [], ◌∷◌, ◌==◌, if◌then◌else◌, Bool, Option, Some, None, min, map, drop}
+use Rattle.std.specs.Prelude.{reverse, fold, length, unwrap_or}
 use Rattle.std.specs.List.{prefix_len, join_with_byte}
 use Rattle.gql_tokens.specs.Characters.{line_feed, carriage_return, is_blank}
 use Rattle.gql_tokens.specs.Place.{ends_line}

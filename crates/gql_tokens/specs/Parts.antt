@@ -1,5 +1,6 @@
 -- What the parts of the lexer answer, in the words of the definitions. No definition of tokens rests on this file.
-use Rattle.std.specs.Prelude.{◌≡◌, ℕ, ◌+◌, ◌<◌, ◌≤◌, Bool, true, false, ◌||◌, ◌⊎◌, List, [], ◌∷◌, ◌++◌, ◌==◌, nat_eq, Option, Some, None, MatchOption, length, take, drop, encode_utf8_all}
+use Rattle.std.specs.Prelude.{◌≡◌, ℕ, ◌+◌, ◌<◌, ◌≤◌, Bool, true, false, ◌||◌, ◌⊎◌, List, [], ◌∷◌, ◌++◌, ◌==◌}
+use Rattle.std.specs.Prelude.{nat_eq, Option, Some, None, MatchOption, length, take, drop, encode_utf8_all}
 use Rattle.std.specs.Char.{is_ascii_digit}
 use Rattle.std.specs.List.{AllByRecursion, starts_with, join_with_byte}
 use Rattle.gql_base.specs.declared.pos.Pos.{Pos}
@@ -44,7 +45,8 @@ NoString text = (value cs rest : List ℕ) → text ≡ cs ++ rest → IsString 
 
 -- a string of this length begins the text, and its value is this in UTF-8
 abbrev pub IsStringAt : List ℕ → List ℕ → ℕ → Type 0
-IsStringAt text bytes n = (n ≤ length text) × ((value : List ℕ) × IsString value (take n text) × (bytes ≡ encode_utf8_all value))
+IsStringAt text bytes n = (n ≤ length text) × ((value : List ℕ) × IsString value (take n text)
+    × (bytes ≡ encode_utf8_all value))
 
 -- The text behind the quotes that open a block string has no end of one.
 abbrev pub IsUnended : List ℕ → Type 0
@@ -65,7 +67,8 @@ IsPieceAt text founds.Nothing = begins is_source text ≡ false
 abbrev pub IsBodyAt : List ℕ → List ℕ → ℕ → Type 0
 IsBodyAt text raw n =
     (n ≤ length text)
-    × ((pieces : List Piece) × (take n text ≡ three_quotes ++ (written pieces ++ three_quotes)) × ArePieces pieces three_quotes
+    × ((pieces : List Piece) × (take n text ≡ three_quotes ++ (written pieces ++ three_quotes))
+    × ArePieces pieces three_quotes
     × (raw ≡ raw_of pieces))
 
 -- a block string of this length begins the text, and its value is this in UTF-8
@@ -108,6 +111,7 @@ pub record IsStep (place : Pos) (text : List ℕ) (token : Token) (n : ℕ) (beh
   pub within : n ≤ length text
   pub last : is_final token.lexeme ≡ true → Lexes place text (token ∷ [])
   pub some : is_final token.lexeme ≡ false → 0 < n
-  pub more : is_final token.lexeme ≡ false → (tokens : List Token) → Lexes behind (drop n text) tokens → Lexes place text (token ∷ tokens)
+  pub more : is_final token.lexeme ≡ false → (tokens : List Token) → Lexes behind (drop n text) tokens
+      → Lexes place text (token ∷ tokens)
   pub line : behind.line ≤ place.line + n
   pub column : behind.column ≤ place.column + n

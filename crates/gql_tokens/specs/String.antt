@@ -1,5 +1,6 @@
 -- Strings between single quotation marks (GraphQL, October 2021, section 2.9.4).
-use Rattle.std.specs.Prelude.{◌≡◌, ℕ, ◌+◌, ◌*◌, ◌<◌, Bool, true, not, ◌&&◌, ◌||◌, ◌⊎◌, List, [], ◌∷◌, ◌++◌, ◌==◌, if◌then◌else◌, Option, Some, None, fold}
+use Rattle.std.specs.Prelude.{◌≡◌, ℕ, ◌+◌, ◌*◌, ◌<◌, Bool, true, not, ◌&&◌, ◌||◌, ◌⊎◌, List, [], ◌∷◌, ◌++◌}
+use Rattle.std.specs.Prelude.{◌==◌, if◌then◌else◌, Option, Some, None, fold}
 use Rattle.std.specs.Char.{digit_value, IsScalar}
 use Rattle.std.specs.List.{AllByRecursion}
 use Rattle.gql_tokens.specs.Characters.{line_feed, carriage_return, tab, quote, backslash, is_line_end, is_source}

@@ -47,7 +47,8 @@ MayPrecede _ rest = Unit {0}
 -- the characters, which `rest` follows, are a token: no more of them spell one
 pub record IsToken (lexeme : Lexeme) (cs rest : List ℕ) : Type 0 where
   pub spelled : Spells lexeme cs
-  pub longest : (other : Lexeme) (c : ℕ) (more after : List ℕ) → rest ≡ c ∷ more ++ after → Spells other (cs ++ c ∷ more) → ⊥
+  pub longest : (other : Lexeme) (c : ℕ) (more after : List ℕ) → rest ≡ c ∷ more ++ after
+      → Spells other (cs ++ c ∷ more) → ⊥
   pub ends : MayPrecede lexeme rest
 
 -- the lexemes that end a list of tokens

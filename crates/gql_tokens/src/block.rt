@@ -1,4 +1,6 @@
-ghost use Rattle.std.specs.Prelude.{◌≡◌, ◌==◌, ◌+◌, ◌++◌, ◌∷◌, [], true, false, ◌<◌, ◌≤◌, ℕ, List, nat_eq, length, take, drop, IfOk, IfSome, IfNone, OnOk, MatchOption, map, unwrap_or, encode_utf8_all};
+ghost use Rattle.std.specs.Prelude.{◌≡◌, ◌==◌, ◌+◌, ◌++◌, ◌∷◌, [], true, false, ◌<◌, ◌≤◌, ℕ, List};
+ghost use Rattle.std.specs.Prelude.{nat_eq, length, take, drop, IfOk, IfSome, IfNone, OnOk};
+ghost use Rattle.std.specs.Prelude.{MatchOption, map, unwrap_or, encode_utf8_all};
 ghost use Rattle.std.specs.List.{starts_with, prefix_len};
 ghost use Rattle.gql_tokens.specs.Characters.{is_blank, is_source, begins};
 ghost use Rattle.gql_tokens.specs.Block.{three_quotes, escaped_quotes, raw_of};
@@ -48,7 +50,8 @@ struct Body {
 fn body_at(alloc: Global, text: &[char]) -> Made<Option<Body>>
     requires { starts_with nat_eq text.now three_quotes ≡ true }
     ensures { IfOk result
-        (λ found. MatchOption found (IsUnended (drop 3 text.now)) (λ body. IsBodyAt text.now body.raw.items body.length)) }
+        (λ found. MatchOption found (IsUnended (drop 3 text.now))
+        (λ body. IsBodyAt text.now body.raw.items body.length)) }
 {
     let mut raw = Vec::new(alloc);
     let mut at = 3;
@@ -78,7 +81,8 @@ fn body_at(alloc: Global, text: &[char]) -> Made<Option<Body>>
 pub fn block_at(alloc: Global, text: &[char]) -> Made<Option<Quoted>>
     requires { starts_with nat_eq text.now three_quotes ≡ true }
     ensures { IfOk result
-        (λ found. MatchOption found (IsUnended (drop 3 text.now)) (λ block. IsBlockAt text.now block.text block.length)) }
+        (λ found. MatchOption found (IsUnended (drop 3 text.now))
+        (λ block. IsBlockAt text.now block.text block.length)) }
 {
     match body_at(alloc, text)? {
         Some(body) => {

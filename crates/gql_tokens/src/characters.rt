@@ -1,7 +1,8 @@
 ghost use Rattle.std.specs.Prelude.{◌≡◌, IfOk, encode_utf8_all};
 ghost use Rattle.std.specs.Str.{chars};
 ghost use Rattle.gql_base.specs.Letters.{is_name_start, is_name_part};
-ghost use Rattle.gql_tokens.specs.Characters.{is_blank, is_line_end, is_source, is_comment_character, is_ignored};
+ghost use Rattle.gql_tokens.specs.Characters.{is_blank, is_line_end, is_source};
+ghost use Rattle.gql_tokens.specs.Characters.{is_comment_character, is_ignored};
 
 use gql_base::{Made, Text};
 use std::alloc::Global;

@@ -1,4 +1,5 @@
-ghost use Rattle.std.specs.Prelude.{◌≡◌, ◌==◌, ◌+◌, ◌<◌, ◌≤◌, ◌^◌, ◌∷◌, [], List, ℕ, drop, true, false, length, take, nat_eq, IfOk, OnOk, MatchOption};
+ghost use Rattle.std.specs.Prelude.{◌≡◌, ◌==◌, ◌+◌, ◌<◌, ◌≤◌, ◌^◌, ◌∷◌, [], List, ℕ, drop, true};
+ghost use Rattle.std.specs.Prelude.{false, length, take, nat_eq, IfOk, OnOk, MatchOption};
 ghost use Rattle.std.specs.List.{starts_with};
 ghost use Rattle.std.specs.Str.{chars};
 ghost use Rattle.std.specs.Char.{is_ascii_digit};
@@ -259,7 +260,8 @@ fn step_at(alloc: Global, place: Pos, text: &[char], blocks_end: &mut bool) -> M
     requires column { place.column + length text.now < 2 ^ 64 }
     requires known { blocks_end.old ≡ false → NoBlockEnds text.now }
     ensures stands { IfOk result (λ step. IsStep place text.now step.token step.length step.place) }
-    ensures known { IfOk result (λ step. blocks_end.new ≡ false → NoBlockEnds (drop step.length text.now)) }
+    ensures known { IfOk result
+        (λ step. blocks_end.new ≡ false → NoBlockEnds (drop step.length text.now)) }
 {
     let gap = gap_length(text);
     let pos = place_after(place, text, gap);
@@ -313,6 +315,7 @@ pub fn tokens_of(alloc: Global, text: &str) -> Made<Items<Token>>
 
 /// A text has one list of tokens.
 pub fn one_token_list()
-    ensures { (text : List ℕ) (tokens others : List OneToken) → Lexes text_start text tokens → Lexes text_start text others
+    ensures { (text : List ℕ) (tokens others : List OneToken) → Lexes text_start text tokens
+        → Lexes text_start text others
         → tokens ≡ others }
 {}

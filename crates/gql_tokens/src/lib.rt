@@ -15,6 +15,3 @@ mod token;
 
 pub use lexer::{one_token_list, tokens_of};
 pub use token::{Lexeme, Punctuator, Token};
-
-#[cfg(test)]
-mod tests;

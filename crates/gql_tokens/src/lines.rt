@@ -1,7 +1,9 @@
-ghost use Rattle.std.specs.Prelude.{◌≡◌, ◌==◌, ◌++◌, ◌∷◌, [], ◌<◌, ◌≤◌, false, ℕ, List, length, take, drop, IfOk, OnOk, map, encode_utf8_all, nat_lt};
+ghost use Rattle.std.specs.Prelude.{◌≡◌, ◌==◌, ◌++◌, ◌∷◌, [], ◌<◌, ◌≤◌, false, ℕ, List, length};
+ghost use Rattle.std.specs.Prelude.{take, drop, IfOk, OnOk, map, encode_utf8_all, nat_lt};
 ghost use Rattle.std.specs.List.{prefix_len};
 ghost use Rattle.gql_tokens.specs.Characters.{is_blank, is_line_character, begins};
-ghost use Rattle.gql_tokens.specs.Lines.{indent_of, lines_of, common_indent, without_common_indent, without_indent, block_value, least_with};
+ghost use Rattle.gql_tokens.specs.Lines.{indent_of, lines_of, common_indent, without_common_indent};
+ghost use Rattle.gql_tokens.specs.Lines.{without_indent, block_value, least_with};
 ghost use Rattle.gql_tokens.specs.Parts.{IsFirstLine, IsKept};
 
 use crate::characters::{is_blank, is_line_end, text_of};
@@ -114,7 +116,8 @@ impl Kept {
     fn push_others(&mut self, text: &[char]) -> Made<()>
         ensures { OnOk result ((lines : List (List ℕ))
             → IsKept self.old.text.items self.old.length lines
-            → IsKept self.new.text.items self.new.length (lines ++ without_common_indent (lines_of text.now))) }
+            → IsKept self.new.text.items self.new.length
+            (lines ++ without_common_indent (lines_of text.now))) }
     {
         let indent = common_indent(text).unwrap_or(0);
         let mut start = 0;
@@ -137,7 +140,8 @@ fn without_indent(line: &[char], indent: usize) -> &[char]
 
 /// The lines of a block string that are kept, without their indent.
 fn kept_lines(alloc: Global, raw: &[char]) -> Made<Kept>
-    ensures { IfOk result (λ kept. IsKept kept.text.items kept.length (without_indent (lines_of raw.now))) }
+    ensures { IfOk result
+        (λ kept. IsKept kept.text.items kept.length (without_indent (lines_of raw.now))) }
 {
     let mut kept = Kept {
         text: Vec::new(alloc),

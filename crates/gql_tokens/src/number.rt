@@ -1,8 +1,12 @@
-ghost use Rattle.std.specs.Prelude.{◌≡◌, ◌+◌, ◌*◌, ◌-◌, ◌^◌, ◌<◌, ◌≤◌, false, length, None, SomeIff, MatchOption, take, drop};
+ghost use Rattle.std.specs.Prelude.{◌≡◌, ◌+◌, ◌*◌, ◌-◌, ◌^◌, ◌<◌, ◌≤◌, false, length, None};
+ghost use Rattle.std.specs.Prelude.{SomeIff, MatchOption, take, drop};
 ghost use Rattle.std.specs.List.{prefix_len};
 ghost use Rattle.std.specs.Char.{is_ascii_digit};
 ghost use Rattle.gql_tokens.specs.Characters.{begins};
-ghost use Rattle.gql_tokens.specs.Number.{Optional, IsDigits, IsWhole, IsInteger, IsFraction, IsPower, IsExponent, IsFloatPart, IsSupported, natural_of, integer_of, begins_exponent, is_bad_after_number};
+ghost use Rattle.gql_tokens.specs.Number.{Optional, IsDigits, IsWhole, IsInteger, IsFraction};
+ghost use Rattle.gql_tokens.specs.Number.{IsPower, IsExponent, IsFloatPart, IsSupported};
+ghost use Rattle.gql_tokens.specs.Number.{natural_of, integer_of, begins_exponent};
+ghost use Rattle.gql_tokens.specs.Number.{is_bad_after_number};
 ghost use Rattle.gql_tokens.specs.Parts.{OnlyFront, IsNumeral, IsNumeralAt, is_bad_after_fraction};
 
 use crate::characters::is_name_start;

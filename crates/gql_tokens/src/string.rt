@@ -1,8 +1,10 @@
-ghost use Rattle.std.specs.Prelude.{◌≡◌, ◌==◌, ◌++◌, ◌∷◌, [], true, ◌<◌, ◌≤◌, ℕ, List, length, take, drop, IfOk, MatchOption, SomeIff, encode_utf8_all};
+ghost use Rattle.std.specs.Prelude.{◌≡◌, ◌==◌, ◌++◌, ◌∷◌, [], true, ◌<◌, ◌≤◌, ℕ, List, length};
+ghost use Rattle.std.specs.Prelude.{take, drop, IfOk, MatchOption, SomeIff, encode_utf8_all};
 ghost use Rattle.std.specs.Char.{digit_value, IsScalar};
 ghost use Rattle.std.specs.List.{AllByRecursion};
 ghost use Rattle.gql_tokens.specs.Characters.{quote, begins};
-ghost use Rattle.gql_tokens.specs.String.{is_plain, escaped, hexadecimal_of, WritesCharacter, WritesCharacters, IsString};
+ghost use Rattle.gql_tokens.specs.String.{is_plain, escaped, hexadecimal_of, WritesCharacter};
+ghost use Rattle.gql_tokens.specs.String.{WritesCharacters, IsString};
 ghost use Rattle.gql_tokens.specs.Parts.{NoString, IsStringAt};
 
 use crate::characters::{is_line_end, is_source};
@@ -92,7 +94,8 @@ pub struct Quoted {
 pub fn string_at(alloc: Global, text: &[char]) -> Made<Option<Quoted>>
     requires { begins (λ c. c == quote) text.now ≡ true }
     ensures { IfOk result
-        (λ found. MatchOption found (NoString text.now) (λ string. IsStringAt text.now string.text string.length)) }
+        (λ found. MatchOption found (NoString text.now)
+        (λ string. IsStringAt text.now string.text string.length)) }
 {
     let mut value = String::new(alloc);
     let mut at = 1;

@@ -2,7 +2,5 @@
 #![tactic(auto)]
 
 mod protocols;
-#[cfg(test)]
-mod tests;
 
 pub use protocols::{ALL_WEBSOCKET_PROTOCOLS, Protocols, UnsupportedProtocol};

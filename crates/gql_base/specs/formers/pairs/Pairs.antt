@@ -57,7 +57,8 @@ zip-map h [] vs = refl
 zip-map h (k ∷ ks) [] = refl
 zip-map h (k ∷ ks) (v ∷ vs) = ap (λ ps. (k, h v) ∷ ps) (zip-map h ks vs)
 
-zip-held : (X : Type 0) (ks : List (List ℕ)) (vs : List X) → length vs ≡ length ks → held (the_former this) X (zip ks vs) ≡ held (list this) X vs
+zip-held : (X : Type 0) (ks : List (List ℕ)) (vs : List X) → length vs ≡ length ks
+    → held (the_former this) X (zip ks vs) ≡ held (list this) X vs
 zip-held X [] [] e = refl
 zip-held X [] (v ∷ vs) e = absurd (omega arith)
 zip-held X (k ∷ ks) [] e = absurd (omega arith)
@@ -73,7 +74,8 @@ module _ (R S : RattleType) (h : R.Denot → S.Denot) where
       (λ X fields same. zip-held X fields.names fields.values.items same)
       R.Denot S.Denot h (contract.the_row R).coded (contract.the_row S).coded (invariant R.Denot) (invariant S.Denot) (λ fields. ℕ_set _ _)
       (λ fields. ℕ_set _ _) (λ fields same. length-map fields.values.items h ∙ same)
-      (λ fields same. sym (length-map fields.values.items h) ∙ same) (λ fields same. same) (over (inside.the_row R)) (over (inside.the_row S))
+      (λ fields same. sym (length-map fields.values.items h) ∙ same) (λ fields same. same)
+      (over (inside.the_row R)) (over (inside.the_row S))
       (struct_places (inside.the_type R) (inside.the_type S) (λ n. n, (vec.mapped h, tt)) _ (λ d. refl) refl
       ((refl, (λ n. refl, λ n. refl)), (laid _ _ _ (vec.the_places heap.the_row ghosts R S h alike), tt)))
 

@@ -1,0 +1,128 @@
+//! Each public call with ample memory, against texts and values from outside. What a test looks at is made by small functions
+//! beside it, since a test is proved too.
+use gql_base::{
+    Boxed, Copied, Items, Made, Name, NoMemory, Number, Pairs, Text, Value, Variables, json_of,
+};
+use std::alloc::{AllocError, Global};
+use std::test::Fail;
+
+/// Whether a copy of a value equals it, through the bounds alone.
+pub(crate) fn copies<T: Copied + PartialEq + Drop>(alloc: Global, value: &T) -> Made<bool> {
+    let copy = value.try_clone(alloc)?;
+    Ok(copy == *value)
+}
+
+/// The object a: 1, b: list of "x" and null.
+pub(crate) fn sample(alloc: Global) -> Made<Value> {
+    let mut list = Items::new(alloc);
+    list.push(Value::String(Text::new(alloc, "x")?))?;
+    list.push(Value::Null)?;
+    let mut members = Pairs::new(alloc);
+    members.add(Name::new(alloc, "a")?, Value::Number(Number::from_i64(1)))?;
+    members.add(Name::new(alloc, "b")?, Value::List(list))?;
+    Ok(Value::Object(members))
+}
+
+pub(crate) const SAMPLE: &str = "{\"a\":1,\"b\":[\"x\",null]}";
+
+#[test]
+fn texts(rt: HostRuntime) -> Result<(), Fail> {
+    let alloc = rt.alloc();
+    let text = Text::new(alloc, "né")?;
+    assert_eq!(rt; text.as_str(), "né");
+    assert_eq!(rt; text.len(), 3);
+    assert_eq!(rt; format!(in alloc; "<{text}>")?.as_str(), "<né>");
+    assert!(rt; copies(alloc, &text)?);
+    assert!(rt; text == Text::from_string(String::from_str(alloc, "né")?));
+    Ok(())
+}
+
+#[test]
+fn names(rt: HostRuntime) -> Result<(), Fail> {
+    let alloc = rt.alloc();
+    let name = Name::new(alloc, "hero")?;
+    assert_eq!(rt; name.as_str(), "hero");
+    assert_eq!(rt; format!(in alloc; "{name}!")?.as_str(), "hero!");
+    assert!(rt; copies(alloc, &name)?);
+    assert_eq!(rt; name.as_str(), "hero");
+    Ok(())
+}
+
+#[test]
+fn lists(rt: HostRuntime) -> Result<(), Fail> {
+    let alloc = rt.alloc();
+    let mut items = Items::new(alloc);
+    assert!(rt; items.is_empty());
+    items.push(5)?;
+    items.append(Items::from_slice(alloc, &[6, 7])?)?;
+    assert_eq!(rt; items.len(), 3);
+    items.set(1, 8);
+    assert_eq!(rt; items.as_slice(), [5, 8, 7].as_slice());
+    assert_eq!(rt; items.get(1).copied(), Some(8));
+    assert_eq!(rt; items.get(3).copied(), None);
+    assert_eq!(rt; items.pop(), Some(7));
+    assert!(rt; items == Items::from_vec(vec![in alloc; 5, 8]?));
+    assert!(rt; copies::<Items<i64>>(alloc, &items)?);
+    assert_eq!(rt; items.into_vec().as_slice(), [5, 8].as_slice());
+    Ok(())
+}
+
+#[test]
+fn boxes_and_options(rt: HostRuntime) -> Result<(), Fail> {
+    let alloc = rt.alloc();
+    let boxed = Boxed::new(alloc, 5u64)?;
+    assert_eq!(rt; *boxed.get(), 5);
+    assert!(rt; copies(alloc, &boxed)?);
+    assert_eq!(rt; boxed.into_inner(), 5);
+    assert!(rt; copies(alloc, &Some(true))?);
+    assert!(rt; copies::<Option<bool>>(alloc, &None)?);
+    assert_eq!(rt; NoMemory::from(AllocError), NoMemory { roots: 0 });
+    Ok(())
+}
+
+/// Sets the value under a name, and gives what stood there.
+fn inserted(alloc: Global, pairs: &mut Pairs<i64>, name: &str, value: i64) -> Made<Option<i64>> {
+    pairs.insert(Name::new(alloc, name)?, value)
+}
+
+#[test]
+fn pairs(rt: HostRuntime) -> Result<(), Fail> {
+    let alloc = rt.alloc();
+    let mut pairs = Pairs::new(alloc);
+    assert_eq!(rt; inserted(alloc, &mut pairs, "b", 1)?, None);
+    pairs.add(Name::new(alloc, "a")?, 2)?;
+    assert_eq!(rt; inserted(alloc, &mut pairs, "b", 3)?, Some(1));
+    assert_eq!(rt; pairs.len(), 2);
+    assert_eq!(rt; pairs.at(0).0, "b");
+    assert_eq!(rt; *pairs.at(0).1, 3);
+    assert_eq!(rt; pairs.get("a").copied(), Some(2));
+    assert_eq!(rt; pairs.get("c").copied(), None);
+    assert!(rt; copies::<Pairs<i64>>(alloc, &pairs)?);
+    Ok(())
+}
+
+/// The JSON text of the variables that a value gives.
+fn variables_of(alloc: Global, value: Value) -> Made<Text> {
+    let copy = Variables::from_value(alloc, value).try_clone(alloc)?;
+    let object = copy.into_value();
+    json_of(alloc, &object)
+}
+
+#[test]
+fn variables_as_objects(rt: HostRuntime) -> Result<(), Fail> {
+    assert_eq!(rt; variables_of(rt.alloc(), Value::Null)?.as_str(), "{}");
+    assert_eq!(rt;
+        variables_of(rt.alloc(), sample(rt.alloc())?)?.as_str(),
+        SAMPLE
+    );
+    Ok(())
+}
+
+#[test]
+fn variables_by_name(rt: HostRuntime) -> Result<(), Fail> {
+    let variables = Variables::from_value(rt.alloc(), sample(rt.alloc())?);
+    assert!(rt; !variables.is_empty());
+    assert!(rt; variables.get("a") == Some(&Value::Number(Number::from_i64(1))));
+    assert!(rt; variables.get("c").is_none());
+    Ok(())
+}

@@ -1,0 +1,7 @@
+//! Tests of `gql_engine`: the engine.
+#![tactic(auto)]
+
+#[cfg(test)]
+mod meeting;
+#[cfg(test)]
+mod tests;

@@ -1,0 +1,5 @@
+//! Tests of `gql_place`: places.
+#![tactic(auto)]
+
+#[cfg(test)]
+mod tests;

@@ -1,0 +1,9 @@
+//! Tests of `gql_request`: requests and responses.
+#![tactic(auto)]
+
+#[cfg(test)]
+mod request_tests;
+#[cfg(test)]
+mod response_tests;
+#[cfg(test)]
+mod tests;

@@ -1,0 +1,9 @@
+//! Tests of `gql_resolve`: resolver sets.
+#![tactic(auto)]
+
+#[cfg(test)]
+mod parts;
+#[cfg(test)]
+mod sample;
+#[cfg(test)]
+mod tests;

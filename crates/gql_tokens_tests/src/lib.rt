@@ -1,0 +1,5 @@
+//! Tests of `gql_tokens`: tokens.
+#![tactic(auto)]
+
+#[cfg(test)]
+mod tests;

@@ -1,0 +1,197 @@
+use gql_base::{Made, Number};
+use gql_tokens::{Lexeme, Punctuator, Token, tokens_of};
+use std::alloc::Global;
+
+/// A punctuator as it is written.
+fn mark(punctuator: Punctuator) -> &'static str {
+    match punctuator {
+        Punctuator::Bang => "!",
+        Punctuator::Dollar => "$",
+        Punctuator::Ampersand => "&",
+        Punctuator::OpenParen => "(",
+        Punctuator::CloseParen => ")",
+        Punctuator::Spread => "...",
+        Punctuator::Colon => ":",
+        Punctuator::Equals => "=",
+        Punctuator::At => "@",
+        Punctuator::OpenBracket => "[",
+        Punctuator::CloseBracket => "]",
+        Punctuator::OpenBrace => "{",
+        Punctuator::Pipe => "|",
+        Punctuator::CloseBrace => "}",
+    }
+}
+
+fn show_number(out: &mut String, number: &Number) -> Made<()> {
+    if let Some(value) = number.as_u64() {
+        write!(out, "{value}")?;
+    }
+    if let Some(value) = number.as_i64()
+        && value < 0
+    {
+        write!(out, "{value}")?;
+    }
+    Ok(())
+}
+
+/// A token as its place and what it says: strings between angle quotes, how the tokens end in capitals.
+fn show_token(out: &mut String, token: &Token) -> Made<()> {
+    let line = token.pos.line;
+    let column = token.pos.column;
+    write!(out, "{line}:{column} ")?;
+    match &token.lexeme {
+        Lexeme::Punctuator(punctuator) => out.push_str(mark(*punctuator)),
+        Lexeme::Name(name) => out.push_str(name.as_str()),
+        Lexeme::Number(number) => show_number(out, number),
+        Lexeme::String(text) => write!(out, "<{text}>"),
+        Lexeme::End => out.push_str("END"),
+        Lexeme::Unexpected => out.push_str("UNEXPECTED"),
+        Lexeme::Unsupported => out.push_str("UNSUPPORTED"),
+    }
+}
+
+/// The tokens of a text, each behind a blank but the first.
+fn shown(alloc: Global, text: &str) -> Made<String> {
+    let tokens = tokens_of(alloc, text)?;
+    let mut out = String::new(alloc);
+    for token in tokens.as_slice() {
+        if !out.is_empty() {
+            out.push(' ')?;
+        }
+        show_token(&mut out, token)?;
+    }
+    Ok(out)
+}
+
+/// Texts, each with its tokens.
+const TOKENS: [(&str, &str); 54] = [
+    ("", "1:1 END"),
+    (
+        "{ a(x: 18446744073709551616) }",
+        "1:1 { 1:3 a 1:4 ( 1:5 x 1:6 : 1:8 UNSUPPORTED",
+    ),
+    ("18446744073709551615", "1:1 18446744073709551615 1:21 END"),
+    ("-9223372036854775808", "1:1 -9223372036854775808 1:21 END"),
+    ("-9223372036854775809", "1:1 UNSUPPORTED"),
+    ("-0 0 7 -42", "1:1 0 1:4 0 1:6 7 1:8 -42 1:11 END"),
+    (
+        "{ a(x: 01) }",
+        "1:1 { 1:3 a 1:4 ( 1:5 x 1:6 : 1:8 UNEXPECTED",
+    ),
+    (
+        "{ a(x: -) }",
+        "1:1 { 1:3 a 1:4 ( 1:5 x 1:6 : 1:8 UNEXPECTED",
+    ),
+    (
+        "{ a(x: \"\\uD800\") }",
+        "1:1 { 1:3 a 1:4 ( 1:5 x 1:6 : 1:8 UNEXPECTED",
+    ),
+    ("1.5", "1:1 UNSUPPORTED"),
+    ("[1e3]", "1:1 [ 1:2 UNSUPPORTED"),
+    ("-1.5E-7", "1:1 UNSUPPORTED"),
+    ("1e+5", "1:1 UNSUPPORTED"),
+    ("1.", "1:1 UNEXPECTED"),
+    ("1.e3", "1:1 UNEXPECTED"),
+    ("1e", "1:1 UNEXPECTED"),
+    ("1a", "1:1 UNEXPECTED"),
+    ("1_", "1:1 UNEXPECTED"),
+    ("1.5.", "1:1 UNEXPECTED"),
+    ("1.5a", "1:1 UNEXPECTED"),
+    ("00", "1:1 UNEXPECTED"),
+    ("0x1", "1:1 UNEXPECTED"),
+    (".5", "1:1 UNEXPECTED"),
+    ("..", "1:1 UNEXPECTED"),
+    ("...", "1:1 ... 1:4 END"),
+    ("....", "1:1 ... 1:4 UNEXPECTED"),
+    (
+        "!$&()...:=@[]{|}",
+        "1:1 ! 1:2 $ 1:3 & 1:4 ( 1:5 ) 1:6 ... 1:9 : 1:10 = 1:11 @ 1:12 [ 1:13 ] 1:14 { 1:15 | 1:16 } 1:17 END",
+    ),
+    ("_a1 B2_ on", "1:1 _a1 1:5 B2_ 1:9 on 1:11 END"),
+    ("A!!", "1:1 A 1:2 ! 1:3 ! 1:4 END"),
+    ("a\r\nb\rc\nd", "1:1 a 2:1 b 3:1 c 4:1 d 4:2 END"),
+    ("\n\r\n\r\r", "5:1 END"),
+    ("\u{feff}a,\t,b", "1:2 a 1:6 b 1:7 END"),
+    ("\u{e9}", "1:1 UNEXPECTED"),
+    (
+        "\"\u{1f600}\u{e9}\" a",
+        "1:1 <\u{1f600}\u{e9}> 1:6 a 1:7 END",
+    ),
+    ("# a \u{e9}\nb", "2:1 b 2:2 END"),
+    ("a#b\r\nc", "1:1 a 2:1 c 2:2 END"),
+    ("#", "1:2 END"),
+    ("# a", "1:4 END"),
+    ("# \u{1}a", "1:3 UNEXPECTED"),
+    ("a \u{0}", "1:1 a 1:3 UNEXPECTED"),
+    ("\"\"", "1:1 <> 1:3 END"),
+    (
+        "\"\\\"\\\\\\/\\b\\f\\n\\r\\tz\"",
+        "1:1 <\"\\/\u{8}\u{c}\n\r\tz> 1:20 END",
+    ),
+    ("\"\\u00e9\\u0041\"", "1:1 <\u{e9}A> 1:15 END"),
+    ("\"\\u00E9\"a", "1:1 <\u{e9}> 1:9 a 1:10 END"),
+    ("\"\\u12\"", "1:1 UNEXPECTED"),
+    ("\"\\x\"", "1:1 UNEXPECTED"),
+    ("\"\\uDFFF\"", "1:1 UNEXPECTED"),
+    ("\"a", "1:1 UNEXPECTED"),
+    ("\"a\nb\"", "1:1 UNEXPECTED"),
+    ("\"a\"\"b\"", "1:1 <a> 1:4 <b> 1:7 END"),
+    ("\"\"\"a", "1:1 <> 1:3 UNEXPECTED"),
+    ("[\"\"\"a\"]", "1:1 [ 1:2 <> 1:4 <a> 1:7 ] 1:8 END"),
+    ("\"\"\"\"\"\"\"\"", "1:1 <> 1:7 <> 1:9 END"),
+    ("\"\"\"a\\\"\"\"b\"\"\"c", "1:1 <a\"\"\"b> 1:13 c 1:14 END"),
+];
+
+#[test]
+fn tokens_have_their_places(rt: HostRuntime) -> Result<(), std::test::Fail> {
+    for (text, tokens) in TOKENS.iter() {
+        let found = shown(rt.alloc(), *text)?;
+        assert_eq!(rt; found.as_str(), *tokens, "at {text}");
+    }
+    Ok(())
+}
+
+/// What stands between the quotes of block strings, each with its value. The first is the specification's own example
+/// (October 2021, section 2.9.4).
+const BLOCKS: [(&str, &str); 14] = [
+    (
+        "\n    Hello,\n      World!\n\n    Yours,\n      GraphQL.\n  ",
+        "Hello,\n  World!\n\nYours,\n  GraphQL.",
+    ),
+    (
+        "\nThis starts with and ends with an empty new line,\nwhich makes it easier to read.\n",
+        "This starts with and ends with an empty new line,\nwhich makes it easier to read.",
+    ),
+    (
+        "This does not start with or end with any empty lines,\nwhich makes it a little harder to read.",
+        "This does not start with or end with any empty lines,\nwhich makes it a little harder to read.",
+    ),
+    ("\n  a\n    b\n", "a\n  b"),
+    ("", ""),
+    (" \t\n  \n", ""),
+    ("    a\n      b", "    a\nb"),
+    ("  a  \n  b  ", "  a  \nb  "),
+    ("\n\n    a\n\n\n    b\n\n \n", "a\n\n\nb"),
+    ("a\r\n  b\r  c\n  d", "a\nb\nc\nd"),
+    ("\n\ta\n \tb", "a\n\tb"),
+    ("\n    a\n  \n    b", "a\n\nb"),
+    ("a\\nb", "a\\nb"),
+    ("\n  \\\"\"\"\n  ", "\"\"\""),
+];
+
+#[test]
+fn block_strings_have_their_values(rt: HostRuntime) -> Result<(), std::test::Fail> {
+    for (raw, value) in BLOCKS.iter() {
+        let text = format!(in rt.alloc(); "\"\"\"{raw}\"\"\"")?;
+        let tokens = tokens_of(rt.alloc(), text.as_str())?;
+        let Some(first) = tokens.get(0) else {
+            return Err("no token".into());
+        };
+        let mut found = String::new(rt.alloc());
+        show_token(&mut found, first)?;
+        let expected = format!(in rt.alloc(); "1:1 <{value}>")?;
+        assert_eq!(rt; found.as_str(), expected.as_str());
+        assert_eq!(rt; tokens.len(), 2);
+    }
+    Ok(())
+}

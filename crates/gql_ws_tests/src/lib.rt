@@ -1,0 +1,5 @@
+//! Tests of `gql_ws`: subprotocols.
+#![tactic(auto)]
+
+#[cfg(test)]
+mod tests;
