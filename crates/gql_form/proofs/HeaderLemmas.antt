@@ -1,10 +1,10 @@
 -- What the tests of names and values of headers decide.
-use Rattle.std.proofs.Common.{◌≡◌, ◌<◌, ◌≤◌, ℕ, Bool, true, false, List, length, Result, Ok, Err, refl, sym, ◌∙◌, arith}
-use Rattle.std.specs.Prelude.{◌↔◌, ◌&&◌, IsTrue, IsErrOf, nat_lt, nat_le}
+use Rattle.std.proofs.Common.{◌≡◌, ℕ, Bool, true, false, List, Result, Ok, Err, refl, arith}
+use Rattle.std.specs.Prelude.{◌↔◌, ◌&&◌, IsTrue, IsErrOf}
 use Rattle.std.specs.List.{list_all}
 use Rattle.std.proofs.lemmas.Bool.Decides.{nat_tests, Decides-by_and}
 use Rattle.http_header.specs.FieldName.{IsFieldName, is_field_name}
-use Rattle.http_header.specs.FieldValue.{FieldValue, IsFieldValue}
+use Rattle.http_header.specs.FieldValue.{IsFieldValue}
 use Rattle.http_header.specs.Token.{AllPass, is_token_byte, token_test, is_value_byte}
 use Rattle.http_header.proofs.TokenLemmas.{AllPass-from_test, IsFieldName-from_test}
 

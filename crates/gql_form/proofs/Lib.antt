@@ -1,3 +1,4 @@
+pub mod BenchFormLemmas
 pub mod HeaderLemmas
 pub mod PathLemmas
 pub mod ReadLemmas

@@ -1,5 +1,5 @@
 -- The parts of a text between its dots.
-use Rattle.std.proofs.Common.{◌≡◌, ◌≢◌, ℕ, suc, ◌<◌, List, [], ◌∷◌, ◌++◌, length, get_or, refl, sym, ap, ◌∙◌, arith, append_assoc, append-nil, ne_eqb}
+use Rattle.std.proofs.Common.{◌≡◌, ◌≢◌, ℕ, suc, ◌<◌, List, [], ◌∷◌, ◌++◌, length, get_or, sym, ap, ◌∙◌, arith, append_assoc, append-nil, ne_eqb}
 use Rattle.std.specs.List.{list_all}
 use Rattle.std.specs.Prelude.{true, ◌&&◌}
 use Rattle.gql_base.specs.Letters.{is_name}

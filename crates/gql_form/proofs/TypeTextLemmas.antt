@@ -1,5 +1,5 @@
 -- The function that lists the tokens of a type lists those of the text.
-use Rattle.std.proofs.Common.{◌≡◌, ◌≢◌, ℕ, Bool, true, false, List, [], ◌∷◌, ◌++◌, ◌⊎◌, inl, inr, Option, Some, None, Result, Ok, Err, refl, sym, ap, ◌∙◌, subst, arith, append_assoc, append-nil, take, drop, pred}
+use Rattle.std.proofs.Common.{◌≡◌, ℕ, Bool, true, false, List, [], ◌∷◌, ◌++◌, ◌⊎◌, inl, inr, Option, Some, None, Result, Ok, Err, refl, sym, ap, ◌∙◌, subst, arith, append_assoc, append-nil, take, drop, pred}
 use Rattle.std.specs.Prelude.{◌==◌, encode_utf8_all}
 use Rattle.std.specs.Result.{result_ok}
 use Rattle.std.specs.Str.{chars}
@@ -15,22 +15,21 @@ use Rattle.gql_tokens.specs.Characters.{begins, hash, is_source, is_ignored, is_
 use Rattle.gql_tokens.specs.Gap.{goes_on, IsGap}
 use Rattle.gql_tokens.specs.Place.{next_place, place_after, text_start}
 use Rattle.gql_tokens.specs.Lexer.{Lexes, Finishes, BeginsNoToken}
-use Rattle.gql_tokens.specs.Token.{Spells, IsToken, characters_of, is_final}
+use Rattle.gql_tokens.specs.Token.{IsToken, characters_of}
 use Rattle.gql_tokens.specs.declared.token.Lexeme.{Lexeme}
 use Rattle.gql_tokens.specs.declared.token.Lexeme.TheVariants as lexeme
 use Rattle.gql_tokens.specs.declared.token.Punctuator.{Punctuator}
 use Rattle.gql_tokens.specs.declared.token.Punctuator.TheVariants as sign
 use Rattle.gql_tokens.specs.declared.token.Token.{Token}
-use Rattle.gql_tokens.proofs.Lists.{Each, begins_so, begins_not, each_append}
+use Rattle.gql_tokens.proofs.Lists.{Each, each_append}
 use Rattle.gql_tokens.proofs.NameLaws.{name_begins, name_parts, is_named}
 use Rattle.gql_tokens.proofs.TokenLaws.{spelling_begins, class_of, begins_class}
 use Rattle.gql_tokens.proofs.TokenLaws.Class.{numeric, quoting}
 use Rattle.gql_tokens.proofs.StandsLaws.{stands_name, stands_punctuator}
 use Rattle.gql_doc.specs.declared.fault.ParseFault.{ParseFault}
-use Rattle.gql_doc.specs.Words.{Tokens, Word, Marked, tokens_of, One}
-use Rattle.gql_doc.specs.Grammar.{IsType, IsNullableType, IsTypeIn, IsNullableIn, IsTypeText, max_levels}
-use Rattle.gql_doc.specs.Reading.{parsed_by, type_text}
-use Rattle.gql_doc.specs.Spelled.{GivesType, SpellsType, IsTypeFault}
+use Rattle.gql_doc.specs.Words.{Word, tokens_of, One}
+use Rattle.gql_doc.specs.Grammar.{IsType, IsNullableType, IsTypeIn, IsNullableIn, max_levels}
+use Rattle.gql_doc.specs.Spelled.{GivesType, SpellsType}
 use Rattle.gql_doc.proofs.ParseLaws.{type_spelled, type_faulty}
 use Rattle.gql_form.specs.TypeText.{behind, token_at, name_token, tokens_from, in_comment, in_name, type_of_tokens, type_in}
 

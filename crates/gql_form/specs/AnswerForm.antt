@@ -1,5 +1,5 @@
 -- How a field is answered: when, with which errors and headers beside the answer, and by which one rule.
-use Rattle.std.specs.Prelude.{ℕ, List, [], ◌∷◌, codes, Result, Ok, Err}
+use Rattle.std.specs.Prelude.{ℕ, List, [], ◌∷◌, codes, Ok}
 use Rattle.serde_json.specs.Data.{Data}
 use Rattle.gql_base.specs.ReadJson.{Reading}
 use Rattle.gql_form.specs.declared.answer_form.AnswerForm.{AnswerForm}

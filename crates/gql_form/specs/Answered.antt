@@ -1,5 +1,5 @@
 -- What a bench answers: plain JSON, or one of the special objects, which count at the top, in `$list` and under `of`.
-use Rattle.std.specs.Prelude.{ℕ, Bool, false, ◌&&◌, ◌||◌, List, [], ◌∷◌, ◌++◌, length, codes, Result, Ok, Err, if◌then◌else◌}
+use Rattle.std.specs.Prelude.{ℕ, Bool, false, ◌&&◌, ◌||◌, List, [], ◌∷◌, ◌++◌, length, codes, Ok, Err, if◌then◌else◌}
 use Rattle.std.specs.Str.{bytes_eq}
 use Rattle.serde_json.specs.Data.{Data, null, boolean, number, string, array, object, Items, no_items, item, Members, no_members, member}
 use Rattle.gql_base.specs.ReadJson.{Reading, inside, read_in}
@@ -81,7 +81,7 @@ abbrev mutual
         value ← inside (Field of_word) (answered_of inner)
         Ok (answered.Typed ty value))
       else Err []
-  special_of (member name json (member other inner (member third more members))) = Err []
+  special_of (member name json (member other inner (member third more _))) = Err []
 
   pub parts_of : Data → Reading Answered
   parts_of null = Err []
@@ -91,7 +91,7 @@ abbrev mutual
   parts_of (array items) = do
     parts ← parts_behind [] items
     Ok (answered.List parts)
-  parts_of (object members) = Err []
+  parts_of (object _) = Err []
 
   -- behind the parts that were read before
   pub parts_behind : List Answered → Items → Reading (List Answered)

@@ -1,5 +1,5 @@
 -- How many polls are pending before an answer or an event.
-use Rattle.std.specs.Prelude.{ℕ, codes, Option, Some, None, Result, Ok, Err}
+use Rattle.std.specs.Prelude.{ℕ, codes, Option, Some, None, Ok}
 use Rattle.serde_json.specs.Data.{Data}
 use Rattle.gql_base.specs.ReadJson.{Reading}
 use Rattle.gql_form.specs.declared.delay.Delay.{Delay}

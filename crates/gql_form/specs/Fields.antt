@@ -1,5 +1,5 @@
 -- The fields of the types, with their arguments.
-use Rattle.std.specs.Prelude.{ℕ, List, [], ◌∷◌, codes, Result, Ok, Err}
+use Rattle.std.specs.Prelude.{ℕ, [], ◌∷◌, codes, Ok}
 use Rattle.serde_json.specs.Data.{Data}
 use Rattle.gql_base.specs.ReadJson.{Reading, read_in}
 use Rattle.gql_base.specs.declared.read_json.EnumForm.TheVariants.{Marked}

@@ -1,5 +1,5 @@
 -- A header that an answer sets or adds to: `["insert", name, value]` or `["append", name, value]`.
-use Rattle.std.specs.Prelude.{ℕ, List, [], codes, Result, Ok, Err, if◌then◌else◌}
+use Rattle.std.specs.Prelude.{ℕ, List, [], codes, Ok, Err, if◌then◌else◌}
 use Rattle.std.specs.List.{list_all}
 use Rattle.std.specs.Str.{bytes_eq}
 use Rattle.serde_json.specs.Data.{Data}

@@ -1,5 +1,5 @@
 -- The one rule by which a field is answered.
-use Rattle.std.specs.Prelude.{ℕ, List, [], ◌∷◌, codes, nat_lt, Result, Ok, Err, if◌then◌else◌}
+use Rattle.std.specs.Prelude.{ℕ, List, [], ◌∷◌, codes, nat_lt, Ok, Err, if◌then◌else◌}
 use Rattle.std.specs.Str.{bytes_eq}
 use Rattle.serde_json.specs.Data.{Data}
 use Rattle.gql_base.specs.ReadJson.{Reading}

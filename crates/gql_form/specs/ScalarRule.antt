@@ -1,9 +1,9 @@
 -- Which values a scalar of a bench takes.
-use Rattle.std.specs.Prelude.{ℕ, ℤ, List, [], ◌∷◌, codes, Option, Some, None, Result, Ok, Err, if◌then◌else◌}
+use Rattle.std.specs.Prelude.{ℕ, List, [], ◌∷◌, codes, Option, Some, None, Ok, Err, if◌then◌else◌}
 use Rattle.std.specs.Str.{bytes_eq}
 use Rattle.serde_json.specs.Data.{Data}
 use Rattle.serde_json.specs.Find.{as_str}
-use Rattle.gql_base.specs.ReadJson.{Reading, inside}
+use Rattle.gql_base.specs.ReadJson.{Reading}
 use Rattle.gql_schema.specs.declared.scalar_rule.ScalarRule.{ScalarRule}
 use Rattle.gql_schema.specs.declared.scalar_rule.ScalarRule.TheVariants as rule
 use Rattle.gql_form.specs.declared.scalar_rule.Between.{Between}

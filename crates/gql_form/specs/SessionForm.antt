@@ -1,5 +1,5 @@
 -- A WebSocket session with the script of what its client sends.
-use Rattle.std.specs.Prelude.{ℕ, List, [], ◌∷◌, codes, Option, Result, Ok, Err}
+use Rattle.std.specs.Prelude.{[], ◌∷◌, codes, Ok}
 use Rattle.serde_json.specs.Data.{Data}
 use Rattle.gql_base.specs.ReadJson.{Reading}
 use Rattle.gql_ws.specs.Protocols.{protocol_named}

@@ -1,5 +1,5 @@
 -- What a bench has for every command: its schema, and what runs over it start with.
-use Rattle.std.specs.Prelude.{ℕ, Bool, [], codes, Option, Some, None, Result, Ok, Err, if◌then◌else◌}
+use Rattle.std.specs.Prelude.{ℕ, [], codes, Option, Some, None, Ok, Err, if◌then◌else◌}
 use Rattle.std.specs.Option.{unwrap_or}
 use Rattle.std.specs.Str.{bytes_eq}
 use Rattle.serde_json.specs.Data.{Data}

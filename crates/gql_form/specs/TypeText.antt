@@ -1,6 +1,6 @@
 -- The type that a text spells (GraphQL, October 2021, section 2.11), as a function of the text: the tokens that may stand in
 -- a type, and what they are read as.
-use Rattle.std.specs.Prelude.{ℕ, ◌==◌, List, [], ◌∷◌, ◌++◌, Option, Some, None, Result, Ok, Err, if◌then◌else◌, option_map, encode_utf8_all}
+use Rattle.std.specs.Prelude.{ℕ, ◌==◌, List, [], ◌∷◌, ◌++◌, Option, Some, None, if◌then◌else◌, option_map, encode_utf8_all}
 use Rattle.std.specs.Result.{result_ok}
 use Rattle.std.specs.Str.{chars}
 use Rattle.serde_json.specs.Data.{Data}

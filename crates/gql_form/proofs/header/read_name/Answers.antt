@@ -1,6 +1,5 @@
-use Rattle.std.proofs.Common.{◌≡◌, true, false, sym, ap, subst, ◌∙◌, Ok, Err}
-use Rattle.std.specs.Prelude.{◌↔◌, IsErrOf}
-use Rattle.http_header.specs.FieldName.{IsFieldName, is_field_name}
+use Rattle.std.proofs.Common.{◌≡◌, true, false, sym, ap, ◌∙◌, Ok, Err}
+use Rattle.http_header.specs.FieldName.{is_field_name}
 use Rattle.http_header.specs.Token.{lowercase}
 use Rattle.gql_form.proofs.HeaderLemmas.{name_passes, name_fails}
 use Rattle.gql_form.proofs.header.read_name.Goals as goal
