@@ -73,14 +73,14 @@ answer_constant answer = if is_nothing answer.added && is_nothing answer.headers
 abbrev pub field_with : List ℕ → ℕ → List ℕ → Value → Option FirstField
 field_with name delay type_name constant =
     if takes_constant type_name constant then Some (record { name = name; type_name = type_name; constant = constant; delay = delay })
-        else None
+    else None
 
 -- a field without arguments, of one of these types, that answers a constant which the type takes
 abbrev pub first_field : List ℕ → FieldForm → Option FirstField
 first_field name form =
     if is_nothing form.args then option_and_then
-        (λ type_name. option_and_then (field_with name form.answer.delay.polls type_name) (answer_constant form.answer))
-        (bare_name_here (out-TypeRef form.ty)) else None
+    (λ type_name. option_and_then (field_with name form.answer.delay.polls type_name) (answer_constant form.answer))
+    (bare_name_here (out-TypeRef form.ty)) else None
 
 -- these fields, behind those that were found before
 abbrev pub first_fields : List FirstField → List (List ℕ × FieldForm) → Option (List FirstField)
@@ -131,7 +131,7 @@ is_bare_setup setup =
 abbrev pub query_of : Request → Option (List ℕ)
 query_of request =
     if is_none request.operation_name && (is_nothing request.variables && is_nothing request.extensions) then Some request.query
-        else None
+    else None
 
 abbrev pub query_alone : WorkForm → Option (List ℕ)
 query_alone (work.One request) = query_of request
@@ -144,7 +144,7 @@ first_with form query fields = record { root = form.setup.schema.query; fields =
 abbrev pub first_in : BenchForm → Option FirstBench
 first_in form =
     if is_bare_setup form.setup then option_and_then
-        (λ query. option_map (first_with form query) (root_fields form.setup.schema)) (query_alone form.work) else None
+    (λ query. option_map (first_with form query) (root_fields form.setup.schema)) (query_alone form.work) else None
 
 -- the fields' constants under the fields' names
 abbrev pub constants : List FirstField → List (List ℕ × Value)

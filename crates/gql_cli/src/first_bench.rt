@@ -100,9 +100,7 @@ fn is_unlogged(hooks: HooksForm) -> bool
 fn is_bare_schema(schema: &SchemaForm) -> bool
     ensures { result ≡ is_bare_schema schema.now }
 {
-    schema.mutation.is_none()
-        && schema.subscription.is_none()
-        && are_bare_settings(schema.settings)
+    schema.mutation.is_none() && schema.subscription.is_none() && are_bare_settings(schema.settings)
 }
 
 fn are_bare_settings(settings: Settings) -> bool
@@ -170,11 +168,7 @@ fn root_fields(alloc: Global, schema: &SchemaForm) -> Made<Option<Items<FirstFie
 fn only_type(types: &Items<TypeForm>) -> Option<&TypeForm>
     ensures { option_copied result ≡ the_only types.now }
 {
-    if types.len() == 1 {
-        types.get(0)
-    } else {
-        None
-    }
+    if types.len() == 1 { types.get(0) } else { None }
 }
 
 fn object_form(ty: &TypeForm) -> Option<&ObjectForm>
@@ -192,17 +186,10 @@ fn object_form(ty: &TypeForm) -> Option<&ObjectForm>
 }
 
 /// The fields of an object of this name, without interfaces and key.
-fn object_fields(
-    alloc: Global,
-    root: &str,
-    object: &ObjectForm,
-) -> Made<Option<Items<FirstField>>>
+fn object_fields(alloc: Global, root: &str, object: &ObjectForm) -> Made<Option<Items<FirstField>>>
     ensures { IfOk result (λ found. found ≡ object_fields root.now object.now) }
 {
-    if object.name.as_str() == root
-        && is_nothing(&object.interfaces)
-        && object.key.is_none()
-    {
+    if object.name.as_str() == root && is_nothing(&object.interfaces) && object.key.is_none() {
         first_fields(alloc, &object.fields)
     } else {
         Ok(None)

@@ -1,6 +1,6 @@
 //! The first bad place of each part of the format.
-use gql_form::{Command, form_of};
 use gql_base::Text;
+use gql_form::{Command, form_of};
 use std::alloc::Global;
 use std::test::Fail;
 

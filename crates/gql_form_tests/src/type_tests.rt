@@ -1,6 +1,6 @@
 //! The first bad place within a type, a field or an answer.
-use gql_form::{Command, form_of};
 use gql_base::Text;
+use gql_form::{Command, form_of};
 use std::alloc::Global;
 use std::test::Fail;
 
