@@ -5,7 +5,7 @@ use Rattle.gql_base.specs.Separated.{separated}
 use Rattle.gql_base.specs.declared.value.Value.{Value}
 use Rattle.gql_base.specs.declared.value.Value.TheVariants as value
 use Rattle.gql_base.proofs.JsonLemmas.{json-object}
-use Rattle.gql_engine.specs.declared.place.Place.{Place}
+use Rattle.gql_place.specs.declared.place.Place.{Place}
 use Rattle.gql_cli.specs.Answer.{shown, response_line}
 use Rattle.gql_cli.specs.Shown.{shown_value}
 

@@ -25,13 +25,13 @@ use Rattle.gql_engine.specs.Apart.{Asked, asked, asked_of, asked_in, subject_in}
 use Rattle.gql_engine.specs.Pace.{EachPaced, pending_then_ready, told_of}
 use Rattle.gql_engine.specs.Progress.{story_of}
 use Rattle.gql_engine.specs.Path.{key_text}
-use Rattle.gql_engine.specs.Record.{Mark, untold, ready, Story, Made, Stage, Ran, NamesTask, Turned, fresh, untold_marks, beneath_of, after_ready, after_mark, after_entry, made_at, waiting}
+use Rattle.gql_engine.specs.Record.{Choice, Mark, untold, ready, Story, Made, Stage, Ran, NamesTask, Turned, fresh, untold_marks, beneath_of, after_ready, after_mark, after_entry, made_at, waiting}
 use Rattle.gql_engine.specs.declared.scene.Scene.{Scene}
 use Rattle.gql_engine.proofs.RunLemmas.{tasks_stay}
 use Rattle.gql_engine.proofs.TurnLemmas.{staged}
 use Rattle.gql_cli.specs.BenchAnswers.{bench_object}
 use Rattle.gql_cli.specs.BenchRecord.{BenchTask, IsRecord, AreAsked, HasTold, story, tasks_from, first_task, task_with, bench_task}
-use Rattle.gql_cli.specs.ListTurns.{list_choice, list_after}
+use Rattle.gql_cli.specs.ListTurns.{list_turns}
 use Rattle.gql_doc.specs.Depth.{selections_of}
 use Rattle.gql_cli.specs.Query.{HasOnlyName, IsBare, IsBareQuery}
 use Rattle.gql_cli.specs.Table.{rule_delay, table_delay}
@@ -67,7 +67,7 @@ paced-mapped {Task} {Other} f delay pace same tasks told each =
     at k u (Some t) stands is = let e : f t ≡ u = cc in each.paced k t stands ∙ ap pending_then_ready (sym (same t) ∙ ap pace e)
 
 -- a turned record of tasks is one of what stands for them
-module _ {Task Other State : Type 0} (choice : State → ℕ → ℕ) (after : State → ℕ → State) (one : Story Task) (other : Story Other) (f : Task → Other)
+module _ {Task Other State : Type 0} (choice : Choice State) (one : Story Task) (other : Story Other) (f : Task → Other)
     (resolvers : (task : Task) → other.resolver (f task) ≡ one.resolver task) (paths : (task : Task) → other.path (f task) ≡ one.path task)
     (beneath : (task : Task) → other.beneath (f task) ≡ map f (one.beneath task)) where
   below-mapped : (o : Option Task) → beneath_of other (option_map f o) ≡ map f (beneath_of one o)
@@ -86,14 +86,14 @@ module _ {Task Other State : Type 0} (choice : State → ℕ → ℕ) (after : S
       ∙ (λ i. made_with (sym (map-append f made.tasks more) i) (slice_set made.marks k ready ++ sym (untold-mapped f more) i))
   mark-mapped made k false = refl
 
-  turned-mapped : (state : State) (made : Made Task) (told : List RecordEntry) → Turned choice after one state made told
-      → Turned choice after other state (mapped f made) told
+  turned-mapped : (state : State) (made : Made Task) (told : List RecordEntry) → Turned choice one state made told
+      → Turned choice other state (mapped f made) told
   turned-mapped state made [] turned = tt
   turned-mapped state made (e ∷ told) turned = (
     turned.0,
     subst (λ o. NamesTask other o e) (sym (slice_get-map f made.tasks e.task)) (names-mapped (slice_get made.tasks e.task) e turned.1),
-    subst (λ m. Turned choice after other (after state (length (waiting made))) m told) (sym (mark-mapped made e.task e.ready))
-        (turned-mapped (after state (length (waiting made))) (after_entry one made e) told turned.2),
+    subst (λ m. Turned choice other (choice.after state (length (waiting made))) m told) (sym (mark-mapped made e.task e.ready))
+        (turned-mapped (choice.after state (length (waiting made))) (after_entry one made e) told turned.2),
   )
 
   made-mapped : (made : Made Task) (told : List RecordEntry) → made_at other (mapped f made) told ≡ mapped f (made_at one made told)
@@ -141,7 +141,7 @@ module _ (bench : Bench) (scene : Scene ℤ) (is : bench_object bench ≡ Some s
   pub told-record : (operation : OperationDefinition) → scene.env.now.operation.node ≡ operation → (names : List (List ℕ)) → IsBareQuery operation names
       → (tasks : List BenchTask) → AreAsked (bench_task bench) names tasks
       → (answers : Asked ℤ → Answer ℤ) (delay : ℕ → ℕ) (told : Option (List RecordEntry)) (starts : Option (List ℕ)) (turns : Option (List ℕ × ℕ)) (new : Stage (Asked ℤ) (List ℕ × ℕ))
-      → (ran : Ran list_choice list_after (story_of subject_in answers) (staged (fresh (asked_in scene)) told starts turns) new)
+      → (ran : Ran list_turns (story_of subject_in answers) (staged (fresh (asked_in scene)) told starts turns) new)
       → waiting new.made ≡ [] → EachPaced (λ task. delay task.asks.call.resolver) new.made.tasks ran.entries
       → told ≡ Some [] → turns ≡ Some (bench.turns, 0) → ((resolver : ℕ) → delay resolver ≡ table_delay bench.rules resolver)
       → HasTold new.told bench.turns tasks
@@ -153,11 +153,11 @@ module _ (bench : Bench) (scene : Scene ℤ) (is : bench_object bench ≡ Some s
       let are : map f (asked_in scene) ≡ tasks = tasks-are (selections_of scene.env.now.operation.node.selection_set) names tasks fields asked_tasks in
       let stays : new.made.tasks ≡ asked_in scene = ap (λ m. m.tasks) ran.made_is ∙ tasks_stay ℤ (Asked ℤ) ℕ engine (λ t. refl) (fresh (asked_in scene)) ran.entries in
       let recorded : IsRecord bench.turns (map f (asked_in scene)) ran.entries = record {
-        turned = subst (λ m. Turned list_choice list_after story (bench.turns, 0) m ran.entries) (fresh-mapped f (asked_in scene))
-            (turned-mapped list_choice list_after engine story f (λ t. refl) (λ t. refl) (λ t. refl) (bench.turns, 0) (fresh (asked_in scene)) ran.entries
+        turned = subst (λ m. Turned list_turns story (bench.turns, 0) m ran.entries) (fresh-mapped f (asked_in scene))
+            (turned-mapped list_turns engine story f (λ t. refl) (λ t. refl) (λ t. refl) (bench.turns, 0) (fresh (asked_in scene)) ran.entries
             (ran.turned (bench.turns, 0) turns_is));
         whole = ap waiting (ap (λ m. made_at story m ran.entries) (sym (fresh-mapped f (asked_in scene)))
-            ∙ made-mapped list_choice list_after engine story f (λ t. refl) (λ t. refl) (λ t. refl) (fresh (asked_in scene)) ran.entries)
+            ∙ made-mapped list_turns engine story f (λ t. refl) (λ t. refl) (λ t. refl) (fresh (asked_in scene)) ran.entries)
             ∙ ap waiting (sym ran.made_is) ∙ whole;
         paced = paced-mapped f (λ task. delay task.asks.call.resolver) (λ task. task.delay) (λ task. sym (delays task.asks.call.resolver)) (asked_in scene) ran.entries
             (subst (λ ts. EachPaced (λ (task : Asked ℤ). delay task.asks.call.resolver) ts ran.entries) stays paced);
@@ -205,7 +205,7 @@ first-task first bench made name =
     ∙ numbered-tasks name bench.rules [] 0 first.fields made.tabled.ruled refl
 
 -- a turned record in which the entries of each task are known is the only one
-module _ {Task State : Type 0} (choice : State → ℕ → ℕ) (after : State → ℕ → State) (one : Story Task) (none : (task : Task) → one.beneath task ≡ []) where
+module _ {Task State : Type 0} (choice : Choice State) (one : Story Task) (none : (task : Task) → one.beneath task ≡ []) where
   stands-there : (tasks : List Task) (k : ℕ) (e : RecordEntry) (o : Option Task) → slice_get tasks k ≡ o → NamesTask one o e
       → (task : Task) × (slice_get tasks k ≡ Some task)
   stands-there tasks k e None is names = absurd names
@@ -238,12 +238,12 @@ module _ {Task State : Type 0} (choice : State → ℕ → ℕ) (after : State �
 
   -- an entry after none waits
   never-more : (state : State) (made : Made Task) (e : RecordEntry) → waiting made ≡ []
-      → slice_get (waiting made) (choice state (length (waiting made))) ≡ Some e.task → ⊥
+      → slice_get (waiting made) (choice.place state (length (waiting made))) ≡ Some e.task → ⊥
   never-more state made e none taken =
-      let nothing : slice_get [] (choice state (length (waiting made))) ≡ Some e.task = ap (λ ws. slice_get ws (choice state (length (waiting made)))) (sym none) ∙ taken in
+      let nothing : slice_get [] (choice.place state (length (waiting made))) ≡ Some e.task = ap (λ ws. slice_get ws (choice.place state (length (waiting made)))) (sym none) ∙ taken in
       cc
 
-  same-record : (state : State) (made : Made Task) (told other : List RecordEntry) → Turned choice after one state made told → Turned choice after one state made other
+  same-record : (state : State) (made : Made Task) (told other : List RecordEntry) → Turned choice one state made told → Turned choice one state made other
       → waiting (made_at one made told) ≡ [] → waiting (made_at one made other) ≡ [] → AreAlike made.tasks told other → told ≡ other
   same-record state made [] [] t u w v alike = refl
   same-record state made [] (g ∷ other) t u w v alike = absurd (never-more state made g w u.0)
@@ -251,12 +251,12 @@ module _ {Task State : Type 0} (choice : State → ℕ → ℕ) (after : State �
   same-record state made (e ∷ told) (g ∷ other) t u w v alike =
       let task : e.task ≡ g.task = let both = sym t.0 ∙ u.0 in cc in
       let same = first-same made e g told other task t.1 u.1 alike in
-      let next = after state (length (waiting made)) in
-      λ i. same i ∷ same-record next (after_entry one made e) told other t.2 (subst (λ h. Turned choice after one next (after_entry one made h) other) (sym same) u.2)
+      let next = choice.after state (length (waiting made)) in
+      λ i. same i ∷ same-record next (after_entry one made e) told other t.2 (subst (λ h. Turned choice one next (after_entry one made h) other) (sym same) u.2)
       w (subst (λ h. waiting (made_at one (after_entry one made h) other) ≡ []) (sym same) v) (rest-alike made e g told other same alike) i
 
 -- a bench's query has one record
 pub one-record : (turns : List ℕ) (tasks : List BenchTask) (told other : List RecordEntry) → IsRecord turns tasks told → IsRecord turns tasks other → told ≡ other
 one-record turns tasks told other first second =
-    same-record list_choice list_after story (λ task. refl) (turns, 0) (fresh tasks) told other first.turned second.turned first.whole second.whole
+    same-record list_turns story (λ task. refl) (turns, 0) (fresh tasks) told other first.turned second.turned first.whole second.whole
     (λ k task is. first.paced.paced k task is ∙ sym (second.paced.paced k task is))

@@ -8,11 +8,9 @@ use Rattle.gql_base.specs.declared.type_ref.TypeRef.{the_lemmas as type_lemmas}
 use Rattle.gql_base.specs.declared.type_ref.TypeRef.TheVariants.{Named}
 use Rattle.gql_resolve.specs.declared.field_value.FieldValue.{the_lemmas as given_lemmas}
 use Rattle.gql_resolve.specs.declared.field_value.FieldValue.TheVariants as given
-use Rattle.gql_engine.specs.Apart.{fill}
 use Rattle.gql_engine.specs.Completion.{completed, leaf_at, takes, fault, no_scalar}
-use Rattle.gql_engine.specs.declared.place.Tree.{Tree, the_lemmas as tree_lemmas, out-Tree}
-use Rattle.gql_engine.specs.declared.place.Tree.TheVariants as tree
-use Rattle.gql_engine.specs.declared.shape.Shape.TheVariants as shape
+use Rattle.gql_place.specs.declared.place.Tree.{Tree, the_lemmas as tree_lemmas, out-Tree}
+use Rattle.gql_place.specs.declared.place.Tree.TheVariants as tree
 use Rattle.gql_cli.specs.FirstBench.{Takes, is_first_type}
 use Rattle.gql_cli.specs.Shown.{value_here}
 
@@ -31,13 +29,13 @@ null-is v same = sym (roll-out-Value v) ∙ ap roll-Value same ∙ search (rules
 pub scalar-is : (name : List ℕ) (v : Value) → completed {V = ℤ} (Named name) (Some (given.Value v)) ≡ leaf_at name (Some v)
 scalar-is name v = search (rules, type_lemmas, given_lemmas)
 
-by-null : (name : List ℕ) (v : Value) → is_null v ≡ true → v ≡ value.Null → value_of (fill (leaf_at name (Some v))) ≡ v
+by-null : (name : List ℕ) (v : Value) → is_null v ≡ true → v ≡ value.Null → value_of (leaf_at name (Some v)) ≡ v
 by-null name v null same =
-    ap (λ b. value_of (fill (cond b shape.Absent (cond (takes name v) (shape.Leaf v) (fault (no_scalar name)))))) null ∙ absent-shows ∙ sym same
+    ap (λ b. value_of (cond b tree.Absent (cond (takes name v) (tree.Leaf v) (fault (no_scalar name))))) null ∙ absent-shows ∙ sym same
 
-by-leaf : (name : List ℕ) (v : Value) → is_null v ≡ false → takes name v ≡ true → value_of (fill (leaf_at name (Some v))) ≡ v
+by-leaf : (name : List ℕ) (v : Value) → is_null v ≡ false → takes name v ≡ true → value_of (leaf_at name (Some v)) ≡ v
 by-leaf name v some taken =
-    (λ i. value_of (fill (cond (some i) shape.Absent (cond (taken i) (shape.Leaf v) (fault (no_scalar name)))))) ∙ leaf-shows v
+    (λ i. value_of (cond (some i) tree.Absent (cond (taken i) (tree.Leaf v) (fault (no_scalar name))))) ∙ leaf-shows v
 
 null-opened : (o : Value-F Value) → null_here o ≡ true → o ≡ Value-F.Null
 null-opened Value-F.Null null = refl
@@ -50,7 +48,7 @@ null-opened (Value-F.Object ms) null = cc
 
 -- a value that is null, or that the scalar takes
 either-shows : (name : List ℕ) (v : Value) (null taken : Bool) → is_null v ≡ null → takes name v ≡ taken → (null || taken) ≡ true
-    → value_of (fill (leaf_at name (Some v))) ≡ v
+    → value_of (leaf_at name (Some v)) ≡ v
 either-shows name v true taken is takes either = by-null name v is (null-is v (null-opened (out-Value v) is))
 either-shows name v false true is takes either = by-leaf name v is takes
 either-shows name v false false is takes either = cc
@@ -60,7 +58,7 @@ second-true true b both = both
 second-true false b both = cc
 
 -- a constant that its type takes is shown
-pub constant-shows : (name : List ℕ) (v : Value) → Takes name v → value_of (fill (completed {V = ℤ} (Named name) (Some (given.Value v)))) ≡ v
+pub constant-shows : (name : List ℕ) (v : Value) → Takes name v → value_of (completed {V = ℤ} (Named name) (Some (given.Value v))) ≡ v
 constant-shows name v taken =
-    ap (λ s. value_of (fill s)) (scalar-is name v)
+    ap value_of (scalar-is name v)
     ∙ either-shows name v (is_null v) (takes name v) refl refl (second-true (is_first_type name) (is_null v || takes name v) taken)

@@ -8,14 +8,15 @@ use Rattle.gql_doc.specs.declared.document.Field.{Field, out-Field}
 use Rattle.gql_doc.specs.declared.document.Positioned.{Positioned}
 use Rattle.gql_doc.specs.declared.document.Selection.{Selection, out-Selection}
 use Rattle.gql_doc.specs.declared.document.OperationDefinition.{OperationDefinition}
+use Rattle.gql_place.specs.Join.{join}
 use Rattle.gql_resolve.specs.Call.{Call}
 use Rattle.gql_resolve.specs.declared.answer.Answer.{Answer}
 use Rattle.gql_schema.specs.Object.{fields_of}
 use Rattle.gql_schema.specs.declared.field.Field.{Field as SchemaField}
-use Rattle.gql_engine.specs.Apart.{asked_of, asked_at, asked, field_here, name_of, fill, place_of, placed, join, respond}
-use Rattle.gql_engine.specs.Completion.{shape_of}
+use Rattle.gql_engine.specs.Apart.{asked_of, asked_at, asked, field_here, name_of, place_of, placed, respond}
+use Rattle.gql_engine.specs.Completion.{tree_of}
 use Rattle.gql_engine.specs.Path.{key_text}
-use Rattle.gql_engine.specs.declared.place.Tree.{the_lemmas as tree_lemmas}
+use Rattle.gql_place.specs.declared.place.Tree.{the_lemmas as tree_lemmas}
 use Rattle.gql_engine.specs.declared.scene.Scene.{Scene}
 use Rattle.gql_cli.specs.Answer.{Chooses}
 use Rattle.gql_cli.specs.BenchAnswers.{bench_answers, bench_object, IsSuited, AnswersBy}
@@ -57,7 +58,7 @@ module _ (bench : Bench) (suited : IsSuited bench) (scene : Scene ℤ) (is : ben
   place-value field n v known =
       let call = (asked_of scene field known.declared).asks.call in
       let answered : answer call ≡ rule_answer (Some (rule_of known.entry.field)) = by.ruled call ∙ ap rule_answer known.entry.ruled in
-      (λ i. value_of (fill (shape_of (known.entry.typed i) (answered i).result)))
+      (λ i. value_of (tree_of (known.entry.typed i) (answered i).result))
       ∙ constant-shows known.entry.field.type_name known.entry.field.constant known.entry.taken ∙ known.constant
 
   keys-are : (selections : List (Positioned Selection)) (names : List (List ℕ)) (chosen : List (List ℕ × Value)) → AllZip IsBare selections names

@@ -13,7 +13,7 @@ use Rattle.gql_schema.specs.Field.{resolver_of}
 use Rattle.gql_schema.specs.Object.{fields_of}
 use Rattle.gql_schema.specs.declared.field.Field.{Field}
 use Rattle.gql_cli.specs.BenchAnswers.{bench_object}
-use Rattle.gql_cli.specs.ListTurns.{list_choice, list_after}
+use Rattle.gql_cli.specs.ListTurns.{list_turns}
 use Rattle.gql_cli.specs.Query.{Selects}
 use Rattle.gql_cli.specs.Table.{table_delay}
 use Rattle.gql_cli.specs.declared.first_bench.FirstBench.{FirstBench}
@@ -35,7 +35,7 @@ story = record { resolver = λ task. task.resolver; path = λ task. task.name; b
 -- a whole record of these tasks: the turns of a list choose each entry's task among those that wait, and each task has as
 -- many pending entries as its delay, and then its ready one
 pub record IsRecord (turns : List ℕ) (tasks : List BenchTask) (entries : List RecordEntry) : Type 0 where
-  pub turned : Turned list_choice list_after story (turns, 0) (fresh tasks) entries
+  pub turned : Turned list_turns story (turns, 0) (fresh tasks) entries
   pub whole : waiting (made_at story (fresh tasks) entries) ≡ []
   pub paced : EachPaced (λ task. task.delay) tasks entries
 

@@ -2,9 +2,9 @@
 use Rattle.std.specs.Prelude.{ℕ, List, [], map}
 use Rattle.gql_base.specs.declared.value.Value.{Value}
 use Rattle.gql_base.specs.declared.value.Value.TheVariants as value
-use Rattle.gql_engine.specs.declared.place.Place.{Place}
-use Rattle.gql_engine.specs.declared.place.Tree.{Tree, out-Tree}
-use Rattle.gql_engine.specs.declared.place.Tree.TheOpen.{Tree-F}
+use Rattle.gql_place.specs.declared.place.Place.{Place}
+use Rattle.gql_place.specs.declared.place.Tree.{Tree, out-Tree}
+use Rattle.gql_place.specs.declared.place.Tree.TheOpen.{Tree-F}
 
 -- a leaf shows its value, and whatever has no value null; objects and lists beneath a field are to come
 abbrev pub value_here : Tree-F Tree Place → Value

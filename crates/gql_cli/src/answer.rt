@@ -2,7 +2,7 @@
 ghost use Rattle.std.specs.Prelude.{◌≡◌, ◌++◌, ℕ, List, [], ◌∷◌, map, codes, IfOk, OnOk, IfSome, MatchOption, string_bytes};
 ghost use Rattle.gql_base.specs.Json.{json};
 ghost use Rattle.gql_base.specs.Separated.{separated};
-ghost use Rattle.gql_engine.specs.declared.place.Tree.{out-Tree};
+ghost use Rattle.gql_place.specs.declared.place.Tree.{out-Tree};
 ghost use Rattle.gql_cli.specs.Answer.{IsResponse, error_of, refusal_line, response_line, shown};
 ghost use Rattle.gql_cli.specs.BenchAnswers.{bench_answers, IsSuited, IsSetOf};
 ghost use Rattle.gql_cli.specs.BenchRecord.{HasToldFor, bench_task};
@@ -13,7 +13,7 @@ use crate::query::selected_names;
 use crate::tables::Bench;
 use gql_base::{Made, Pairs, ServerError, Text, push_comma, push_errors, push_json, push_name};
 use gql_doc::{ExecutableDocument, ParseFault};
-use gql_engine::{Place, Tree};
+use gql_place::{Place, Tree};
 use gql_resolve::ResolverSet;
 use std::alloc::Global;
 

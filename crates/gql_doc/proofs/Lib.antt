@@ -15,6 +15,7 @@ pub mod ParseLaws
 pub mod ReaderLaws
 pub mod Rows
 pub mod SelectionLaws
+pub mod SendLemmas
 pub mod SetBuildLaws
 pub mod TextLaws
 pub mod TokenLaws

@@ -16,6 +16,7 @@ mod operation_rule;
 mod parse;
 mod selection_building;
 mod selections;
+mod shared;
 mod tree;
 mod tree_of;
 mod trouble;

@@ -14,7 +14,7 @@ use Rattle.gql_engine.specs.declared.given.Given.TheVariants.{Answered, Put}
 use Rattle.gql_engine.specs.Arena.{marks_of, made_of, fresh_states, IsRight, Nearer}
 use Rattle.gql_engine.specs.Given.{beneath_given}
 use Rattle.gql_engine.specs.Pace.{to_come}
-use Rattle.gql_engine.specs.Parts.{Parts, Moment, due_by, delay_by, delay_at, stage, subject}
+use Rattle.gql_engine.specs.Parts.{Parts, Moment, choice_by, due_by, delay_by, delay_at, stage, subject}
 use Rattle.gql_engine.specs.Plan.{IsContextOf}
 use Rattle.gql_engine.specs.Progress.{IsSound, Agrees, Progress, Paces, Went, Ended, story_of}
 use Rattle.gql_engine.specs.Record.{Ran, waiting_from}
@@ -99,7 +99,7 @@ module _ {R Own World Future L H P : Type 0} {e : Parts R Own World Future L H P
         let done : was ≡ state.Done = cc in
         undone done
 
-    chosen_by : Chosen Own e.plan.Task Future e.turns.State e.turns.choice e.turns.after e.plan.asks
+    chosen_by : Chosen Own e.plan.Task Future e.turns.State (choice_by e.turns) e.plan.asks
         (e.turns.state old.turns) (e.turns.state turns) (e.plan.tasks old.plan) old.states number t.pick.task was context
     chosen_by = record {
       picked = t.chosen;
@@ -137,7 +137,7 @@ module _ {R Own World Future L H P : Type 0} {e : Parts R Own World Future L H P
           };
           progress = λ law calm answers agrees. record {
             right = λ base. right_waits Own e.plan.Task Future e.set.is_for (subject e) base answers (e.plan.holds old.plan) (e.plan.tasks old.plan) old.states number w.future t.pick.within;
-            ran = ran_pending Own e.plan.Task Future e.turns.State e.turns.choice e.turns.after e.plan.asks e.plan.beneath answers
+            ran = ran_pending Own e.plan.Task Future e.turns.State (choice_by e.turns) e.plan.asks e.plan.beneath answers
                 (e.turns.state old.turns) (e.turns.state turns) (e.plan.tasks old.plan) old.states number t.pick.task was context chosen_by
                 (e.set.told old.set) (e.set.told set) (e.set.begun old.set) (e.set.begun set) (begun_is calm) w.future (told_is calm);
           };
@@ -235,14 +235,14 @@ module _ {R Own World Future L H P : Type 0} {e : Parts R Own World Future L H P
             → e.set.told new.set ≡ with_more (e.set.told old.set) (entry_of context true ∷ [])
             → e.set.begun new.set ≡ with_more (e.set.begun old.set) (begins_now context.task was)
             → (answers : e.plan.Task → Answer Own) → more ≡ e.plan.beneath t.pick.task (answers t.pick.task)
-            → Ran e.turns.choice e.turns.after (story_of (subject e) answers) (stage e old) (stage e new)
+            → Ran (choice_by e.turns) (story_of (subject e) answers) (stage e old) (stage e new)
         ran_answered new more form made turns_is told_is begun_is answers more_is =
-            subst (λ ss. Ran e.turns.choice e.turns.after (story_of (subject e) answers) (stage e old) (staged (made_of (e.plan.tasks new.plan) ss) (e.set.told new.set) (e.set.begun new.set) (e.turns.state new.turns))) form
-            (subst (λ ts. Ran e.turns.choice e.turns.after (story_of (subject e) answers) (stage e old)
+            subst (λ ss. Ran (choice_by e.turns) (story_of (subject e) answers) (stage e old) (staged (made_of (e.plan.tasks new.plan) ss) (e.set.told new.set) (e.set.begun new.set) (e.turns.state new.turns))) form
+            (subst (λ ts. Ran (choice_by e.turns) (story_of (subject e) answers) (stage e old)
             (staged (made_of ts (slice_set old.states number state.Done ++ fresh_states (length more))) (e.set.told new.set) (e.set.begun new.set) (e.turns.state new.turns))) (sym made)
-            (subst (λ s. Ran e.turns.choice e.turns.after (story_of (subject e) answers) (stage e old)
+            (subst (λ s. Ran (choice_by e.turns) (story_of (subject e) answers) (stage e old)
             (staged (made_of (e.plan.tasks old.plan ++ more) (slice_set old.states number state.Done ++ fresh_states (length more))) (e.set.told new.set) (e.set.begun new.set) s)) (sym turns_is)
-            (ran_ready Own e.plan.Task Future e.turns.State e.turns.choice e.turns.after e.plan.asks e.plan.beneath answers
+            (ran_ready Own e.plan.Task Future e.turns.State (choice_by e.turns) e.plan.asks e.plan.beneath answers
             (e.turns.state old.turns) (e.turns.state turns) (e.plan.tasks old.plan) old.states number t.pick.task was context chosen_by
             (e.set.told old.set) (e.set.told new.set) (e.set.begun old.set) (e.set.begun new.set) begun_is more told_is more_is)))
 
@@ -276,9 +276,9 @@ module _ {R Own World Future L H P : Type 0} {e : Parts R Own World Future L H P
         → Ended e old set
     ended_before set told_is begins = record {
       stopped = λ law calm answers agrees. elim (begins calm) [
-        | inl same ↦ stopped_before e.turns.choice e.turns.after (story_of (subject e) answers) (stage e old) (e.set.told set) (e.set.begun set) []
+        | inl same ↦ stopped_before (choice_by e.turns) (story_of (subject e) answers) (stage e old) (e.set.told set) (e.set.begun set) []
             (told_is calm ∙ with_more_none (e.set.told old.set)) (omega arith) (same ∙ sym (with_more_none (e.set.begun old.set)))
-        | inr one ↦ stopped_before e.turns.choice e.turns.after (story_of (subject e) answers) (stage e old) (e.set.told set) (e.set.begun set) (context.task ∷ [])
+        | inr one ↦ stopped_before (choice_by e.turns) (story_of (subject e) answers) (stage e old) (e.set.told set) (e.set.begun set) (context.task ∷ [])
             (told_is calm ∙ with_more_none (e.set.told old.set)) (omega arith) one
       ];
       paces = λ pace calm. so_far_none old set (told_is calm);
@@ -291,7 +291,7 @@ module _ {R Own World Future L H P : Type 0} {e : Parts R Own World Future L H P
         → (e.hooks.are_quiet old.hooks → e.set.begun set ≡ with_more (e.set.begun old.set) (begins_now context.task was))
         → Ended e old set
     ended_after set paid told_is begun_is = record {
-      stopped = λ law calm answers agrees. stopped_after Own e.plan.Task Future e.turns.State e.turns.choice e.turns.after e.plan.asks e.plan.beneath answers
+      stopped = λ law calm answers agrees. stopped_after Own e.plan.Task Future e.turns.State (choice_by e.turns) e.plan.asks e.plan.beneath answers
           (e.turns.state old.turns) (e.turns.state turns) (e.plan.tasks old.plan) old.states number t.pick.task was context chosen_by
           (e.set.told old.set) (e.set.told set) (e.set.begun old.set) (e.set.begun set) (begun_is calm) true (told_is calm);
       paces = λ pace calm. so_far_answer old set number t.pick.task was context t.pick.task_is t.pick.old_is t.context_is (told_is calm) (paid pace calm);

@@ -1,16 +1,15 @@
 -- Occurrences that are gathered, and places that are united under their keys.
-use Rattle.std.proofs.Common.{ℕ, zero, suc, ◌≡◌, ◌+◌, ◌<◌, Bool, true, false, cond, List, [], ◌∷◌, ◌++◌, length, get_or, drop, refl, sym, ap, subst, ◌∙◌, arith, append_assoc}
+use Rattle.std.proofs.Common.{ℕ, ◌≡◌, ◌+◌, ◌<◌, List, [], ◌∷◌, ◌++◌, length, get_or, drop, refl, sym, ap, ◌∙◌, append_assoc}
 use Rattle.std.proofs.lemmas.List.{drop_more}
-use Rattle.std.specs.Prelude.{Option, Some, None, is_some}
 use Rattle.std.specs.List.{flat_map}
-use Rattle.std.specs.Str.{bytes_eq}
-use Rattle.gql_base.specs.Pairs.{under, put, unite, unite_all}
+use Rattle.gql_base.specs.Pairs.{unite, unite_all}
 use Rattle.gql_doc.specs.declared.document.Positioned.{Positioned}
 use Rattle.gql_doc.specs.declared.document.Selection.{Selection, out-Selection}
-use Rattle.gql_engine.specs.Apart.{Asked, asked, field_here, join}
+use Rattle.gql_place.specs.Join.{join}
+use Rattle.gql_engine.specs.Apart.{Asked, asked, field_here}
 use Rattle.gql_engine.specs.ApartPlan.{place_here, places_here}
 use Rattle.gql_engine.specs.declared.occurrence.Occurrence.{Occurrence}
-use Rattle.gql_engine.specs.declared.place.Place.{Place}
+use Rattle.gql_place.specs.declared.place.Place.{Place}
 use Rattle.gql_engine.specs.declared.scene.Scene.{Scene}
 
 flat_append : {X Y : Type 0} (f : X → List Y) (one other : List X) → flat_map f (one ++ other) ≡ flat_map f one ++ flat_map f other
@@ -45,16 +44,3 @@ united members members' os rest o all is added before =
     ∙ sym (unite_all-append join members (place_here o) (places_here rest))
     ∙ ap (λ xs. unite_all join members (places_here xs)) (sym is)
     ∙ before
-
--- a key that is there keeps its first place
-pub unite_there : (key : List ℕ) (place : Place) (ps : List (List ℕ × Place)) → is_some (under key ps) ≡ true → ps ≡ unite join ps key place
-unite_there key place [] is = absurd (cc)
-unite_there key place (p ∷ ps) is =
-    let P : Bool → Type 0 = λ b. is_some (cond b (Some p.1) (under key ps)) ≡ true → p ∷ ps ≡ cond b ((p.0, join p.1 place) ∷ ps) (p ∷ unite join ps key place) in
-    (elim (bytes_eq key p.0) as P [ true ↦ λ e. refl | false ↦ λ e. ap (λ qs. p ∷ qs) (unite_there key place ps e) ]) is
-
-pub unite_new : (key : List ℕ) (place : Place) (ps : List (List ℕ × Place)) → is_some (under key ps) ≡ false → put ps key place ≡ unite join ps key place
-unite_new key place [] is = refl
-unite_new key place (p ∷ ps) is =
-    let P : Bool → Type 0 = λ b. is_some (cond b (Some p.1) (under key ps)) ≡ false → cond b ((p.0, place) ∷ ps) (p ∷ put ps key place) ≡ cond b ((p.0, join p.1 place) ∷ ps) (p ∷ unite join ps key place) in
-    (elim (bytes_eq key p.0) as P [ true ↦ λ e. absurd (cc) | false ↦ λ e. ap (λ qs. p ∷ qs) (unite_new key place ps e) ]) is

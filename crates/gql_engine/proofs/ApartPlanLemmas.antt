@@ -9,7 +9,7 @@ use Rattle.gql_engine.specs.declared.given.Given.{Given}
 use Rattle.gql_engine.specs.declared.given.Given.TheVariants.{Answered, Put}
 use Rattle.gql_engine.specs.ApartPlan.{seen, all_seen, Keeps}
 use Rattle.gql_engine.specs.declared.occurrence.Occurrence.{Occurrence}
-use Rattle.gql_engine.specs.declared.place.Place.{Place}
+use Rattle.gql_place.specs.declared.place.Place.{Place}
 use Rattle.gql_engine.specs.declared.scene.Scene.{Scene}
 use Rattle.gql_engine.proofs.Lists.{get_set_same, get_set_other, map_set_same}
 

@@ -1,8 +1,10 @@
 pub mod AdvanceLemmas
+pub mod AimLemmas
 pub mod ApartLemmas
 pub mod ApartPlanLemmas
 pub mod ArenaLemmas
 pub mod BlockLemmas
+pub mod GivenLemmas
 pub mod Lists
 pub mod NearerLemmas
 pub mod PaceLemmas

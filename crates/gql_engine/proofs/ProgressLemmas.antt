@@ -3,7 +3,7 @@ use Rattle.std.proofs.Common.{ℕ, ◌≡◌, List, refl, sym, ap, ◌∙◌}
 use Rattle.gql_resolve.specs.Call.{Call}
 use Rattle.gql_resolve.specs.declared.answer.Answer.{Answer}
 use Rattle.gql_engine.specs.Arena.{Subject}
-use Rattle.gql_engine.specs.Parts.{Parts, Moment, due_by, stage, subject}
+use Rattle.gql_engine.specs.Parts.{Parts, Moment, choice_by, due_by, stage, subject}
 use Rattle.gql_engine.specs.Progress.{IsSound, Kept, Agrees, Progress, Went, Ended, story_of}
 use Rattle.gql_engine.proofs.PaceLemmas.{paces_none, paces_trans, so_far_trans}
 use Rattle.gql_engine.proofs.RecordLemmas.{ran_none, ran_trans, stopped_trans}
@@ -41,7 +41,7 @@ module _ {R Own World Future L H P : Type 0} {e : Parts R Own World Future L H P
     stays = λ n is. record { done = is; held = λ given held. held };
     progress = λ law calm answers agrees. record {
       right = λ base right. right;
-      ran = ran_none e.plan.Task e.turns.State e.turns.choice e.turns.after (story_of (subject e) answers) (stage e m);
+      ran = ran_none e.plan.Task e.turns.State (choice_by e.turns) (story_of (subject e) answers) (stage e m);
     };
     paces = λ pace calm. paces_none m;
   }
@@ -58,7 +58,7 @@ module _ {R Own World Future L H P : Type 0} {e : Parts R Own World Future L H P
         let second = other.progress (kept.lawful_is law) (kept.quiet_is calm) answers (agrees_after kept law answers agrees) in
         record {
           right = λ base right. second.right base (first.right base right);
-          ran = ran_trans e.plan.Task e.turns.State e.turns.choice e.turns.after (story_of (subject e) answers) first.ran second.ran;
+          ran = ran_trans e.plan.Task e.turns.State (choice_by e.turns) (story_of (subject e) answers) first.ran second.ran;
         };
     paces = λ pace calm. paces_trans kept.rules_is (one.paces pace calm) (other.paces (kept.paced_is pace) (kept.quiet_is calm));
   }
@@ -68,6 +68,6 @@ module _ {R Own World Future L H P : Type 0} {e : Parts R Own World Future L H P
     stopped = λ law calm answers agrees.
         let first = one.progress law calm answers agrees in
         let second = other.stopped (kept.lawful_is law) (kept.quiet_is calm) answers (agrees_after kept law answers agrees) in
-        stopped_trans e.plan.Task e.turns.State e.turns.choice e.turns.after (story_of (subject e) answers) first.ran second;
+        stopped_trans e.plan.Task e.turns.State (choice_by e.turns) (story_of (subject e) answers) first.ran second;
     paces = λ pace calm. so_far_trans kept.rules_is (one.paces pace calm) (other.paces (kept.paced_is pace) (kept.quiet_is calm));
   }

@@ -10,8 +10,9 @@ use Rattle.gql_engine.specs.declared.arena.State.{State}
 use Rattle.gql_engine.specs.declared.arena.State.TheVariants as state
 use Rattle.gql_engine.specs.declared.occurrence.Occurrence.{Occurrence}
 use Rattle.gql_engine.specs.declared.scene.Scene.{Scene}
-use Rattle.gql_engine.specs.Apart.{Asked, asked_in, subject_in, placed, place_of, respond, root_of, join}
+use Rattle.gql_engine.specs.Apart.{Asked, asked_in, subject_in, placed, place_of, respond, root_of}
 use Rattle.gql_base.specs.Pairs.{unite_all}
+use Rattle.gql_place.specs.Join.{join}
 use Rattle.gql_engine.specs.ApartPlan.{seen as seen_as, all_seen, Keeps, place_here, places_here}
 use Rattle.std.specs.Option.{ForSome}
 use Rattle.gql_resolve.specs.declared.resolver_set.ResolverSet.{Ghosts as Resolving}
@@ -19,7 +20,7 @@ use Rattle.gql_resolve.specs.declared.turns.Turns.{Ghosts as Choosing}
 use Rattle.gql_engine.specs.declared.given.Given.{Given}
 use Rattle.gql_engine.specs.Arena.{mark_of, marks_of, made_of, fresh_states, Subject, Fits, IsRight}
 use Rattle.gql_engine.specs.Pace.{EachPaced, EachPacedSoFar, pending_then_ready}
-use Rattle.gql_engine.specs.Parts.{Parts, Moment, due_by, delay_by}
+use Rattle.gql_engine.specs.Parts.{Parts, Moment, choice_by, due_by, delay_by}
 use Rattle.gql_engine.specs.Progress.{IsSound, Agrees, Seen, stage_of, story_at, RunsWhole, RunStopped}
 use Rattle.gql_engine.specs.Record.{Mark, untold, begun, ready, Story, Made, Ran, Stopped, waiting_from, waiting, untold_marks, fresh, after_mark, after_entry, made_at, begun_at}
 use Rattle.gql_engine.proofs.Lists.{get_map, get_at, get_within}
@@ -137,7 +138,7 @@ module _ {R Own World Future P : Type 0} (set : Resolving R Own World Future) (t
     pub lengths : length states' ≡ length (all_seen last os')
     pub whole : waiting_from 0 (marks_of states') ≡ []
     pub right : IsRight 0 answers_due (Keeps first os) (all_seen first os) states → IsRight 0 answers_due (Keeps last os') (all_seen last os') states'
-    pub ran : Ran turns.choice turns.after (story_at set turns subject_in old) (stage_of set turns subject_in (made_of (all_seen first os) states) old)
+    pub ran : Ran (choice_by turns) (story_at set turns subject_in old) (stage_of set turns subject_in (made_of (all_seen first os) states) old)
         (stage_of set turns subject_in (made_of (all_seen last os') states') new)
 
   pub stopped_none : (new : Seen R P) → set.told new.set ≡ set.told old.set → set.begun new.set ≡ set.begun old.set
@@ -165,13 +166,13 @@ module _ {R Own World Future P : Type 0} (set : Resolving R Own World Future) (t
         (ap (λ s. all_seen s os) begins.scene_is ∙ begins.asked_is) paced
 
     run_stopped : (new : Seen R P)
-        → Stopped turns.choice turns.after (story_at set turns subject_in old) (stage_of set turns subject_in (made_of (all_seen first os) states) old) (set.told new.set) (set.begun new.set)
-        → Stopped turns.choice turns.after (story_at set turns subject_in old) (stage_of set turns subject_in (fresh (asked_in scene)) old) (set.told new.set) (set.begun new.set)
+        → Stopped (choice_by turns) (story_at set turns subject_in old) (stage_of set turns subject_in (made_of (all_seen first os) states) old) (set.told new.set) (set.begun new.set)
+        → Stopped (choice_by turns) (story_at set turns subject_in old) (stage_of set turns subject_in (fresh (asked_in scene)) old) (set.told new.set) (set.begun new.set)
     run_stopped new stopped =
-        subst (λ m. Stopped turns.choice turns.after (story_at set turns subject_in old) (stage_of set turns subject_in m old) (set.told new.set) (set.begun new.set)) made_is stopped
+        subst (λ m. Stopped (choice_by turns) (story_at set turns subject_in old) (stage_of set turns subject_in m old) (set.told new.set) (set.begun new.set)) made_is stopped
 
     pub stopped_run : (new : Seen R P)
-        → Stopped turns.choice turns.after (story_at set turns subject_in old) (stage_of set turns subject_in (made_of (all_seen first os) states) old) (set.told new.set) (set.begun new.set)
+        → Stopped (choice_by turns) (story_at set turns subject_in old) (stage_of set turns subject_in (made_of (all_seen first os) states) old) (set.told new.set) (set.begun new.set)
         → ((before entries : List RecordEntry) → set.is_paced old.set → set.told old.set ≡ Some before → set.told new.set ≡ with_more (set.told old.set) entries
         → EachPacedSoFar (λ task. delay_by set old.set task.asks.call.resolver) (all_seen first os) entries)
         → RunStopped set turns subject_in (asked_in scene) old new
@@ -183,9 +184,9 @@ module _ {R Own World Future P : Type 0} (set : Resolving R Own World Future) (t
         }
 
     module _ (new : Seen R P) (last : Scene Own) (os' : List Occurrence) (states' : List (State Future)) (finishes : Finishes new first last os os' states states') where
-      pub whole_ran : Ran turns.choice turns.after (story_at set turns subject_in old) (stage_of set turns subject_in (fresh (asked_in scene)) old)
+      pub whole_ran : Ran (choice_by turns) (story_at set turns subject_in old) (stage_of set turns subject_in (fresh (asked_in scene)) old)
           (stage_of set turns subject_in (made_of (all_seen last os') states') new)
-      whole_ran = subst (λ m. Ran turns.choice turns.after (story_at set turns subject_in old) (stage_of set turns subject_in m old)
+      whole_ran = subst (λ m. Ran (choice_by turns) (story_at set turns subject_in old) (stage_of set turns subject_in m old)
           (stage_of set turns subject_in (made_of (all_seen last os') states') new)) made_is finishes.ran
 
       pub runs_whole : (set.is_paced old.set → ForSome (set.told old.set)

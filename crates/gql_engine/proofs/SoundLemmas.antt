@@ -52,7 +52,7 @@ module _ (V Task F : Type 0) (is_for : F → Call V → Type 0) (subject : Subje
       by_cases (state.Waiting future) fits differs = (fits.0, fits.1)
       by_cases state.Done fits differs = absurd (differs refl)
 
-  fits_kept : (holds holds' : ℕ → Given V → Type 0) (number : ℕ) → ((a : Given V) → holds number a → holds' number a)
+  pub fits_kept : (holds holds' : ℕ → Given V → Type 0) (number : ℕ) → ((a : Given V) → holds number a → holds' number a)
       → (call : Call V) (s : State F) → Fits is_for holds number call s → Fits is_for holds' number call s
   fits_kept holds holds' number keeps call state.Fresh fits = fits
   fits_kept holds holds' number keeps call (state.Waiting future) fits = fits

@@ -10,7 +10,7 @@ use Rattle.gql_resolve.specs.declared.record_entry.RecordEntry.{RecordEntry}
 use Rattle.gql_resolve.specs.declared.resolver_context.ResolverContext.{ResolverContext}
 use Rattle.gql_engine.specs.declared.arena.State.{State}
 use Rattle.gql_engine.specs.declared.arena.State.TheVariants as state
-use Rattle.gql_engine.specs.Record.{Mark, untold, begun, ready, Story, Made, waiting_from, waiting, untold_marks, beneath_of, after_ready, after_pending, after_mark, after_entry, NamesTask, Stage, Turned, begins, begun_at, state_at, made_at, Ran, Stopped}
+use Rattle.gql_engine.specs.Record.{Choice, Mark, untold, begun, ready, Story, Made, waiting_from, waiting, untold_marks, beneath_of, after_ready, after_pending, after_mark, after_entry, NamesTask, Stage, Turned, begins, begun_at, state_at, made_at, Ran, Stopped}
 use Rattle.gql_base.specs.PathSegment.{path_text}
 use Rattle.gql_engine.specs.Arena.{mark_of, marks_of, made_of, fresh_states, Subject, subject_of}
 use Rattle.gql_engine.specs.Plan.{Asking, IsContextOf}
@@ -23,16 +23,16 @@ use Rattle.gql_engine.proofs.RecordLemmas.{ran_trans, with_more_none}
 abbrev pub staged : {Task State_ : Type 0} → Made Task → Option (List RecordEntry) → Option (List ℕ) → Option State_ → Stage Task State_
 staged made told starts turns = record { made = made; told = told; starts = starts; turns = turns }
 
-module _ (V Task F State_ : Type 0) (choice : State_ → ℕ → ℕ) (after : State_ → ℕ → State_) (asks : Task → Asking V) where
+module _ (V Task F State_ : Type 0) (choice : Choice State_) (asks : Task → Asking V) where
   -- the entry of a turn is of the task that the turns chose
   pub record Chosen (turns turns' : Option State_) (tasks : List Task) (states : List (State F)) (number : ℕ) (task : Task) (old : State F) (context : ResolverContext V) : Type 0 where
-    pub picked : ForSome turns (λ s. slice_get (waiting_from 0 (marks_of states)) (choice s (length (waiting_from 0 (marks_of states)))) ≡ Some number)
-    pub turns_is : turns' ≡ option_map (λ s. after s (length (waiting_from 0 (marks_of states)))) turns
+    pub picked : ForSome turns (λ s. slice_get (waiting_from 0 (marks_of states)) (choice.place s (length (waiting_from 0 (marks_of states)))) ≡ Some number)
+    pub turns_is : turns' ≡ option_map (λ s. choice.after s (length (waiting_from 0 (marks_of states)))) turns
     pub task_is : slice_get tasks number ≡ Some task
     pub old_is : slice_get states number ≡ Some old
     pub context_is : IsContextOf number (asks task) context
 
-module _ (V Task F State_ : Type 0) (choice : State_ → ℕ → ℕ) (after : State_ → ℕ → State_) (asks : Task → Asking V) (beneath : Task → Answer V → List Task) (answers : Task → Answer V) where
+module _ (V Task F State_ : Type 0) (choice : Choice State_) (asks : Task → Asking V) (beneath : Task → Answer V → List Task) (answers : Task → Answer V) where
   abbrev story : Story Task
   story = story_of (subject_of asks beneath) answers
 
@@ -46,7 +46,7 @@ module _ (V Task F State_ : Type 0) (choice : State_ → ℕ → ℕ) (after : S
   begins_is number state.Done = refl
 
   module _ (turns turns' : Option State_) (tasks : List Task) (states : List (State F)) (number : ℕ) (task : Task) (old : State F) (context : ResolverContext V)
-      (chosen : Chosen V Task F State_ choice after asks turns turns' tasks states number task old context) (told told' : Option (List RecordEntry)) (starts starts' : Option (List ℕ))
+      (chosen : Chosen V Task F State_ choice asks turns turns' tasks states number task old context) (told told' : Option (List RecordEntry)) (starts starts' : Option (List ℕ))
       (starts_is : starts' ≡ with_more starts (begins_now context.task old)) where
     names : (is_ready : Bool) → NamesTask story (slice_get tasks context.task) (entry_of context is_ready)
     names is_ready = subst (λ t. NamesTask story t (entry_of context is_ready)) (sym (ap (slice_get tasks) chosen.context_is.task_is ∙ chosen.task_is))
@@ -54,7 +54,7 @@ module _ (V Task F State_ : Type 0) (choice : State_ → ℕ → ℕ) (after : S
 
     one_entry : (is_ready : Bool) (made' : Made Task) → told' ≡ with_more told (entry_of context is_ready ∷ [])
         → made' ≡ after_mark story (made_of tasks states) number is_ready
-        → Ran choice after story (staged (made_of tasks states) told starts turns) (staged made' told' starts' turns')
+        → Ran choice story (staged (made_of tasks states) told starts turns) (staged made' told' starts' turns')
     one_entry is_ready made' told_is made_is = record {
       entries = entry_of context is_ready ∷ [];
       told_is = told_is;
@@ -69,12 +69,12 @@ module _ (V Task F State_ : Type 0) (choice : State_ → ℕ → ℕ) (after : S
     }
 
     pub ran_pending : (future : F) → told' ≡ with_more told (entry_of context false ∷ [])
-        → Ran choice after story (staged (made_of tasks states) told starts turns) (staged (made_of tasks (slice_set states number (state.Waiting future))) told' starts' turns')
+        → Ran choice story (staged (made_of tasks states) told starts turns) (staged (made_of tasks (slice_set states number (state.Waiting future))) told' starts' turns')
     ran_pending future told_is = one_entry false (made_of tasks (slice_set states number (state.Waiting future))) told_is
         (ap (λ ms. let made : Made Task = record { tasks = tasks; marks = ms } in made) (map_set mark_of states number (state.Waiting future)))
 
     pub ran_ready : (more : List Task) → told' ≡ with_more told (entry_of context true ∷ []) → more ≡ beneath task (answers task)
-        → Ran choice after story (staged (made_of tasks states) told starts turns)
+        → Ran choice story (staged (made_of tasks states) told starts turns)
         (staged (made_of (tasks ++ more) (slice_set states number state.Done ++ fresh_states (length more))) told' starts' turns')
     ran_ready more told_is more_is = one_entry true (made_of (tasks ++ more) (slice_set states number state.Done ++ fresh_states (length more))) told_is
         (ap (λ ms. let made : Made Task = record { tasks = tasks ++ more; marks = ms } in made)
@@ -86,7 +86,7 @@ module _ (V Task F State_ : Type 0) (choice : State_ → ℕ → ℕ) (after : S
 
     -- a turn that ended for want of memory after its entry
     pub stopped_after : (is_ready : Bool) → told' ≡ with_more told (entry_of context is_ready ∷ [])
-        → Stopped choice after story (staged (made_of tasks states) told starts turns) told' starts'
+        → Stopped choice story (staged (made_of tasks states) told starts turns) told' starts'
     stopped_after is_ready told_is =
         let ran = one_entry is_ready (after_mark story (made_of tasks states) number is_ready) told_is refl in
         record {
@@ -99,11 +99,11 @@ module _ (V Task F State_ : Type 0) (choice : State_ → ℕ → ℕ) (after : S
         }
 
 -- a turn that ended for want of memory before its entry
-pub stopped_before : {Task T : Type 0} (choice : T → ℕ → ℕ) (after : T → ℕ → T) (tale : Story Task) (stage : Stage Task T)
+pub stopped_before : {Task T : Type 0} (choice : Choice T) (tale : Story Task) (stage : Stage Task T)
     (told : Option (List RecordEntry)) (starts : Option (List ℕ)) (last : List ℕ)
     → told ≡ stage.told → length last ≤ 1 → starts ≡ with_more stage.starts last
-    → Stopped choice after tale stage told starts
-stopped_before choice after tale stage told starts last told_is most starts_is = record {
+    → Stopped choice tale stage told starts
+stopped_before choice tale stage told starts last told_is most starts_is = record {
   entries = [];
   told_is = told_is ∙ sym (with_more_none stage.told);
   last = last;

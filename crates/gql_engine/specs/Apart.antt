@@ -12,6 +12,9 @@ use Rattle.gql_doc.specs.declared.document.InlineFragment.{InlineFragment}
 use Rattle.gql_doc.specs.declared.document.Selection.{Selection, out-Selection}
 use Rattle.gql_doc.specs.declared.document.Selection.TheOpen.{Selection-F}
 use Rattle.gql_doc.specs.declared.document.SelectionSet.{SelectionSet, out-SelectionSet}
+use Rattle.gql_place.specs.Join.{join}
+use Rattle.gql_place.specs.declared.place.Place.{Place}
+use Rattle.gql_place.specs.declared.place.Tree.TheVariants as tree
 use Rattle.gql_resolve.specs.Call.{Call, is_mutation, is_single}
 use Rattle.gql_resolve.specs.Layers.{layers_of}
 use Rattle.gql_resolve.specs.declared.answer.Answer.{Answer}
@@ -19,18 +22,13 @@ use Rattle.gql_schema.specs.Field.{field_type, resolver_of}
 use Rattle.gql_schema.specs.Object.{fields_of}
 use Rattle.gql_schema.specs.declared.field.Field.{Field as SchemaField}
 use Rattle.gql_engine.specs.Arena.{Subject, subject_of}
-use Rattle.gql_engine.specs.Completion.{shape_given}
+use Rattle.gql_engine.specs.Completion.{tree_given}
 use Rattle.gql_engine.specs.Given.{added_of, headers_of}
 use Rattle.gql_engine.specs.Path.{key_text, path_of}
 use Rattle.gql_engine.specs.Plan.{Asking}
 use Rattle.gql_engine.specs.declared.given.Given.{Given}
 use Rattle.gql_engine.specs.declared.given.Given.TheVariants.{Answered}
-use Rattle.gql_engine.specs.declared.place.Place.{Place}
-use Rattle.gql_engine.specs.declared.place.Tree.{Tree}
-use Rattle.gql_engine.specs.declared.place.Tree.TheVariants as tree
 use Rattle.gql_engine.specs.declared.scene.Scene.{Scene}
-use Rattle.gql_engine.specs.declared.shape.Shape.{Shape}
-use Rattle.gql_engine.specs.declared.shape.Shape.TheVariants as shape
 
 -- the occurrences of fields in a set, in document order (section 6.3.2); fragments are to come
 abbrev pub field_here : Selection-F Selection Field InlineFragment SelectionSet → List (Positioned Field)
@@ -98,12 +96,6 @@ nothing_beneath task answer = []
 abbrev pub subject_in : {V : Type 0} → Subject V (Asked V)
 subject_in = subject_of (λ task. task.asks) nothing_beneath
 
--- what a shape is as a place (section 6.4)
-abbrev pub fill : Shape → Tree
-fill shape.Absent = tree.Absent
-fill (shape.Leaf value) = tree.Leaf value
-fill (shape.Fault error) = tree.Fault error
-
 -- the place of an occurrence at its field's type, with what it was given
 abbrev pub place_with : {V : Type 0} → Pos → TypeRef → Given V → Place
 place_with place ty given = record {
@@ -111,7 +103,7 @@ place_with place ty given = record {
   non_null = not (is_nullable ty);
   added = added_of given;
   headers = headers_of given;
-  tree = fill (shape_given ty given);
+  tree = tree_given ty given;
 }
 
 -- the place of a task with what it was given
@@ -121,10 +113,6 @@ place_given task given = place_with task.place task.ty given
 -- the place of an occurrence with its answer
 abbrev pub place_of : {V : Type 0} → Asked V → Answer V → Place
 place_of task answer = place_given task (Answered answer)
-
--- two places of one key: of leaves, faults and absences the first stays
-abbrev pub join : Place → Place → Place
-join first second = first
 
 -- the places of all tasks under their keys, with these answers
 abbrev pub placed : {V : Type 0} → (Call V → Answer V) → List (Asked V) → List (List ℕ × Place)

@@ -8,6 +8,10 @@ use Rattle.gql_base.specs.declared.type_ref.TypeRef.{TypeRef}
 use Rattle.gql_base.specs.declared.type_ref.TypeRef.TheOpen.{TypeRef-F}
 use Rattle.gql_base.specs.declared.type_ref.TypeRef.TheFolds.{fold-TypeRef}
 use Rattle.gql_base.specs.declared.value.Value.{Value}
+use Rattle.gql_place.specs.declared.place.Place.{Place}
+use Rattle.gql_place.specs.declared.place.Tree.{Tree, out-Tree}
+use Rattle.gql_place.specs.declared.place.Tree.TheOpen.{Tree-F}
+use Rattle.gql_place.specs.declared.place.Tree.TheVariants as tree
 use Rattle.gql_resolve.specs.declared.field_value.FieldValue.{FieldValue}
 use Rattle.gql_resolve.specs.FieldValue.{value_in}
 use Rattle.gql_schema.specs.ScalarRule.{takes as takes_by}
@@ -15,12 +19,10 @@ use Rattle.gql_schema.specs.declared.scalar_rule.ScalarRule.{ScalarRule}
 use Rattle.gql_schema.specs.declared.scalar_rule.ScalarRule.TheVariants as rules
 use Rattle.gql_engine.specs.declared.given.Given.{Given}
 use Rattle.gql_engine.specs.declared.given.Given.TheVariants.{Answered, Put}
-use Rattle.gql_engine.specs.declared.shape.Shape.{Shape}
-use Rattle.gql_engine.specs.declared.shape.Shape.TheVariants as shape
 
 -- a fault of the engine's own, with this text
-abbrev pub fault : List ℕ → Shape
-fault message = shape.Fault (record { message = message; extensions = None })
+abbrev pub fault : List ℕ → Tree
+fault message = tree.Fault (record { message = message; extensions = None })
 
 -- the fault of null at a non-null type
 abbrev pub no_value : List ℕ
@@ -45,55 +47,58 @@ abbrev pub takes : List ℕ → Value → Bool
 takes name value = option_map_or (λ rule. takes_by rule value) (rule_named name) false
 
 -- a value at the scalar of this name
-abbrev pub leaf_at : List ℕ → Option Value → Shape
+abbrev pub leaf_at : List ℕ → Option Value → Tree
 leaf_at name None = fault (no_scalar name)
-leaf_at name (Some value) = if is_null value then shape.Absent else (if takes name value then shape.Leaf value else fault (no_scalar name))
+leaf_at name (Some value) = if is_null value then tree.Absent else (if takes name value then tree.Leaf value else fault (no_scalar name))
 
 -- a value at a list type, until lists are completed
-abbrev pub list_at : Option Value → Shape
+abbrev pub list_at : Option Value → Tree
 list_at None = fault no_array
-list_at (Some value) = if is_null value then shape.Absent else fault no_array
+list_at (Some value) = if is_null value then tree.Absent else fault no_array
 
 module _ {V : Type 0} where
   -- what a resolver gave, at a scalar
-  abbrev pub scalar_at : List ℕ → Option (FieldValue V) → Shape
-  scalar_at name None = shape.Absent
+  abbrev pub scalar_at : List ℕ → Option (FieldValue V) → Tree
+  scalar_at name None = tree.Absent
   scalar_at name (Some given) = leaf_at name (value_in given)
 
   -- what a resolver gave, at a list type
-  abbrev pub items_at : Option (FieldValue V) → Shape
-  items_at None = shape.Absent
+  abbrev pub items_at : Option (FieldValue V) → Tree
+  items_at None = tree.Absent
   items_at (Some given) = list_at (value_in given)
 
+-- what is absent where a value is due is a fault
+abbrev pub required_here : Tree → Tree-F Tree Place → Tree
+required_here whole Tree-F.Absent = fault no_value
+required_here whole _ = whole
+
 -- null can't stand at a non-null type
-abbrev pub required : Shape → Shape
-required shape.Absent = fault no_value
-required (shape.Leaf value) = shape.Leaf value
-required (shape.Fault error) = shape.Fault error
+abbrev pub required : Tree → Tree
+required whole = required_here whole (out-Tree whole)
 
 module _ {V : Type 0} where
   -- one layer of a type
-  abbrev pub completed_step : TypeRef-F (Option (FieldValue V) → Shape) → Option (FieldValue V) → Shape
+  abbrev pub completed_step : TypeRef-F (Option (FieldValue V) → Tree) → Option (FieldValue V) → Tree
   completed_step (TypeRef-F.Named name) given = scalar_at name given
   completed_step (TypeRef-F.NonNull inner) given = required (inner given)
   completed_step (TypeRef-F.List inner) given = items_at given
 
   -- what a resolver gave, at its field's type
-  abbrev pub completed : TypeRef → Option (FieldValue V) → Shape
-  completed = fold-TypeRef (Option (FieldValue V) → Shape) completed_step
+  abbrev pub completed : TypeRef → Option (FieldValue V) → Tree
+  completed = fold-TypeRef (Option (FieldValue V) → Tree) completed_step
 
   -- a resolver's result, at its field's type
-  abbrev pub shape_of : TypeRef → Result (Option (FieldValue V)) Error → Shape
-  shape_of ty (Err error) = shape.Fault error
-  shape_of ty (Ok given) = completed ty given
+  abbrev pub tree_of : TypeRef → Result (Option (FieldValue V)) Error → Tree
+  tree_of ty (Err error) = tree.Fault error
+  tree_of ty (Ok given) = completed ty given
 
 -- what a hook puts in a place is not completed
-abbrev pub shape_put : Result (Option Value) Error → Shape
-shape_put (Err error) = shape.Fault error
-shape_put (Ok None) = shape.Absent
-shape_put (Ok (Some value)) = shape.Leaf value
+abbrev pub tree_put : Result (Option Value) Error → Tree
+tree_put (Err error) = tree.Fault error
+tree_put (Ok None) = tree.Absent
+tree_put (Ok (Some value)) = tree.Leaf value
 
 -- what a task is given, at its field's type
-abbrev pub shape_given : {V : Type 0} → TypeRef → Given V → Shape
-shape_given ty (Answered answer) = shape_of ty answer.result
-shape_given ty (Put put) = shape_put put
+abbrev pub tree_given : {V : Type 0} → TypeRef → Given V → Tree
+tree_given ty (Answered answer) = tree_of ty answer.result
+tree_given ty (Put put) = tree_put put

@@ -9,7 +9,7 @@ use Rattle.gql_engine.specs.declared.arena.State.{State}
 use Rattle.gql_engine.specs.declared.plan.Plan.{Ghosts as Planning}
 use Rattle.gql_engine.specs.declared.rounds.Rounds.{Ghosts as Hooking}
 use Rattle.gql_engine.specs.Arena.{Subject, subject_of, made_of}
-use Rattle.gql_engine.specs.Record.{Stage}
+use Rattle.gql_engine.specs.Record.{Choice, Stage}
 
 -- what is known of the kinds of an execution's parts: of its resolver set, its plan, its hooks and its turns
 pub record Parts (R Own World Future L H P : Type 0) : Type 1 where
@@ -42,6 +42,10 @@ at plan arena set hooks turns = record {
   hooks = hooks;
   turns = turns;
 }
+
+-- how turns choose
+abbrev pub choice_by : {P : Type 0} (turns : Choosing P) → Choice turns.State
+choice_by turns = record { place = turns.choice; after = turns.after }
 
 module _ {R Own World Future : Type 0} (set : Resolving R Own World Future) where
   -- what is due to a call: the answer by the rules of the set, in its world

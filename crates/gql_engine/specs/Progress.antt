@@ -12,7 +12,7 @@ use Rattle.gql_engine.specs.declared.arena.State.TheVariants.{Done}
 use Rattle.gql_engine.specs.declared.given.Given.{Given}
 use Rattle.gql_engine.specs.Arena.{Subject, Fits, IsRight, marks_of}
 use Rattle.gql_engine.specs.Pace.{EachPaced, EachPacedSoFar, to_come_at, told_of}
-use Rattle.gql_engine.specs.Parts.{Parts, Moment, due_by, delay_by, delay_at, stage, subject}
+use Rattle.gql_engine.specs.Parts.{Parts, Moment, choice_by, due_by, delay_by, delay_at, stage, subject}
 use Rattle.gql_engine.specs.Record.{Story, Made, Stage, Ran, Stopped, fresh, waiting, waiting_from}
 
 -- answers that agree with those that are due, but for the roots of a mutation, which are asked in a world of their own
@@ -48,7 +48,7 @@ module _ {R Own World Future L H P : Type 0} (e : Parts R Own World Future L H P
   pub record Progress (old new : Moment R Future L H P) (answers : e.plan.Task → Answer Own) : Type 0 where
     pub right : (base : ℕ) → IsRight base answers (e.plan.holds old.plan) (e.plan.tasks old.plan) old.states
         → IsRight base answers (e.plan.holds new.plan) (e.plan.tasks new.plan) new.states
-    pub ran : Ran e.turns.choice e.turns.after (story_of (subject e) answers) (stage e old) (stage e new)
+    pub ran : Ran (choice_by e.turns) (story_of (subject e) answers) (stage e old) (stage e new)
 
   -- over a paced set and quiet hooks: what was to come of each task is its entries that the set was told, and what is to come after
   pub record Paces (old new : Moment R Future L H P) : Type 0 where
@@ -84,7 +84,7 @@ module _ {R Own World Future L H P : Type 0} (e : Parts R Own World Future L H P
   pub record Ended (old : Moment R Future L H P) (set : R) : Type 0 where
     pub stopped : e.set.is_lawful old.set → e.hooks.are_quiet old.hooks → (answers : e.plan.Task → Answer Own)
         → Agrees (subject e) (due_by e.set old.set) answers
-        → Stopped e.turns.choice e.turns.after (story_of (subject e) answers) (stage e old) (e.set.told set) (e.set.begun set)
+        → Stopped (choice_by e.turns) (story_of (subject e) answers) (stage e old) (e.set.told set) (e.set.begun set)
     pub paces : e.set.is_paced old.set → e.hooks.are_quiet old.hooks → PacesSoFar old set
 
 -- a resolver set and turns at one moment
@@ -114,7 +114,7 @@ module _ {R Own World Future P Task : Type 0} (set : Resolving R Own World Futur
   -- record, the entries of each task are as many pending ones as the delay of its resolver, and then its ready one
   pub record RunsWhole (tasks : List Task) (old new : Seen R P) : Type 0 where
     pub made : Made Task
-    pub ran : Ran turns.choice turns.after (story_at old) (stage_of (fresh tasks) old) (stage_of made new)
+    pub ran : Ran (choice_by turns) (story_at old) (stage_of (fresh tasks) old) (stage_of made new)
     pub whole : waiting made ≡ []
     pub paces : set.is_paced old.set → ForSome (set.told old.set)
         (λ before. EachPaced (λ task. delay_by set old.set (subject.call task).resolver) made.tasks ran.entries)
@@ -122,6 +122,6 @@ module _ {R Own World Future P Task : Type 0} (set : Resolving R Own World Futur
   -- an execution of such tasks that ended for want of memory. Where the set is paced and tells its record, the entries of each of
   -- these tasks are a front of those
   pub record RunStopped (tasks : List Task) (old new : Seen R P) : Type 0 where
-    pub stopped : Stopped turns.choice turns.after (story_at old) (stage_of (fresh tasks) old) (set.told new.set) (set.begun new.set)
+    pub stopped : Stopped (choice_by turns) (story_at old) (stage_of (fresh tasks) old) (set.told new.set) (set.begun new.set)
     pub paces : set.is_paced old.set → ForSome (set.told old.set)
         (λ before. EachPacedSoFar (λ task. delay_by set old.set (subject.call task).resolver) tasks stopped.entries)

@@ -63,23 +63,28 @@ after_mark story made task is_ready = if is_ready then after_ready made task (be
 abbrev pub after_entry : {Task : Type 0} → Story Task → Made Task → RecordEntry → Made Task
 after_entry story made entry = after_mark story made entry.task entry.ready
 
+-- how turns choose: the place among so many that wait, and the state after it
+pub record Choice (State : Type 0) : Type 0 where
+  pub place : State → ℕ → ℕ
+  pub after : State → ℕ → State
+
 -- an entry has the resolver's number and the path's text of its task
 abbrev pub NamesTask : {Task : Type 0} → Story Task → Option Task → RecordEntry → Type 0
 NamesTask story None entry = ⊥
 NamesTask story (Some task) entry = (entry.resolver ≡ story.resolver task) × (entry.path ≡ story.path task)
 
 -- each entry is of the task that the turns choose among those that wait before it
-abbrev pub Turned : {Task State : Type 0} → (State → ℕ → ℕ) → (State → ℕ → State) → Story Task → State → Made Task → List RecordEntry → Type 0
-Turned choice after story state made [] = Unit {0}
-Turned choice after story state made (entry ∷ entries) =
-    (slice_get (waiting made) (choice state (length (waiting made))) ≡ Some entry.task)
+abbrev pub Turned : {Task State : Type 0} → Choice State → Story Task → State → Made Task → List RecordEntry → Type 0
+Turned choice story state made [] = Unit {0}
+Turned choice story state made (entry ∷ entries) =
+    (slice_get (waiting made) (choice.place state (length (waiting made))) ≡ Some entry.task)
     × NamesTask story (slice_get made.tasks entry.task) entry
-    × Turned choice after story (after state (length (waiting made))) (after_entry story made entry) entries
+    × Turned choice story (choice.after state (length (waiting made))) (after_entry story made entry) entries
 
 -- the state of the turns after a record
-abbrev pub state_at : {Task State : Type 0} → (State → ℕ → State) → Story Task → State → Made Task → List RecordEntry → State
-state_at after story state made [] = state
-state_at after story state made (entry ∷ entries) = state_at after story (after state (length (waiting made))) (after_entry story made entry) entries
+abbrev pub state_at : {Task State : Type 0} → Choice State → Story Task → State → Made Task → List RecordEntry → State
+state_at choice story state made [] = state
+state_at choice story state made (entry ∷ entries) = state_at choice story (choice.after state (length (waiting made))) (after_entry story made entry) entries
 
 -- the tasks and marks after a record
 abbrev pub made_at : {Task : Type 0} → Story Task → Made Task → List RecordEntry → Made Task
@@ -106,14 +111,14 @@ pub record Stage (Task State : Type 0) : Type 0 where
   pub starts : Option (List ℕ)
   pub turns : Option State
 
-module _ {Task State : Type 0} (choice : State → ℕ → ℕ) (after : State → ℕ → State) (story : Story Task) where
+module _ {Task State : Type 0} (choice : Choice State) (story : Story Task) where
   -- one stretch of an execution: the entries that the set was told, which the turns chose, and what stands after them
   pub record Ran (old new : Stage Task State) : Type 0 where
     pub entries : List RecordEntry
     pub told_is : new.told ≡ with_more old.told entries
     pub starts_is : new.starts ≡ with_more old.starts (begun_at story old.made entries)
-    pub turned : ForSome old.turns (λ s. Turned choice after story s old.made entries)
-    pub state_is : new.turns ≡ option_map (λ s. state_at after story s old.made entries) old.turns
+    pub turned : ForSome old.turns (λ s. Turned choice story s old.made entries)
+    pub state_is : new.turns ≡ option_map (λ s. state_at choice story s old.made entries) old.turns
     pub made_is : new.made ≡ made_at story old.made entries
 
   -- what an execution that ended for want of memory has told: such a stretch, and at most one task more has begun
@@ -123,4 +128,4 @@ module _ {Task State : Type 0} (choice : State → ℕ → ℕ) (after : State �
     pub last : List ℕ
     pub at_most_one : length last ≤ 1
     pub starts_is : starts ≡ with_more old.starts (begun_at story old.made entries ++ last)
-    pub turned : ForSome old.turns (λ s. Turned choice after story s old.made entries)
+    pub turned : ForSome old.turns (λ s. Turned choice story s old.made entries)

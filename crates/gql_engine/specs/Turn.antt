@@ -3,10 +3,12 @@ use Rattle.std.specs.Prelude.{ℕ, ◌≡◌, ◌<◌, ◌+◌, List, [], ◌∷
 use Rattle.gql_resolve.specs.declared.answer.Answer.{Answer}
 use Rattle.gql_resolve.specs.declared.record_entry.RecordEntry.{RecordEntry}
 use Rattle.gql_resolve.specs.declared.resolver_context.ResolverContext.{ResolverContext}
+use Rattle.gql_resolve.specs.declared.resolver_set.ResolverSet.{Ghosts as Resolving}
+use Rattle.gql_resolve.specs.Call.{Call}
 use Rattle.gql_resolve.specs.Record.{entry_of, with_more}
 use Rattle.gql_engine.specs.declared.rounds.Entered.{Entered}
 use Rattle.gql_engine.specs.declared.rounds.Entered.TheVariants as entered
-use Rattle.gql_engine.specs.declared.given.Given.TheVariants.{Answered}
+use Rattle.gql_engine.specs.declared.given.Given.TheVariants.{Answered, Put}
 use Rattle.gql_engine.specs.declared.arena.State.{State}
 use Rattle.gql_engine.specs.declared.arena.State.TheVariants as state
 use Rattle.gql_engine.specs.declared.arena.Turn.{Turn}
@@ -17,6 +19,11 @@ abbrev pub GoesOn : {T E : Type 0} → Result (Entered T) E → Type 0
 GoesOn (Ok entered.Go) = Unit {0}
 GoesOn (Ok (entered.Answer put)) = ⊥
 GoesOn (Err e) = Unit {0}
+
+-- a round that was entered is one event; where memory was wanting, there was none
+abbrev pub happened : {T E Event : Type 0} → Result (Entered T) E → Event → List Event
+happened (Ok entered) event = event ∷ []
+happened (Err e) event = []
 
 -- a state whose task may be taken up: its future, where it has one, is for its call
 abbrev pub IsOpen : {F C : Type 0} → (F → C → Type 0) → C → State F → Type 0
@@ -41,10 +48,10 @@ KeepsWaiting is_for number call state.Fresh new = ⊥
 KeepsWaiting is_for number call state.Done new = ⊥
 
 -- what a turn does to the state of its task
-abbrev pub TurnOf : {V F C : Type 0} → (F → C → Type 0) → (F → ℕ) → C → State F → State F → Turn V → Type 0
-TurnOf is_for number call old new (turn.Answered given) = Unit {0}
-TurnOf is_for number call old new turn.Begun = StartsWaiting is_for call old new
-TurnOf is_for number call old new turn.Pending = KeepsWaiting is_for number call old new
+abbrev pub TurnOf : {R V W F : Type 0} → Resolving R V W F → Call V → State F → State F → Turn V → Type 0
+TurnOf set call old new (turn.Answered given) = Unit {0}
+TurnOf set call old new turn.Begun = StartsWaiting set.is_for call old new
+TurnOf set call old new turn.Pending = KeepsWaiting set.is_for set.number call old new
 
 -- where a turn gives something, it is the answer that is due
 abbrev pub AnswersRightly : {V E : Type 0} → Answer V → Result (Turn V) E → Type 0
@@ -65,6 +72,31 @@ abbrev pub begins_now : {F : Type 0} → ℕ → State F → List ℕ
 begins_now task state.Fresh = task ∷ []
 begins_now task (state.Waiting future) = []
 begins_now task state.Done = []
+
+-- the events of a turn: a fresh task's hooks are entered, once
+abbrev pub enters_now : {F Event : Type 0} → Event → State F → List Event
+enters_now event state.Fresh = event ∷ []
+enters_now event (state.Waiting future) = []
+enters_now event state.Done = []
+
+-- where memory was wanting, they may not have been
+abbrev pub EntersAtMost : {Event : Type 0} → Event → Option (List Event) → Option (List Event) → Type 0
+EntersAtMost event old new = (new ≡ old) ⊎ (new ≡ with_more old (event ∷ []))
+
+-- a turn of a future gives nothing that a hook put
+abbrev pub IsNoPut : {V : Type 0} → Turn V → Type 0
+IsNoPut (turn.Answered (Answered answer)) = Unit {0}
+IsNoPut (turn.Answered (Put put)) = ⊥
+IsNoPut turn.Begun = Unit {0}
+IsNoPut turn.Pending = Unit {0}
+
+-- where a hook put something in the place of the answer, the set stays as it was
+abbrev pub PutKeeps : {V E R : Type 0} → R → R → Result (Turn V) E → Type 0
+PutKeeps old new (Ok (turn.Answered (Answered answer))) = Unit {0}
+PutKeeps old new (Ok (turn.Answered (Put put))) = new ≡ old
+PutKeeps old new (Ok turn.Begun) = Unit {0}
+PutKeeps old new (Ok turn.Pending) = Unit {0}
+PutKeeps old new (Err e) = Unit {0}
 
 -- where memory was wanting, the task may have begun without an entry
 abbrev pub BeginsAtMost : ℕ → Option (List ℕ) → Option (List ℕ) → Type 0

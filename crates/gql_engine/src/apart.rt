@@ -1,7 +1,8 @@
 ghost use Rattle.std.specs.Prelude.{◌≡◌, [], false, IfOk, IfErr, OnOk, OnErr};
 ghost use Rattle.gql_base.specs.Pairs.{unite_all};
+ghost use Rattle.gql_place.specs.Join.{join};
 ghost use Rattle.gql_resolve.specs.Call.{is_mutation};
-ghost use Rattle.gql_engine.specs.Apart.{respond, asked_in, subject_in, root_of, join};
+ghost use Rattle.gql_engine.specs.Apart.{respond, asked_in, subject_in, root_of};
 ghost use Rattle.gql_engine.specs.ApartPlan.{places_here};
 ghost use Rattle.gql_engine.specs.Parts.{due_by};
 ghost use Rattle.gql_engine.specs.Progress.{RunsWhole, RunStopped, seen};
@@ -10,11 +11,11 @@ use crate::apart_plan::ApartPlan;
 use crate::arena::Arena;
 use crate::assembling::members_of;
 use crate::collect_fields::plan_of;
-use crate::place::{Place, Tree};
 use crate::scene::Scene;
 use crate::scheduler::finish;
 use crate::settling::fresh_arena;
 use gql_base::{Items, Made, NoMemory};
+use gql_place::{Place, Tree};
 use gql_request::Hooks;
 use gql_resolve::{ResolverSet, Turns};
 use std::alloc::Global;
@@ -57,6 +58,7 @@ fn root_place<V: Drop>(alloc: Global, scene: &Scene<'_, V>, plan: ApartPlan<'_, 
         scene: _,
         arguments: _,
         occurrences,
+        path: _,
     } = plan;
     let members = members_of(alloc, occurrences)?;
     Ok(Place {

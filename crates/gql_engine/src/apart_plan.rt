@@ -6,18 +6,19 @@ use crate::occurrence::Occurrence;
 use crate::placing::place_at;
 use crate::plan::Plan;
 use crate::scene::Scene;
-use gql_base::{Made, Pairs, Value};
+use gql_base::{Made, Pairs, PathSegment, Text, Value};
 use gql_input::ObjectAccessor;
 use gql_request::QueryPathNode;
 use gql_resolve::ResolverContext;
 use std::alloc::Global;
 
-/// The occurrences of a flat object's fields, each with its place once it is answered.
+/// The occurrences of a flat object's fields, each with its place once it is answered, and the path to one of them.
 #[derive(Drop)]
 pub struct ApartPlan<'a, V> {
     pub scene: &'a Scene<'a, V>,
     pub arguments: Pairs<Value>,
     pub occurrences: Vec<Occurrence<'a>>,
+    pub path: Vec<PathSegment>,
     pub ghost bare: { arguments ≡ [] },
     pub ghost query: { is_mutation scene.now.env.now.operation.node.ty ≡ false },
 }
@@ -28,7 +29,7 @@ impl<'a, V: Drop> Plan<V> for ApartPlan<'a, V> {
     ghost use Rattle.gql_engine.specs.Given.{beneath_given};
     ghost use Rattle.gql_engine.specs.Plan.{HasMade};
     ghost use Rattle.gql_engine.specs.declared.given.Given.{Given as GivenTo};
-    ghost use Rattle.gql_engine.specs.ApartPlan.{all_seen, Keeps};
+    ghost use Rattle.gql_engine.specs.ApartPlan.{all_seen, IsAimed, Keeps};
     ghost use Rattle.std.proofs.Common.{rules};
 
     ghost Task = { Asked V };
@@ -41,7 +42,17 @@ impl<'a, V: Drop> Plan<V> for ApartPlan<'a, V> {
 
     ghost holds = { λ plan number given. Keeps plan.scene.now plan.occurrences.items number given };
 
+    ghost aims = { λ plan number. IsAimed plan.occurrences.items plan.path.items number };
+
     ghost never_roots = { λ task answer place below is. Prim.search rules };
+
+    fn aim(&mut self, alloc: Global, number: usize) -> Made<()> {
+        let item = self.occurrences[number].item;
+        let key = Text::new(alloc, item.node.response_key().node.as_str())?;
+        self.path.clear();
+        self.path.push(PathSegment::Field(key))?;
+        Ok(())
+    }
 
     fn context<'c>(&'c self, number: usize) -> ResolverContext<'c, V> {
         let occurrence = &self.occurrences[number];
@@ -51,7 +62,7 @@ impl<'a, V: Drop> Plan<V> for ApartPlan<'a, V> {
             args: ObjectAccessor::new(&self.arguments),
             parent_value: self.scene.root,
             path_node: QueryPathNode {
-                segments: occurrence.path.as_slice(),
+                segments: self.path.as_slice(),
             },
             item: &occurrence.item.node,
             env: occurrence.env,

@@ -1,17 +1,18 @@
-ghost use Rattle.std.specs.Prelude.{◌≡◌, [], IfOk, OnOk, is_some};
-ghost use Rattle.gql_base.specs.Pairs.{under, unite, unite_all};
-ghost use Rattle.gql_engine.specs.Apart.{join};
+ghost use Rattle.std.specs.Prelude.{◌≡◌, [], IfOk, OnOk};
+ghost use Rattle.gql_base.specs.Pairs.{unite, unite_all};
+ghost use Rattle.gql_place.specs.Join.{join as joined};
 ghost use Rattle.gql_engine.specs.ApartPlan.{place_here, places_here};
 
 use crate::occurrence::Occurrence;
-use crate::place::Place;
-use gql_base::{Made, Name, Pairs};
+use gql_base::{Items, Made, Name, Pairs};
+use gql_place::{Place, Tree, join};
 use std::alloc::Global;
+use std::mem;
 
 /// The members of an object: the places of its occurrences under their keys, those under one key joined.
 pub(crate) fn members_of(alloc: Global, occurrences: Vec<Occurrence<'_>>) -> Made<Pairs<Place>>
     ensures { IfOk result (λ members. members
-        ≡ unite_all join [] (places_here occurrences.entry.items)) }
+        ≡ unite_all joined [] (places_here occurrences.entry.items)) }
 {
     let mut members = Pairs::new(alloc);
     for occurrence in occurrences {
@@ -21,13 +22,13 @@ pub(crate) fn members_of(alloc: Global, occurrences: Vec<Occurrence<'_>>) -> Mad
 }
 
 fn add_place(alloc: Global, members: &mut Pairs<Place>, occurrence: Occurrence<'_>) -> Made<()>
-    ensures { OnOk result (members.new ≡ unite_all join members.old (place_here occurrence.entry)) }
+    ensures { OnOk result
+        (members.new ≡ unite_all joined members.old (place_here occurrence.entry)) }
 {
     let Occurrence {
         item,
         declared: _,
         env: _,
-        path: _,
         place,
     } = occurrence;
     match place {
@@ -41,18 +42,29 @@ fn add_place(alloc: Global, members: &mut Pairs<Place>, occurrence: Occurrence<'
     }
 }
 
-/// Adds a place under its key. A key that is there keeps its first place.
+/// Adds a place under its key, joined to the one that stands there, if any does.
+#[tactic(auto, using(gql_place::proofs::JoinStepLemmas::joined_alone))]
 fn unite_place(alloc: Global, members: &mut Pairs<Place>, key: &str, place: Place) -> Made<()>
-    ensures { OnOk result (members.new ≡ unite join members.old key.now place) }
+    ensures { OnOk result (members.new ≡ unite joined members.old key.now place) }
 {
-    if has_key(members, key) {
-        return Ok(());
+    match members.get_mut(key) {
+        Some(member) => join_onto(alloc, member, place),
+        None => members.add_fresh(Name::new(alloc, key)?, place),
     }
-    members.add(Name::new(alloc, key)?, place)
 }
 
-fn has_key(members: &Pairs<Place>, key: &str) -> bool
-    ensures { result ≡ is_some (under key.now members.now) }
+/// Joins a second place onto the first.
+fn join_onto(alloc: Global, first: &mut Place, second: Place) -> Made<()>
+    ensures { OnOk result (first.new ≡ joined first.old second) }
 {
-    members.get(key).is_some()
+    let nothing = Place {
+        pos: first.pos,
+        non_null: false,
+        added: Items::new(alloc),
+        headers: Items::new(alloc),
+        tree: Tree::Absent,
+    };
+    let whole = mem::replace(first, nothing);
+    *first = join(alloc, whole, second)?;
+    Ok(())
 }

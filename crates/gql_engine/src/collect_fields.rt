@@ -11,7 +11,7 @@ ghost use Rattle.gql_engine.specs.ApartPlan.{all_seen};
 use crate::apart_plan::ApartPlan;
 use crate::occurrence::Occurrence;
 use crate::scene::Scene;
-use gql_base::{Made, Pairs, PathSegment, Text};
+use gql_base::{Made, Pairs};
 use gql_doc::{Field, Positioned, Selection};
 use std::alloc::Global;
 
@@ -24,18 +24,18 @@ pub(crate) fn plan_of<'a, V: Drop>(alloc: Global, scene: &'a Scene<'a, V>) -> Ma
 {
     let mut occurrences = Vec::new(alloc);
     for selection in scene.env.operation.node.selection_set.node.items.as_slice() {
-        add_selection(alloc, scene, selection, &mut occurrences)?;
+        add_selection(scene, selection, &mut occurrences)?;
     }
     Ok(ApartPlan {
         scene,
         arguments: Pairs::new(alloc),
         occurrences,
+        path: Vec::new(alloc),
     })
 }
 
 /// Adds the occurrence of a selection that is a field.
 fn add_selection<'a, V: Drop>(
-    alloc: Global,
     scene: &'a Scene<'a, V>,
     selection: &'a Positioned<Selection>,
     occurrences: &mut Vec<Occurrence<'a>>,
@@ -48,7 +48,7 @@ fn add_selection<'a, V: Drop>(
         ++ asked scene.entry.now (field_here (out-Selection selection.entry.now.node))) }
 {
     match &selection.node {
-        Selection::Field(item) => add_occurrence(alloc, scene, item, occurrences),
+        Selection::Field(item) => add_occurrence(scene, item, occurrences),
         Selection::FragmentSpread(_) => Ok(()),
         Selection::InlineFragment(_) => Ok(()),
     }
@@ -56,7 +56,6 @@ fn add_selection<'a, V: Drop>(
 
 /// Adds the occurrence of a field, where the object has the field.
 fn add_occurrence<'a, V: Drop>(
-    alloc: Global,
     scene: &'a Scene<'a, V>,
     item: &'a Positioned<Field>,
     occurrences: &mut Vec<Occurrence<'a>>,
@@ -71,14 +70,10 @@ fn add_occurrence<'a, V: Drop>(
     match scene.object.get(item.node.name.node.as_str()) {
         None => Ok(()),
         Some(declared) => {
-            let key = Text::new(alloc, item.node.response_key().node.as_str())?;
-            let mut path = Vec::new(alloc);
-            path.push(PathSegment::Field(key))?;
             occurrences.push(Occurrence {
                 item,
                 declared,
                 env: scene.env,
-                path,
                 place: None,
             })?;
             Ok(())

@@ -3,11 +3,9 @@ ghost use Rattle.std.proofs.Props.{props};
 ghost use Rattle.gql_doc.specs.Depth.{field_set};
 ghost use Rattle.gql_request.specs.QueryEnv.{NestsIn};
 ghost use Rattle.gql_resolve.specs.Call.{is_mutation};
-ghost use Rattle.gql_engine.specs.Path.{path_of};
 
-use crate::place::Place;
-use gql_base::PathSegment;
 use gql_doc::{Field, Positioned};
+use gql_place::Place;
 use gql_request::QueryEnv;
 
 /// A field of the object where it stands in a query, and its place once it is answered.
@@ -16,9 +14,7 @@ pub struct Occurrence<'a> {
     pub item: &'a Positioned<Field>,
     pub declared: &'a gql_schema::Field,
     pub env: &'a QueryEnv,
-    pub path: Vec<PathSegment>,
     pub place: Option<Place>,
-    pub ghost on_path: { path.items ≡ path_of item.now },
     pub ghost query: { is_mutation env.now.operation.node.ty ≡ false },
     pub ghost nests: { NestsIn env.now (field_set item.now) } by { Prim.hlevel props },
 }

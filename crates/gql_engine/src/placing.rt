@@ -1,16 +1,15 @@
 ghost use Rattle.std.specs.Prelude.{◌≡◌, [], not, IfOk};
 ghost use Rattle.gql_base.specs.TypeRef.{is_nullable};
 ghost use Rattle.gql_schema.specs.Field.{field_type};
-ghost use Rattle.gql_engine.specs.Apart.{place_with, fill};
-ghost use Rattle.gql_engine.specs.Completion.{shape_put};
+ghost use Rattle.gql_engine.specs.Apart.{place_with};
+ghost use Rattle.gql_engine.specs.Completion.{tree_put};
 ghost use Rattle.gql_engine.specs.declared.given.Given.TheVariants as given_as;
 
-use crate::completion::{complete, shape_of_put};
+use crate::completion::{complete, tree_of_put};
 use crate::given::Given;
 use crate::occurrence::Occurrence;
-use crate::place::{Place, Tree};
-use crate::shape::Shape;
 use gql_base::{Error, Items, Made, Value};
+use gql_place::Place;
 use gql_resolve::Answer;
 use std::alloc::Global;
 
@@ -44,13 +43,12 @@ fn place_answer<V: Drop>(
         added,
         headers,
     } = answer;
-    let shape = complete(alloc, ty, result)?;
     Ok(Place {
         pos: occurrence.item.pos,
         non_null: !ty.is_nullable(),
         added,
         headers,
-        tree: tree_of(shape),
+        tree: complete(alloc, ty, result)?,
     })
 }
 
@@ -61,7 +59,7 @@ fn place_put(alloc: Global, occurrence: &Occurrence<'_>, put: Result<Option<Valu
       non_null = not (is_nullable (field_type occurrence.now.declared.now));
       added = [];
       headers = [];
-      tree = fill (shape_put put);
+      tree = tree_put put;
     } }
 {
     Place {
@@ -69,16 +67,6 @@ fn place_put(alloc: Global, occurrence: &Occurrence<'_>, put: Result<Option<Valu
         non_null: !occurrence.declared.ty().is_nullable(),
         added: Items::new(alloc),
         headers: Items::new(alloc),
-        tree: tree_of(shape_of_put(put)),
-    }
-}
-
-fn tree_of(shape: Shape) -> Tree
-    ensures { result ≡ fill shape }
-{
-    match shape {
-        Shape::Absent => Tree::Absent,
-        Shape::Leaf(value) => Tree::Leaf(value),
-        Shape::Fault(error) => Tree::Fault(error),
+        tree: tree_of_put(put),
     }
 }

@@ -25,9 +25,20 @@ pub trait Plan<V> {
     /// What is kept of what the task of a number was given.
     ghost holds: { Self → ℕ → Given V → Type 0 };
 
-    /// The context of a task's call.
+    /// That the path is the one of the task of a number. A plan has one path, and not one for each task.
+    ghost aims: { Self → ℕ → Type 0 };
+
+    /// Aims the path at a task. The tasks and what is kept of them stay, also where memory is wanting.
+    fn aim(&mut self, alloc: Global, number: usize) -> Made<()>
+        requires { number < length (tasks self.old) }
+        ensures stays { tasks self.new ≡ tasks self.old }
+        ensures keeps { (other : ℕ) (g : Given V) → holds self.old other g → holds self.new other g }
+        ensures aimed { OnOk result (aims self.new number) };
+
+    /// The context of the call of the task at which the path is aimed.
     fn context<'a>(&'a self, number: usize) -> ResolverContext<'a, V>
-        requires { number < length (tasks self.now) }
+        requires within { number < length (tasks self.now) }
+        requires aimed { aims self.now number }
         ensures { (task : Task) → slice_get (tasks self.now) number ≡ Some task
             → IsContextOf number (asks task) result };
 

@@ -13,7 +13,7 @@ use gql_base::Made;
 use gql_resolve::{ResolverSet, Turns};
 use std::alloc::Global;
 
-/// One turn: picks one of the tasks that wait, takes it up, and keeps its answer where it has one. True where a task has
+/// One turn: picks one of the tasks that wait, aims the plan at it, takes it up, and keeps its answer where it has one. True where a task has
 /// begun or has its answer.
 fn advance<R: ResolverSet, L: Plan<R::Own>, H: Rounds<R::Own>, P: Turns>(
     alloc: Global,
@@ -39,6 +39,7 @@ fn advance<R: ResolverSet, L: Plan<R::Own>, H: Rounds<R::Own>, P: Turns>(
     ensures still { result ≡ Ok false → arena.new.waiting ≡ arena.old.waiting }
 {
     let picked = pick_task(arena, turns);
+    plan.aim(alloc, picked.number)?;
     let turn = {
         let context = plan.context(picked.number);
         take_turn(

@@ -4,7 +4,8 @@ ghost use Rattle.gql_resolve.specs.Lawful.{plain_answer};
 ghost use Rattle.gql_resolve.specs.Call.{call_of};
 ghost use Rattle.gql_engine.specs.Pace.{TurnPaced};
 ghost use Rattle.gql_engine.specs.Parts.{due_by, delay_by};
-ghost use Rattle.gql_engine.specs.Turn.{BeginsAtMost, IsOpen, TurnOf, AnswersRightly, told_by_turn, begins_now};
+ghost use Rattle.gql_engine.specs.Turn.{BeginsAtMost, EntersAtMost, IsNoPut, IsOpen, PutKeeps, TurnOf, AnswersRightly};
+ghost use Rattle.gql_engine.specs.Turn.{told_by_turn, begins_now, enters_now};
 
 use crate::arena::{State, Turn};
 use crate::given::Given;
@@ -13,8 +14,8 @@ use gql_base::{Items, Made};
 use gql_resolve::{Answer, FieldFuture, FieldValue, Polled, ResolverContext, ResolverSet};
 use std::alloc::Global;
 
-#[tactic(auto, using(crate::proofs::RecordLemmas::with_more_none))]
 /// Takes up a task: begins it where it is fresh, and polls its future.
+#[tactic(auto, using(crate::proofs::RecordLemmas::with_more_none))]
 pub fn take_turn<R: ResolverSet, H: Rounds<R::Own>>(
     alloc: Global,
     resolvers: &mut R,
@@ -25,10 +26,15 @@ pub fn take_turn<R: ResolverSet, H: Rounds<R::Own>>(
     requires { IsOpen R.is_for (call_of context.now) state.old }
     ensures rules { R.rules resolvers.new ≡ R.rules resolvers.old }
     ensures promise { IfOk result
-        (TurnOf R.is_for R.number (call_of context.now) state.old state.new) }
+        (TurnOf R.ResolverSet (call_of context.now) state.old state.new) }
     ensures lawful { R.is_lawful resolvers.old → R.is_lawful resolvers.new }
     ensures world { R.is_lawful resolvers.old → R.world resolvers.new ≡ R.world resolvers.old }
     ensures quiet { H.are_quiet hooks.old → H.are_quiet hooks.new }
+    ensures entered { OnOk result (H.told hooks.new
+        ≡ with_more (H.told hooks.old) (enters_now (H.entered context.now) state.old)) }
+    ensures unentered { OnErr result
+        (EntersAtMost (H.entered context.now) (H.told hooks.old) (H.told hooks.new)) }
+    ensures put { PutKeeps resolvers.old resolvers.new result }
     ensures answer { R.is_lawful resolvers.old → H.are_quiet hooks.old → AnswersRightly
         (due_by R.ResolverSet resolvers.old (call_of context.now)) result }
     ensures pace { R.is_paced resolvers.old → R.is_paced resolvers.new }
@@ -53,6 +59,7 @@ pub fn take_turn<R: ResolverSet, H: Rounds<R::Own>>(
 }
 
 /// The first turn of a task: the hooks, the start, and the first poll of a future.
+#[tactic(auto, using(crate::proofs::RecordLemmas::with_more_none, crate::proofs::GivenLemmas::no_put))]
 fn begin<R: ResolverSet, H: Rounds<R::Own>>(
     alloc: Global,
     resolvers: &mut R,
@@ -62,10 +69,15 @@ fn begin<R: ResolverSet, H: Rounds<R::Own>>(
 ) -> Made<Turn<R::Own>>
     ensures rules { R.rules resolvers.new ≡ R.rules resolvers.old }
     ensures promise { IfOk result
-        (TurnOf R.is_for R.number (call_of context.now) State.Fresh state.new) }
+        (TurnOf R.ResolverSet (call_of context.now) State.Fresh state.new) }
     ensures lawful { R.is_lawful resolvers.old → R.is_lawful resolvers.new }
     ensures world { R.is_lawful resolvers.old → R.world resolvers.new ≡ R.world resolvers.old }
     ensures quiet { H.are_quiet hooks.old → H.are_quiet hooks.new }
+    ensures entered { OnOk result
+        (H.told hooks.new ≡ with_more (H.told hooks.old) (H.entered context.now ∷ [])) }
+    ensures unentered { OnErr result
+        (EntersAtMost (H.entered context.now) (H.told hooks.old) (H.told hooks.new)) }
+    ensures put { PutKeeps resolvers.old resolvers.new result }
     ensures answer { R.is_lawful resolvers.old → H.are_quiet hooks.old → AnswersRightly
         (due_by R.ResolverSet resolvers.old (call_of context.now)) result }
     ensures pace { R.is_paced resolvers.old → R.is_paced resolvers.new }
@@ -99,9 +111,10 @@ fn poll_first<R: ResolverSet>(
     context: &ResolverContext<'_, R::Own>,
 ) -> Made<Turn<R::Own>>
     requires { R.is_for future (call_of context.now) }
+    ensures put { IfOk result (λ given. IsNoPut given) }
     ensures rules { R.rules resolvers.new ≡ R.rules resolvers.old }
     ensures promise { IfOk result
-        (TurnOf R.is_for R.number (call_of context.now) State.Fresh state.new) }
+        (TurnOf R.ResolverSet (call_of context.now) State.Fresh state.new) }
     ensures lawful { R.is_lawful resolvers.old → R.is_lawful resolvers.new }
     ensures world { R.is_lawful resolvers.old → R.world resolvers.new ≡ R.world resolvers.old }
     ensures answer { R.is_lawful resolvers.old → AnswersRightly

@@ -114,7 +114,7 @@ const COLOURS: [EnumItem<Colour>; 2] = [
 
 impl EnumType for Colour {
     ghost use Rattle.std.specs.Prelude.{[], ◌∷◌, codes};
-    ghost use Rattle.gql_input.specs.declared.input_tests.Colour.TheVariants.{Red, Green};
+    ghost use Rattle.gql_input_tests.specs.declared.input_type_tests.Colour.TheVariants.{Red, Green};
 
     ghost listed = { (codes "RED", Red) ∷ (codes "GREEN", Green) ∷ [] };
 
@@ -126,8 +126,8 @@ impl EnumType for Colour {
 impl InputType for Colour {
     ghost use Rattle.std.specs.Prelude.{[], ◌∷◌, Some, codes};
     ghost use Rattle.gql_base.specs.declared.value.Value.TheVariants as value;
-    ghost use Rattle.gql_input.specs.declared.input_tests.Colour.{Colour as OneColour};
-    ghost use Rattle.gql_input.specs.declared.input_tests.Colour.TheVariants.{Red, Green};
+    ghost use Rattle.gql_input_tests.specs.declared.input_type_tests.Colour.{Colour as OneColour};
+    ghost use Rattle.gql_input_tests.specs.declared.input_type_tests.Colour.TheVariants.{Red, Green};
     ghost use Rattle.gql_input.specs.EnumType.{read_enum};
     ghost use Rattle.gql_input.specs.InputType.{or_null};
 

@@ -4,3 +4,4 @@ pub mod DataLemmas
 pub mod NestLemmas
 pub mod BatchLemmas
 pub mod ResponseLemmas
+pub mod SendLemmas

@@ -15,6 +15,7 @@ mod query_path_node;
 mod reading;
 mod request;
 mod response;
+mod shared;
 
 pub use batch_request::{BatchRequest, Requests};
 pub use batch_response::BatchResponse;

@@ -10,4 +10,5 @@ mod NameSetLemmas
 mod PossibleLemmas
 mod RankLemmas
 mod ReachLemmas
+pub mod SendLemmas
 mod SoundLemmas

@@ -3,7 +3,7 @@
 --   1 a name isn't registered; 2 a type stands where its kind can't; 3 a non-null of a non-null; 4 a field of a oneof input object isn't
 --   nullable, or has a default; 5 an object lacks what an interface promises; 6 a member of a union is no object; 7 an input object
 --   contains itself; 8 a name isn't supported; 9 a default doesn't fit.
-use Rattle.std.specs.Prelude.{ℕ, Bool, true, false, ◌&&◌, ◌||◌, not, List, [], ◌∷◌, Option, Some, None, is_some, if◌then◌else◌}
+use Rattle.std.specs.Prelude.{ℕ, Bool, true, false, ◌&&◌, ◌||◌, not, List, [], ◌∷◌, Option, Some, None, Result, IfOk, is_some, ◌≡◌, if◌then◌else◌}
 use Rattle.std.specs.List.{list_all}
 use Rattle.std.specs.Option.{option_or}
 use Rattle.gql_base.specs.Pairs.{under}
@@ -44,6 +44,10 @@ abbrev pub first_found : {A B : Type 0} → (A → Option B) → List A → Opti
 first_found fault [] = None
 first_found fault (x ∷ xs) = option_or (fault x) (first_found fault xs)
 
+-- what a check answers where there is memory enough: this fault, or none
+abbrev pub Tells : {E : Type 0} → Result (Option SchemaError) E → Option SchemaError → Type 0
+Tells answer fault = IfOk answer (λ found. found ≡ fault)
+
 abbrev pub fault_if : Bool → ℕ → List ℕ → Option SchemaError
 fault_if broken rule text = if broken then Some (record { rule = rule; text = text }) else None
 
@@ -69,11 +73,13 @@ misplaced_fault misplaced name = fault_if misplaced 2 (misplaced_text name)
 abbrev pub doubled_fault : TypeRef → Option SchemaError
 doubled_fault ty = fault_if (is_doubled ty) 3 (doubled_text (type_text ty))
 
+-- the rules on a type of a known name, which may stand where its kind can't
+abbrev pub kind_fault : Bool → TypeRef → Option SchemaError
+kind_fault misplaced ty = option_or (misplaced_fault misplaced (innermost ty)) (doubled_fault ty)
+
 -- the rules on a type at a place, where some kinds can't stand
 abbrev pub type_fault : TypeTable → (Option SchemaType → Bool) → TypeRef → Option SchemaError
-type_fault table misplaced ty =
-    option_or (name_fault table (innermost ty))
-    (option_or (misplaced_fault (misplaced (under (innermost ty) table)) (innermost ty)) (doubled_fault ty))
+type_fault table misplaced ty = option_or (name_fault table (innermost ty)) (kind_fault (misplaced (under (innermost ty) table)) ty)
 
 abbrev pub output_fault : TypeTable → TypeRef → Option SchemaError
 output_fault table ty = type_fault table is_no_output ty

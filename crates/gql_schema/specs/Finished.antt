@@ -1,5 +1,5 @@
 -- What finishing a table gives.
-use Rattle.std.specs.Prelude.{◌≡◌, ℕ, Bool, ◌||◌, false, List, codes, length, take, Result, Ok, Err}
+use Rattle.std.specs.Prelude.{◌≡◌, ℕ, Bool, ◌||◌, false, List, codes, length, take, Result, Ok, Err, IfOk}
 use Rattle.std.specs.Str.{bytes_eq}
 use Rattle.gql_base.specs.Pairs.{under, names_of}
 use Rattle.gql_schema.specs.Sound.{IsFirstRefusal, IsSound}
@@ -21,3 +21,7 @@ is_built_in name = bytes_eq name (codes "Int") || bytes_eq name (codes "String")
 pub record KeepsOthers (table finished : TypeTable) : Type 0 where
   pub places : take (length table) (names_of finished) ≡ names_of table
   pub types : (name : List ℕ) → is_built_in name ≡ false → under name finished ≡ under name table
+
+-- where a table is finished, it keeps what it had
+abbrev pub KeepsTypes : TypeTable → Result Types SchemaError → Type 0
+KeepsTypes table finished = IfOk finished (λ types. KeepsOthers table (types_of types))

@@ -158,6 +158,20 @@ fitting_member table (name, value) = (name, fitting table value)
 abbrev pub fittings : TypeTable → List (List ℕ × Value) → List (List ℕ × Fitting)
 fittings table members = map (fitting_member table) members
 
+-- whether a value fits a field of an input object, if there is the field, and whether it is no null either
+abbrev pub fits_field : TypeTable → Value → Option InputValue → Bool
+fits_field table value field = fits_declared table (fitting table value) field
+
+abbrev pub fills_field : TypeTable → Value → Option InputValue → Bool
+fills_field table value field = is_non_null (fitting table value) field
+
+-- whether an input object declares these members with values that fit, and whether an object of them fits it
+abbrev pub declares : TypeTable → InputObject → List (List ℕ × Value) → Bool
+declares table input members = are_declared table input (fittings table members)
+
+abbrev pub fits_members : TypeTable → InputObject → List (List ℕ × Value) → Bool
+fits_members table input members = fits_input table input (fittings table members)
+
 -- whether each of these values fits
 abbrev pub all_fit : TypeTable → List Value → TypeRef → Bool
 all_fit table values ty = list_all (λ f. f.at ty) (map (fitting table) values)

@@ -7,6 +7,7 @@ use Rattle.gql_schema.specs.InputObject.{input_fields}
 use Rattle.gql_schema.specs.NameSet.{is_among}
 use Rattle.gql_schema.specs.Sound.{needed_by, needed_name}
 use Rattle.gql_schema.specs.TableReading.{TypeTable}
+use Rattle.gql_schema.specs.declared.input_object.InputObject.{InputObject}
 use Rattle.gql_schema.specs.declared.input_value.InputValue.{InputValue}
 use Rattle.gql_schema.specs.declared.schema_type.SchemaType.{SchemaType}
 use Rattle.gql_schema.specs.declared.schema_type.SchemaType.TheVariants as types
@@ -28,9 +29,12 @@ is_low table ranks most (Some name) = nat_le (rank_of table ranks name) most
 abbrev pub is_low_field : TypeTable → List ℕ → ℕ → List ℕ × InputValue → Bool
 is_low_field table ranks most field = is_low table ranks most (needed_name field)
 
+abbrev pub has_low_fields : TypeTable → List ℕ → ℕ → InputObject → Bool
+has_low_fields table ranks most input = list_all (is_low_field table ranks most) (input_fields input)
+
 -- whether all that an input object can't do without has at most this number
 abbrev pub needs_low : TypeTable → List ℕ → ℕ → Option SchemaType → Bool
-needs_low table ranks most (Some (types.InputObject input)) = list_all (is_low_field table ranks most) (input_fields input)
+needs_low table ranks most (Some (types.InputObject input)) = has_low_fields table ranks most input
 needs_low table ranks most _ = true
 
 abbrev pub is_ranked : TypeTable → List ℕ → List ℕ × SchemaType → Bool

@@ -50,9 +50,13 @@ pub data Reaches (table : TypeTable) (start : List ℕ) : List ℕ → Type 0 wh
   at_once : (to : List ℕ) → is_among to (needed_by table start) ≡ true → Reaches table start to
   further : (via to : List ℕ) → Reaches table start via → is_among to (needed_by table via) ≡ true → Reaches table start to
 
+-- a value of the input object needs one of itself
+abbrev pub NeedsItself : TypeTable → List ℕ → Type 0
+NeedsItself table name = Reaches table name name
+
 -- an input object that contains itself: no value of it is finite
 abbrev pub ContainsItself : TypeTable → SchemaType → Type 0
-ContainsItself table (types.InputObject input) = Reaches table (input_object_name input) (input_object_name input)
+ContainsItself table (types.InputObject input) = NeedsItself table (input_object_name input)
 ContainsItself table _ = ⊥
 
 -- the first fault of a type, or none

@@ -1,6 +1,6 @@
 //! The rules of a whole type: its name's, then those of its parts in their order.
-ghost use Rattle.std.specs.Prelude.{◌≡◌, IfOk};
-ghost use Rattle.gql_schema.specs.Faults.{event_fields_fault, fault_of, input_field_fault, input_fields_fault};
+ghost use Rattle.std.specs.Prelude.{IfOk};
+ghost use Rattle.gql_schema.specs.Faults.{Tells, event_fields_fault, fault_of, input_field_fault, input_fields_fault};
 ghost use Rattle.gql_schema.specs.Faults.{input_object_fault, input_rest_fault, interfaces_fault, member_fault, members_fault};
 ghost use Rattle.gql_schema.specs.Faults.{object_fault, object_fields_fault, oneof_fault, parts_fault, promised_fields_fault};
 ghost use Rattle.gql_schema.specs.Ranks.{AreRanks};
@@ -27,7 +27,7 @@ use std::alloc::Global;
 
 /// The first fault of an object's fields.
 fn check_object_fields(alloc: Global, types: &Types, object: &Object) -> Made<Option<SchemaError>>
-    ensures { IfOk result (λ found. found ≡ object_fields_fault (types_of types.now) object.now) }
+    ensures { Tells result (object_fields_fault (types_of types.now) object.now) }
 {
     for place in 0..object.len() {
         let (_, field) = object.entry(place);
@@ -48,7 +48,7 @@ fn check_object_fields(alloc: Global, types: &Types, object: &Object) -> Made<Op
 
 /// The first fault of the interfaces that an object implements.
 fn check_interfaces(alloc: Global, types: &Types, object: &Object) -> Made<Option<SchemaError>>
-    ensures { IfOk result (λ found. found ≡ interfaces_fault (types_of types.now) object.now) }
+    ensures { Tells result (interfaces_fault (types_of types.now) object.now) }
 {
     let interfaces = object.interfaces();
     for place in 0..interfaces.len() {
@@ -61,7 +61,7 @@ fn check_interfaces(alloc: Global, types: &Types, object: &Object) -> Made<Optio
 }
 
 fn check_object(alloc: Global, types: &Types, object: &Object) -> Made<Option<SchemaError>>
-    ensures { IfOk result (λ found. found ≡ object_fault (types_of types.now) object.now) }
+    ensures { Tells result (object_fault (types_of types.now) object.now) }
 {
     match check_object_fields(alloc, types, object)? {
         Some(fault) => Ok(Some(fault)),
@@ -71,7 +71,7 @@ fn check_object(alloc: Global, types: &Types, object: &Object) -> Made<Option<Sc
 
 /// The first fault of an interface's fields.
 fn check_interface(alloc: Global, types: &Types, interface: &Interface) -> Made<Option<SchemaError>>
-    ensures { IfOk result (λ found. found ≡ promised_fields_fault (types_of types.now) interface.now) }
+    ensures { Tells result (promised_fields_fault (types_of types.now) interface.now) }
 {
     for place in 0..interface.len() {
         let (_, field) = interface.entry(place);
@@ -96,7 +96,7 @@ fn check_subscription(
     types: &Types,
     subscription: &Subscription,
 ) -> Made<Option<SchemaError>>
-    ensures { IfOk result (λ found. found ≡ event_fields_fault (types_of types.now) subscription.now) }
+    ensures { Tells result (event_fields_fault (types_of types.now) subscription.now) }
 {
     for place in 0..subscription.len() {
         let (_, field) = subscription.entry(place);
@@ -121,7 +121,7 @@ fn check_member(
     union_type: &Union,
     name: &str,
 ) -> Made<Option<SchemaError>>
-    ensures { IfOk result (λ found. found ≡ member_fault (types_of types.now) union_type.now name.now) }
+    ensures { Tells result (member_fault (types_of types.now) union_type.now name.now) }
 {
     if let Some(fault) = check_name(alloc, types, name)? {
         return Ok(Some(fault));
@@ -142,7 +142,7 @@ fn check_member(
 
 /// The first fault of a union's members.
 fn check_union(alloc: Global, types: &Types, union_type: &Union) -> Made<Option<SchemaError>>
-    ensures { IfOk result (λ found. found ≡ members_fault (types_of types.now) union_type.now) }
+    ensures { Tells result (members_fault (types_of types.now) union_type.now) }
 {
     let members = union_type.members();
     for place in 0..members.len() {
@@ -156,7 +156,7 @@ fn check_union(alloc: Global, types: &Types, union_type: &Union) -> Made<Option<
 }
 
 fn check_oneof(alloc: Global, input: &InputObject, field: &InputValue) -> Made<Option<SchemaError>>
-    ensures { IfOk result (λ found. found ≡ oneof_fault input.now field.now) }
+    ensures { Tells result (oneof_fault input.now field.now) }
 {
     let path = join_names(alloc, input.type_name(), field.name())?;
     let required = input.is_oneof() && !field.ty().is_nullable();
@@ -189,7 +189,7 @@ fn check_input_rest(
     input: &InputObject,
     field: &InputValue,
 ) -> Made<Option<SchemaError>>
-    ensures { IfOk result (λ found. found ≡ input_rest_fault (types_of types.now) input.now field.now) }
+    ensures { Tells result (input_rest_fault (types_of types.now) input.now field.now) }
 {
     match check_oneof(alloc, input, field)? {
         Some(fault) => Ok(Some(fault)),
@@ -203,7 +203,7 @@ fn check_input_field(
     input: &InputObject,
     field: &InputValue,
 ) -> Made<Option<SchemaError>>
-    ensures { IfOk result (λ found. found ≡ input_field_fault (types_of types.now) input.now field.now) }
+    ensures { Tells result (input_field_fault (types_of types.now) input.now field.now) }
 {
     match check_input(alloc, types, field.ty())? {
         Some(fault) => Ok(Some(fault)),
@@ -217,7 +217,7 @@ fn check_input_fields(
     types: &Types,
     input: &InputObject,
 ) -> Made<Option<SchemaError>>
-    ensures { IfOk result (λ found. found ≡ input_fields_fault (types_of types.now) input.now) }
+    ensures { Tells result (input_fields_fault (types_of types.now) input.now) }
 {
     for place in 0..input.len() {
         let (_, field) = input.entry(place);
@@ -236,7 +236,7 @@ fn check_input_object(
     contains: bool,
     input: &InputObject,
 ) -> Made<Option<SchemaError>>
-    ensures { IfOk result (λ found. found ≡ input_object_fault (types_of types.now) contains input.now) }
+    ensures { Tells result (input_object_fault (types_of types.now) contains input.now) }
 {
     match fault_where(
         alloc,
@@ -258,7 +258,7 @@ fn check_parts(
     contains: bool,
     ty: &SchemaType,
 ) -> Made<Option<SchemaError>>
-    ensures { IfOk result (λ found. found ≡ parts_fault (types_of types.now) contains ty.now) }
+    ensures { Tells result (parts_fault (types_of types.now) contains ty.now) }
 {
     match ty {
         SchemaType::Object(object) => check_object(alloc, types, object),
@@ -276,7 +276,7 @@ fn check_known(
     contains: bool,
     ty: &SchemaType,
 ) -> Made<Option<SchemaError>>
-    ensures { IfOk result (λ found. found ≡ fault_of (types_of types.now) contains ty.now) }
+    ensures { Tells result (fault_of (types_of types.now) contains ty.now) }
 {
     match check_support(alloc, ty.name())? {
         Some(fault) => Ok(Some(fault)),
@@ -306,6 +306,8 @@ pub fn first_refusal(alloc: Global, types: &Types) -> Made<Option<SchemaError>>
     first_fault(alloc, types, ranks.as_slice())
 }
 
+/// The fault of the first type that has one, or none, over numbers of the types.
+#[tactic(auto, using(crate::proofs::SoundLemmas::free_more, crate::proofs::SoundLemmas::refuses_here))]
 fn first_fault(alloc: Global, types: &Types, ranks: &[usize]) -> Made<Option<SchemaError>>
     requires { AreRanks (types_of types.now) ranks.now }
     ensures { IfOk result (λ found. IsFaultOfAll (types_of types.now) found) }

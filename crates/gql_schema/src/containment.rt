@@ -4,7 +4,7 @@ ghost use Rattle.std.specs.Bool.{Decides};
 ghost use Rattle.std.specs.Option.{option_copied};
 ghost use Rattle.gql_schema.specs.NameSet.{with_names, with_optional};
 ghost use Rattle.gql_schema.specs.Ranks.{AreRanks};
-ghost use Rattle.gql_schema.specs.Sound.{ContainsItself, Reaches, needed_in, needed_names, needed_of};
+ghost use Rattle.gql_schema.specs.Sound.{ContainsItself, NeedsItself, needed_in, needed_names, needed_of};
 ghost use Rattle.gql_schema.specs.Table.{types_of};
 
 use crate::input_object::InputObject;
@@ -36,7 +36,7 @@ pub fn type_contains_itself(
 #[tactic(auto, using(crate::proofs::RankLemmas::falls_free))]
 fn contains_itself(alloc: Global, types: &Types, ranks: &[usize], start: &str) -> Made<bool>
     requires { AreRanks (types_of types.now) ranks.now }
-    ensures { IfOk result (λ contains. Decides contains (Reaches (types_of types.now) start.now start.now)) }
+    ensures { IfOk result (λ contains. Decides contains (NeedsItself (types_of types.now) start.now)) }
 {
     let own = rank_of(types, ranks, start);
     if own > 0 && needs_at_most(types, ranks, own - 1, types.get(start)) {
@@ -47,7 +47,7 @@ fn contains_itself(alloc: Global, types: &Types, ranks: &[usize], start: &str) -
 
 /// True exactly where a value of the input object needs one of itself. The walk enters each input object once.
 fn reaches_itself(alloc: Global, types: &Types, start: &str) -> Made<bool>
-    ensures { IfOk result (λ contains. Decides contains (Reaches (types_of types.now) start.now start.now)) }
+    ensures { IfOk result (λ contains. Decides contains (NeedsItself (types_of types.now) start.now)) }
 {
     let mut reached = NameSet::new(alloc);
     add_needed(alloc, &mut reached, types.get(start))?;

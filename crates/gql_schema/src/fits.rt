@@ -1,8 +1,8 @@
 ghost use Rattle.std.specs.Prelude.{◌≡◌};
 ghost use Rattle.std.specs.Option.{option_copied};
-ghost use Rattle.gql_schema.specs.Fits.{all_fit, are_declared, are_given, fits, fits_declared, fits_input, fits_whole, fitting};
-ghost use Rattle.gql_schema.specs.Fits.{fittings, has_number, is_doubled, is_given, is_input_type, is_item, is_known_input};
-ghost use Rattle.gql_schema.specs.Fits.{is_non_null, is_one, is_unsupported, item_type, nullable_of};
+ghost use Rattle.gql_schema.specs.Fits.{all_fit, are_given, declares, fills_field, fits, fits_field, fits_members};
+ghost use Rattle.gql_schema.specs.Fits.{fits_whole, fitting, fittings, has_number, is_doubled, is_given, is_input_type};
+ghost use Rattle.gql_schema.specs.Fits.{is_item, is_known_input, is_one, is_unsupported, item_type, nullable_of};
 ghost use Rattle.gql_schema.specs.ScalarRule.{bare_of};
 ghost use Rattle.gql_schema.specs.Table.{types_of};
 
@@ -49,7 +49,7 @@ fn items_fit(items: &[Value], item: &TypeRef, types: &Types) -> bool
 /// True exactly where an object with these members fits an input object.
 #[cycle(fitting)]
 fn members_fit(members: &Pairs<Value>, input: &InputObject, types: &Types) -> bool
-    ensures { result ≡ fits_input (types_of types.now) input.now (fittings (types_of types.now) members.now) }
+    ensures { result ≡ fits_members (types_of types.now) input.now members.now }
 {
     if !members_are_declared(members, input, types) {
         return false;
@@ -62,7 +62,7 @@ fn members_fit(members: &Pairs<Value>, input: &InputObject, types: &Types) -> bo
 
 #[cycle(fitting)]
 fn members_are_declared(members: &Pairs<Value>, input: &InputObject, types: &Types) -> bool
-    ensures { result ≡ are_declared (types_of types.now) input.now (fittings (types_of types.now) members.now) }
+    ensures { result ≡ declares (types_of types.now) input.now members.now }
 {
     for place in 0..members.len() {
         let (name, value) = members.at(place);
@@ -75,7 +75,7 @@ fn members_are_declared(members: &Pairs<Value>, input: &InputObject, types: &Typ
 
 #[cycle(fitting)]
 fn member_fits(value: &Value, declared: Option<&InputValue>, types: &Types) -> bool
-    ensures { result ≡ fits_declared (types_of types.now) (fitting (types_of types.now) value.now) (option_copied declared.entry) }
+    ensures { result ≡ fits_field (types_of types.now) value.now (option_copied declared.entry) }
 {
     match declared {
         Some(input) => stands_at_inputs(types, input.ty()) && value_fits(value, input.ty(), types),
@@ -108,7 +108,7 @@ fn is_one_member(members: &Pairs<Value>, input: &InputObject, types: &Types) -> 
 
 #[cycle(fitting)]
 fn is_non_null_member(value: &Value, declared: Option<&InputValue>, types: &Types) -> bool
-    ensures { result ≡ is_non_null (fitting (types_of types.now) value.now) (option_copied declared.entry) }
+    ensures { result ≡ fills_field (types_of types.now) value.now (option_copied declared.entry) }
 {
     match declared {
         Some(input) => match value {

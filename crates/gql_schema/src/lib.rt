@@ -28,6 +28,7 @@ mod scalar;
 mod scalar_rule;
 mod schema_error;
 mod schema_type;
+mod shared;
 mod subscription;
 mod subscription_field;
 mod texts;

@@ -1,9 +1,8 @@
 //! The rules at single places: names, types, arguments and defaults.
-ghost use Rattle.std.specs.Prelude.{◌≡◌, IfOk};
-ghost use Rattle.std.specs.Option.{option_copied, option_or};
-ghost use Rattle.gql_base.specs.TypeRef.{innermost};
-ghost use Rattle.gql_schema.specs.Faults.{argument_fault, arguments_fault, default_fault, doubled_fault, field_fault, input_fault};
-ghost use Rattle.gql_schema.specs.Faults.{is_no_output, misplaced_fault, name_fault, output_fault, unsupported_fault};
+ghost use Rattle.std.specs.Prelude.{◌≡◌};
+ghost use Rattle.std.specs.Option.{option_copied};
+ghost use Rattle.gql_schema.specs.Faults.{Tells, argument_fault, arguments_fault, default_fault, doubled_fault, field_fault, input_fault};
+ghost use Rattle.gql_schema.specs.Faults.{is_no_output, kind_fault, misplaced_fault, name_fault, output_fault, unsupported_fault};
 ghost use Rattle.gql_schema.specs.Table.{types_of};
 
 use crate::by_name::ByName;
@@ -18,7 +17,7 @@ use std::alloc::Global;
 
 /// The fault of a name that no type may have.
 pub fn check_support(alloc: Global, name: &str) -> Made<Option<SchemaError>>
-    ensures { IfOk result (λ found. found ≡ unsupported_fault name.now) }
+    ensures { Tells result (unsupported_fault name.now) }
 {
     fault_where(
         alloc,
@@ -32,7 +31,7 @@ pub fn check_support(alloc: Global, name: &str) -> Made<Option<SchemaError>>
 
 /// The first fault of a name that is used as a type's.
 pub fn check_name(alloc: Global, types: &Types, name: &str) -> Made<Option<SchemaError>>
-    ensures { IfOk result (λ found. found ≡ name_fault (types_of types.now) name.now) }
+    ensures { Tells result (name_fault (types_of types.now) name.now) }
 {
     match check_support(alloc, name)? {
         Some(fault) => Ok(Some(fault)),
@@ -49,7 +48,7 @@ pub fn check_name(alloc: Global, types: &Types, name: &str) -> Made<Option<Schem
 
 /// The fault of a type of a kind that can't stand at its place.
 pub fn check_place(alloc: Global, misplaced: bool, name: &str) -> Made<Option<SchemaError>>
-    ensures { IfOk result (λ found. found ≡ misplaced_fault misplaced name.now) }
+    ensures { Tells result (misplaced_fault misplaced name.now) }
 {
     fault_where(
         alloc,
@@ -62,7 +61,7 @@ pub fn check_place(alloc: Global, misplaced: bool, name: &str) -> Made<Option<Sc
 }
 
 fn check_doubled(alloc: Global, ty: &TypeRef) -> Made<Option<SchemaError>>
-    ensures { IfOk result (λ found. found ≡ doubled_fault ty.now) }
+    ensures { Tells result (doubled_fault ty.now) }
 {
     if !is_doubly_non_null(ty) {
         return Ok(None);
@@ -79,7 +78,7 @@ fn check_doubled(alloc: Global, ty: &TypeRef) -> Made<Option<SchemaError>>
 }
 
 fn check_kind(alloc: Global, misplaced: bool, ty: &TypeRef) -> Made<Option<SchemaError>>
-    ensures { IfOk result (λ found. found ≡ option_or (misplaced_fault misplaced (innermost ty.now)) (doubled_fault ty.now)) }
+    ensures { Tells result (kind_fault misplaced ty.now) }
 {
     match check_place(alloc, misplaced, ty.type_name())? {
         Some(fault) => Ok(Some(fault)),
@@ -99,7 +98,7 @@ fn is_input_only(ty: Option<&SchemaType>) -> bool
 
 /// The first fault of a type at an output.
 pub fn check_output(alloc: Global, types: &Types, ty: &TypeRef) -> Made<Option<SchemaError>>
-    ensures { IfOk result (λ found. found ≡ output_fault (types_of types.now) ty.now) }
+    ensures { Tells result (output_fault (types_of types.now) ty.now) }
 {
     match check_name(alloc, types, ty.type_name())? {
         Some(fault) => Ok(Some(fault)),
@@ -109,7 +108,7 @@ pub fn check_output(alloc: Global, types: &Types, ty: &TypeRef) -> Made<Option<S
 
 /// The first fault of a type at an input.
 pub fn check_input(alloc: Global, types: &Types, ty: &TypeRef) -> Made<Option<SchemaError>>
-    ensures { IfOk result (λ found. found ≡ input_fault (types_of types.now) ty.now) }
+    ensures { Tells result (input_fault (types_of types.now) ty.now) }
 {
     match check_name(alloc, types, ty.type_name())? {
         Some(fault) => Ok(Some(fault)),
@@ -124,7 +123,7 @@ pub fn check_default(
     owner: &str,
     input: &InputValue,
 ) -> Made<Option<SchemaError>>
-    ensures { IfOk result (λ found. found ≡ default_fault (types_of types.now) owner.now input.now) }
+    ensures { Tells result (default_fault (types_of types.now) owner.now input.now) }
 {
     match input.default() {
         None => Ok(None),
@@ -151,7 +150,7 @@ fn check_argument(
     owner: &str,
     input: &InputValue,
 ) -> Made<Option<SchemaError>>
-    ensures { IfOk result (λ found. found ≡ argument_fault (types_of types.now) owner.now input.now) }
+    ensures { Tells result (argument_fault (types_of types.now) owner.now input.now) }
 {
     match check_input(alloc, types, input.ty())? {
         Some(fault) => Ok(Some(fault)),
@@ -165,7 +164,7 @@ fn check_arguments(
     owner: &str,
     arguments: &ByName<InputValue>,
 ) -> Made<Option<SchemaError>>
-    ensures { IfOk result (λ found. found ≡ arguments_fault (types_of types.now) owner.now arguments.now) }
+    ensures { Tells result (arguments_fault (types_of types.now) owner.now arguments.now) }
 {
     for place in 0..arguments.len() {
         let (_, argument) = arguments.at(place);
@@ -186,7 +185,7 @@ pub fn check_field(
     ty: &TypeRef,
     arguments: &ByName<InputValue>,
 ) -> Made<Option<SchemaError>>
-    ensures { IfOk result (λ found. found ≡ field_fault (types_of types.now) owner.now name.now ty.now arguments.now) }
+    ensures { Tells result (field_fault (types_of types.now) owner.now name.now ty.now arguments.now) }
 {
     match check_output(alloc, types, ty)? {
         Some(fault) => Ok(Some(fault)),

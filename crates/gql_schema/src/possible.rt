@@ -17,11 +17,11 @@ use std::alloc::Global;
 
 impl Types {
     /// The field of this name of an object, an interface or a subscription, or none where there is no such type or field.
-    pub fn field(&self, type_name: &str, field_name: &str) -> Option<DeclaredField<'_>>
-        ensures { option_map declared_behind result ≡ field (types_of self.now) type_name.now field_name.now }
+    pub fn field(&self, owner: &str, name: &str) -> Option<DeclaredField<'_>>
+        ensures { option_map declared_behind result ≡ field (types_of self.now) owner.now name.now }
     {
-        let ty = self.get(type_name)?;
-        ty.declared(field_name)
+        let ty = self.get(owner)?;
+        ty.declared(name)
     }
 
     /// True exactly where the object is one that the type can be. No type is gone through.
@@ -55,7 +55,7 @@ fn can_be_object(types: &Types, type_name: &str, name: &str, ty: &SchemaType) ->
 }
 
 /// Adds a name that isn't there, where it is chosen.
-pub fn add_where(alloc: Global, names: &mut NameSet, is_chosen: bool, name: &str) -> Made<()>
+pub(crate) fn add_where(alloc: Global, names: &mut NameSet, is_chosen: bool, name: &str) -> Made<()>
     requires { is_among name.now names.old ≡ false }
     ensures { OnOk result (names.new ≡ names.old ++ chosen is_chosen name.now) }
 {

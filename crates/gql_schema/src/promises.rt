@@ -1,8 +1,8 @@
 //! What an object keeps of the interfaces that it implements.
-ghost use Rattle.std.specs.Prelude.{◌≡◌, IfOk};
+ghost use Rattle.std.specs.Prelude.{◌≡◌};
 ghost use Rattle.std.specs.Option.{option_copied};
 ghost use Rattle.gql_schema.specs.Faults.{has_arguments, has_only_spare, has_same_type, implemented_fault, interface_promises_fault};
-ghost use Rattle.gql_schema.specs.Faults.{is_spare, keeps, promise_fault, promises_fault};
+ghost use Rattle.gql_schema.specs.Faults.{Tells, is_spare, keeps, promise_fault, promises_fault};
 ghost use Rattle.gql_schema.specs.Table.{types_of};
 
 use crate::by_name::ByName;
@@ -82,7 +82,7 @@ fn check_promise(
     interface: &Interface,
     promised: &InterfaceField,
 ) -> Made<Option<SchemaError>>
-    ensures { IfOk result (λ found. found ≡ promise_fault (types_of types.now) object.now interface.now promised.now) }
+    ensures { Tells result (promise_fault (types_of types.now) object.now interface.now promised.now) }
 {
     if keeps_promise(types, promised, object.get(promised.name())) {
         return Ok(None);
@@ -110,7 +110,7 @@ fn check_promises(
     object: &Object,
     interface: &Interface,
 ) -> Made<Option<SchemaError>>
-    ensures { IfOk result (λ found. found ≡ interface_promises_fault (types_of types.now) object.now interface.now) }
+    ensures { Tells result (interface_promises_fault (types_of types.now) object.now interface.now) }
 {
     for place in 0..interface.len() {
         let (_, promised) = interface.entry(place);
@@ -129,7 +129,7 @@ fn check_implemented_type(
     name: &str,
     ty: Option<&SchemaType>,
 ) -> Made<Option<SchemaError>>
-    ensures { IfOk result (λ found. found ≡ promises_fault (types_of types.now) object.now name.now (option_copied ty.entry)) }
+    ensures { Tells result (promises_fault (types_of types.now) object.now name.now (option_copied ty.entry)) }
 {
     match ty {
         Some(SchemaType::Interface(interface)) => check_promises(alloc, types, object, interface),
@@ -144,7 +144,7 @@ pub fn check_implemented(
     object: &Object,
     name: &str,
 ) -> Made<Option<SchemaError>>
-    ensures { IfOk result (λ found. found ≡ implemented_fault (types_of types.now) object.now name.now) }
+    ensures { Tells result (implemented_fault (types_of types.now) object.now name.now) }
 {
     match check_name(alloc, types, name)? {
         Some(fault) => Ok(Some(fault)),

@@ -2,8 +2,7 @@
 ghost use Rattle.std.specs.Prelude.{◌≡◌, IfOk, slice_index};
 ghost use Rattle.std.specs.List.{list_all};
 ghost use Rattle.std.specs.Option.{option_copied};
-ghost use Rattle.gql_schema.specs.InputObject.{input_fields};
-ghost use Rattle.gql_schema.specs.Ranks.{AreRanks, is_low, is_low_field, is_ranked, needs_low, rank_of as rank};
+ghost use Rattle.gql_schema.specs.Ranks.{AreRanks, has_low_fields, is_low, is_ranked, needs_low, rank_of as rank};
 ghost use Rattle.gql_schema.specs.Table.{types_of};
 
 use crate::containment::needed_type;
@@ -67,7 +66,7 @@ pub fn needs_at_most(types: &Types, ranks: &[usize], most: usize, ty: Option<&Sc
 }
 
 fn fields_need_at_most(types: &Types, ranks: &[usize], most: usize, input: &InputObject) -> bool
-    ensures { result ≡ list_all (is_low_field (types_of types.now) ranks.now most) (input_fields input.now) }
+    ensures { result ≡ has_low_fields (types_of types.now) ranks.now most input.now }
 {
     for place in 0..input.len() {
         let (_, field) = input.entry(place);

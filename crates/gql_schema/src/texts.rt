@@ -1,5 +1,5 @@
 ghost use Rattle.std.specs.Prelude.{◌≡◌, IfOk};
-ghost use Rattle.gql_schema.specs.Faults.{fault_if};
+ghost use Rattle.gql_schema.specs.Faults.{Tells, fault_if};
 ghost use Rattle.gql_schema.specs.Texts.{around, dotted};
 
 use crate::schema_error::SchemaError;
@@ -33,7 +33,7 @@ pub fn fault_where(
     name: &str,
     back: &str,
 ) -> Made<Option<SchemaError>>
-    ensures { IfOk result (λ found. found ≡ fault_if broken rule (around front.now name.now back.now)) }
+    ensures { Tells result (fault_if broken rule (around front.now name.now back.now)) }
 {
     if !broken {
         return Ok(None);

@@ -92,13 +92,13 @@ impl Types {
 
 impl Types {
     ghost use Rattle.gql_schema.specs.Table.{types_of};
-    ghost use Rattle.gql_schema.specs.Finished.{IsFinished, KeepsOthers};
+    ghost use Rattle.gql_schema.specs.Finished.{IsFinished, KeepsTypes};
     ghost use Rattle.gql_schema.specs.Sound.{with_built_in, with_scalar};
 
     /// The table with the scalars that every schema has, where no rule is broken, and else the first refusal.
     pub fn finish(self, alloc: Global) -> Made<Result<Types, SchemaError>>
         ensures finished { IfOk result (λ finished. IsFinished (with_built_in (types_of self)) finished) }
-        ensures kept { IfOk result (λ finished. IfOk finished (λ types. KeepsOthers (types_of self) (types_of types))) }
+        ensures kept { IfOk result (λ finished. KeepsTypes (types_of self) finished) }
     {
         let mut types = self;
         types.register_scalar(alloc, "Int", ScalarRule::Int)?;

@@ -1,6 +1,6 @@
 use Rattle.std.proofs.Common.{codes, ◌++◌, ap, ◌∙◌}
 use Rattle.gql_base.specs.Separated.{separated}
-use Rattle.gql_engine.specs.declared.place.Tree.{out-Tree}
+use Rattle.gql_place.specs.declared.place.Tree.{out-Tree}
 use Rattle.gql_cli.specs.Shown.{data_of, members_here}
 use Rattle.gql_cli.proofs.AnswerLemmas.{places-shown, response-parts}
 use Rattle.gql_cli.proofs.answer.place_line.Goals as goal

@@ -2,7 +2,7 @@ use Rattle.std.proofs.Common.{codes, ◌++◌, sym, append_assoc}
 use Rattle.gql_base.specs.Json.{quoted, json}
 use Rattle.gql_base.proofs.ErrorJsonLemmas.{two-appended}
 use Rattle.gql_base.proofs.SeparatedLemmas.{separated_step}
-use Rattle.gql_engine.specs.declared.place.Tree.{out-Tree}
+use Rattle.gql_place.specs.declared.place.Tree.{out-Tree}
 use Rattle.gql_cli.specs.Answer.{shown}
 use Rattle.gql_cli.specs.Shown.{shown_value, value_here}
 use Rattle.gql_cli.proofs.answer.push_places.Goals as goal

@@ -1,7 +1,7 @@
 use Rattle.std.proofs.Common.{◌≡◌, []}
 use Rattle.std.specs.Vec.Iter.{into_iter_items}
 use Rattle.gql_base.specs.Pairs.{unite_all}
-use Rattle.gql_engine.specs.Apart.{join}
+use Rattle.gql_place.specs.Join.{join}
 use Rattle.gql_engine.specs.ApartPlan.{places_here}
 use Rattle.gql_engine.proofs.assembling.members_of.Given as goal
 

@@ -1,0 +1,39 @@
+//! Requests, responses and what they hold can be moved to threads and shared between them.
+use crate::{
+    BatchRequest, BatchResponse, Data, DataKey, HeaderOp, Hooks, IntrospectionMode, NoData,
+    Parents, ParseRequestError, QueryEnv, QueryPathNode, Request, Response,
+};
+
+fn shared<T: Send + Sync>() {}
+
+fn public_types<'a>() {
+    shared::<Data>();
+    shared::<DataKey>();
+    shared::<HeaderOp>();
+    shared::<Hooks>();
+    shared::<IntrospectionMode>();
+    shared::<NoData>();
+    shared::<Parents<'a>>();
+    shared::<ParseRequestError>();
+    shared::<QueryPathNode<'a>>();
+}
+
+fn of_query_env() {
+    shared::<QueryEnv>();
+}
+
+fn of_request() {
+    shared::<Request>();
+}
+
+fn of_response() {
+    shared::<Response>();
+}
+
+fn of_batch_request() {
+    shared::<BatchRequest>();
+}
+
+fn of_batch_response() {
+    shared::<BatchResponse>();
+}
