@@ -32,7 +32,7 @@ pub trait Plan<V> {
     fn aim(&mut self, alloc: Global, number: usize) -> Made<()>
         requires { number < length (tasks self.old) }
         ensures stays { tasks self.new ≡ tasks self.old }
-        ensures keeps { (other : ℕ) (g : Given V) → holds self.old other g → holds self.new other g }
+        ensures keeps { (n : ℕ) (g : Given V) → holds self.old n g → holds self.new n g }
         ensures aimed { OnOk result (aims self.new number) };
 
     /// The context of the call of the task at which the path is aimed.
@@ -46,7 +46,8 @@ pub trait Plan<V> {
     fn complete(&mut self, alloc: Global, number: usize, given: Given<V>) -> Made<usize>
         requires { number < length (tasks self.old) }
         ensures made { (task : Task) → slice_get (tasks self.old) number ≡ Some task
-            → IfOk result (HasMade (tasks self.old) (tasks self.new) (beneath_given beneath task given)) }
+            → IfOk result (HasMade (tasks self.old) (tasks self.new)
+            (beneath_given beneath task given)) }
         ensures holds { OnOk result (holds self.new number given) }
         ensures keeps { OnOk result ((other : ℕ) (g : Given V) → (other ≡ number → ⊥)
             → holds self.old other g → holds self.new other g) };

@@ -1,0 +1,9 @@
+pub mod ChoiceLemmas
+pub mod CrowdedLemmas
+pub mod DepthLemmas
+pub mod FirstLemmas
+pub mod KeepLemmas
+pub mod RefusalLemmas
+pub mod Rows
+pub mod TruthLemmas
+pub mod WalkLemmas

@@ -1,0 +1,22 @@
+use Rattle.gql_doc.specs.declared.document.OperationDefinition.{OperationDefinition}
+use Rattle.gql_doc.specs.declared.document.Positioned.{Positioned}
+use Rattle.gql_base.specs.Pairs.{values_of}
+use Rattle.gql_doc.specs.Depth.{deep_from, operation_set}
+use Rattle.gql_admit.proofs.FirstLemmas.{first_here, first_more}
+use Rattle.gql_admit.proofs.WalkLemmas.{value_at}
+use Rattle.gql_admit.proofs.depth.deep_operations.Goals as goal
+
+pub returns-then-is_some : goal.returns-then-is_some
+returns-then-is_some c =
+    first_here (λ (operation : Positioned OperationDefinition). deep_from c.args.fragments.now c.args.levels (operation_set operation))
+    (values_of c.args.operations.now) c.loop-place.place c.at.result.1.now c.deep_set-found.result c.is_some.result c.loop-place.invariant.before
+    (value_at c.args.operations.now c.loop-place.place _ _ c.at.ensures) c.deep_set-found.ensures.found c.is_some.ensures c.if-is_some.true
+
+pub loop-place-preserved : goal.loop-place-preserved
+loop-place-preserved c = record {
+  before =
+      first_more (λ (operation : Positioned OperationDefinition). deep_from c.args.fragments.now c.args.levels (operation_set operation))
+      (values_of c.args.operations.now) c.loop-place.place c.at.result.1.now c.deep_set-found.result c.is_some.result c.loop-place.invariant.before
+      (value_at c.args.operations.now c.loop-place.place _ _ c.at.ensures) c.deep_set-found.ensures.found c.is_some.ensures c.if-is_some.false;
+  fine = c.deep_set-found.ensures.fine;
+}

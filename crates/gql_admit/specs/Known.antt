@@ -1,0 +1,8 @@
+-- What the variables of an operation stand for.
+use Rattle.std.specs.Prelude.{ℕ, List}
+use Rattle.gql_base.specs.declared.value.Value.{Value}
+use Rattle.gql_select.specs.Constants.{variable_value}
+use Rattle.gql_admit.specs.declared.conditions.Known.{Known}
+
+abbrev pub known_by : Known → List ℕ → Value
+known_by known = variable_value known.variables.now known.definitions.now
