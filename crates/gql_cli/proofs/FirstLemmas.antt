@@ -20,8 +20,8 @@ some-same same = cc
 -- whether a list is empty
 pub nothing_is : {A : Type 0} (xs : List A) (empty : Bool) → (IsTrue empty ↔ (xs ≡ [])) → empty ≡ is_nothing xs
 nothing_is [] true is = refl
-nothing_is [] false is = absurd (is.1 refl)
-nothing_is (x ∷ xs) true is = let wrong = is.0 tt in cc
+nothing_is [] false is = is.1 refl
+nothing_is (x ∷ xs) true is = let wrong : x ∷ xs ≡ [] = is.0 refl in cc
 nothing_is (x ∷ xs) false is = refl
 
 -- the one item of a list
@@ -74,7 +74,7 @@ behind-test true found x is = is
 behind-test false found x is = cc
 
 taken-with : (test : Bool) (field other : FirstField) → cond test (Some field) None ≡ Some other → (field ≡ other) × IsTrue test
-taken-with true field other is = (cc, tt)
+taken-with true field other is = (cc, refl)
 taken-with false field other is = cc
 
 field-taken : (name : List ℕ) (delay : ℕ) (type_name : List ℕ) (constant : Value) (field : FirstField)
