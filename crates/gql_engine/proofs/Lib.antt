@@ -13,4 +13,5 @@ pub mod ProgressLemmas
 pub mod RecordLemmas
 pub mod RunLemmas
 pub mod SoundLemmas
+pub mod StepLemmas
 pub mod TurnLemmas

@@ -1,10 +1,11 @@
-ghost use Rattle.std.specs.Prelude.{◌≡◌, [], false, IfOk, IfErr, OnOk, OnErr};
+ghost use Rattle.std.specs.Prelude.{◌≡◌, ◌<◌, [], false, IfOk, IfErr, OnOk, OnErr};
 ghost use Rattle.gql_base.specs.Pairs.{unite_all};
 ghost use Rattle.gql_place.specs.Join.{join};
 ghost use Rattle.gql_resolve.specs.Call.{is_mutation};
 ghost use Rattle.gql_engine.specs.Apart.{respond, asked_in, subject_in, root_of};
 ghost use Rattle.gql_engine.specs.ApartPlan.{places_here};
 ghost use Rattle.gql_engine.specs.Parts.{due_by};
+ghost use Rattle.gql_engine.specs.Steps.{IsCounted};
 ghost use Rattle.gql_engine.specs.Progress.{RunsWhole, RunStopped, seen};
 
 use crate::apart_plan::ApartPlan;
@@ -14,11 +15,13 @@ use crate::collect_fields::plan_of;
 use crate::scene::Scene;
 use crate::scheduler::finish;
 use crate::settling::fresh_arena;
-use gql_base::{Items, Made, NoMemory};
+use gql_base::{Items, Made, NoMemory, Steps};
 use gql_place::{Place, Tree};
 use gql_request::Hooks;
 use gql_resolve::{ResolverSet, Turns};
 use std::alloc::Global;
+use std::marker::Brand;
+use std::sync::ledger::{Blank, Ledger};
 
 /// The place of the whole response of a flat object: each occurrence of a field is one task, and the tasks take the turns
 /// that are chosen for them.
@@ -43,9 +46,66 @@ pub fn run_apart<R: ResolverSet, P: Turns>(
         (seen resolvers.old turns.old) (seen resolvers.new turns.new)) }
     ensures roots { IfErr result (λ want. want.roots ≡ 0) }
 {
+    run_on_blank::<R, P, Brand>(alloc, scene, resolvers, hooks, turns, Blank::new(1))
+}
+
+/// The same with steps that nobody looks at.
+fn run_on_blank<R: ResolverSet, P: Turns, S: Ledger>(
+    alloc: Global,
+    scene: &Scene<'_, R::Own>,
+    resolvers: &mut R,
+    hooks: &mut Hooks,
+    turns: &mut P,
+    blank: Blank,
+) -> Result<Place, NoMemory>
+    requires query { is_mutation scene.now.env.now.operation.node.ty ≡ false }
+    requires name { blank.name ≡ S.name }
+    requires parts { blank.parts ≡ S.parts }
+    requires some { 0 < blank.parts }
+    ensures places { R.is_lawful resolvers.old → IfOk result (λ place. place
+        ≡ respond scene.now (due_by R.ResolverSet resolvers.old)) }
+    ensures rules { R.rules resolvers.new ≡ R.rules resolvers.old }
+    ensures lawful { R.is_lawful resolvers.old → R.is_lawful resolvers.new }
+    ensures world { R.is_lawful resolvers.old → R.world resolvers.new ≡ R.world resolvers.old }
+    ensures record { R.is_lawful resolvers.old → OnOk result
+        (RunsWhole R.ResolverSet P.Turns subject_in (asked_in scene.now)
+        (seen resolvers.old turns.old) (seen resolvers.new turns.new)) }
+    ensures stopped { R.is_lawful resolvers.old → OnErr result
+        (RunStopped R.ResolverSet P.Turns subject_in (asked_in scene.now)
+        (seen resolvers.old turns.old) (seen resolvers.new turns.new)) }
+    ensures roots { IfErr result (λ want. want.roots ≡ 0) }
+{
+    let mut steps = Steps::new(blank);
+    run_apart_counted(alloc, scene, resolvers, hooks, turns, &mut steps)
+}
+
+/// The same, where each resolver that is begun is a step.
+pub fn run_apart_counted<R: ResolverSet, P: Turns, S: Ledger>(
+    alloc: Global,
+    scene: &Scene<'_, R::Own>,
+    resolvers: &mut R,
+    hooks: &mut Hooks,
+    turns: &mut P,
+    steps: &mut Steps<S>,
+) -> Result<Place, NoMemory>
+    requires { is_mutation scene.now.env.now.operation.node.ty ≡ false }
+    ensures places { R.is_lawful resolvers.old → IfOk result (λ place. place
+        ≡ respond scene.now (due_by R.ResolverSet resolvers.old)) }
+    ensures rules { R.rules resolvers.new ≡ R.rules resolvers.old }
+    ensures lawful { R.is_lawful resolvers.old → R.is_lawful resolvers.new }
+    ensures world { R.is_lawful resolvers.old → R.world resolvers.new ≡ R.world resolvers.old }
+    ensures record { R.is_lawful resolvers.old → OnOk result
+        (RunsWhole R.ResolverSet P.Turns subject_in (asked_in scene.now)
+        (seen resolvers.old turns.old) (seen resolvers.new turns.new)) }
+    ensures stopped { R.is_lawful resolvers.old → OnErr result
+        (RunStopped R.ResolverSet P.Turns subject_in (asked_in scene.now)
+        (seen resolvers.old turns.old) (seen resolvers.new turns.new)) }
+    ensures roots { IfErr result (λ want. want.roots ≡ 0) }
+    ensures steps { IsCounted (R.begun resolvers.old) (R.begun resolvers.new) steps.old steps.new }
+{
     let mut plan = plan_of(alloc, scene)?;
     let mut arena = fresh_arena(alloc, plan.occurrences.len())?;
-    finish(alloc, &mut plan, &mut arena, resolvers, hooks, turns)?;
+    finish(alloc, &mut plan, &mut arena, resolvers, hooks, turns, steps)?;
     Ok(root_place(alloc, scene, plan)?)
 }
 

@@ -24,7 +24,7 @@ mod tests;
 mod turning;
 mod waiting;
 
-pub use apart::run_apart;
+pub use apart::{run_apart, run_apart_counted};
 pub use arena::{Arena, State, Turn};
 pub use completion::takes_value;
 pub use given::Given;

@@ -1,6 +1,7 @@
 ghost use Rattle.std.specs.Prelude.{◌≡◌, ◌<◌, [], false, Ok, length, IfOk, OnOk, OnErr};
 ghost use Rattle.gql_engine.specs.Arena.{Nearer, events_left};
 ghost use Rattle.gql_engine.specs.Parts.{parts, at};
+ghost use Rattle.gql_engine.specs.Steps.{IsCounted};
 ghost use Rattle.gql_engine.specs.Progress.{IsSound, Kept, Went, Ended};
 
 use crate::arena::{Arena, Turn};
@@ -9,19 +10,21 @@ use crate::plan::Plan;
 use crate::rounds::Rounds;
 use crate::settling::settle;
 use crate::turning::take_turn;
-use gql_base::Made;
+use gql_base::{Made, Steps};
 use gql_resolve::{ResolverSet, Turns};
 use std::alloc::Global;
+use std::sync::ledger::Ledger;
 
 /// One turn: picks one of the tasks that wait, aims the plan at it, takes it up, and keeps its answer where it has one. True where a task has
 /// begun or has its answer.
-fn advance<R: ResolverSet, L: Plan<R::Own>, H: Rounds<R::Own>, P: Turns>(
+fn advance<R: ResolverSet, L: Plan<R::Own>, H: Rounds<R::Own>, P: Turns, S: Ledger>(
     alloc: Global,
     plan: &mut L,
     arena: &mut Arena<R::Future>,
     resolvers: &mut R,
     hooks: &mut H,
     turns: &mut P,
+    steps: &mut Steps<S>,
 ) -> Made<bool>
     requires sound { IsSound (parts R.ResolverSet L.Plan H.Rounds P.Turns)
         (at plan.old arena.old resolvers.old hooks.old turns.old) }
@@ -34,6 +37,7 @@ fn advance<R: ResolverSet, L: Plan<R::Own>, H: Rounds<R::Own>, P: Turns>(
         (at plan.new arena.new resolvers.new hooks.new turns.new)) }
     ensures ended { OnErr result (Ended (parts R.ResolverSet L.Plan H.Rounds P.Turns)
         (at plan.old arena.old resolvers.old hooks.old turns.old) resolvers.new) }
+    ensures steps { IsCounted (R.begun resolvers.old) (R.begun resolvers.new) steps.old steps.new }
     ensures nearer { IfOk result
         (λ over. Nearer R.number over arena.old.states.items arena.new.states.items) }
     ensures still { result ≡ Ok false → arena.new.waiting ≡ arena.old.waiting }
@@ -48,6 +52,7 @@ fn advance<R: ResolverSet, L: Plan<R::Own>, H: Rounds<R::Own>, P: Turns>(
             hooks,
             &mut arena.states[picked.number],
             &context,
+            steps,
         )?
     };
     match turn {
@@ -62,13 +67,14 @@ fn advance<R: ResolverSet, L: Plan<R::Own>, H: Rounds<R::Own>, P: Turns>(
 }
 
 /// Turns until a task has begun or has its answer.
-fn reach_event<R: ResolverSet, L: Plan<R::Own>, H: Rounds<R::Own>, P: Turns>(
+fn reach_event<R: ResolverSet, L: Plan<R::Own>, H: Rounds<R::Own>, P: Turns, S: Ledger>(
     alloc: Global,
     plan: &mut L,
     arena: &mut Arena<R::Future>,
     resolvers: &mut R,
     hooks: &mut H,
     turns: &mut P,
+    steps: &mut Steps<S>,
 ) -> Made<()>
     requires sound { IsSound (parts R.ResolverSet L.Plan H.Rounds P.Turns)
         (at plan.old arena.old resolvers.old hooks.old turns.old) }
@@ -81,24 +87,26 @@ fn reach_event<R: ResolverSet, L: Plan<R::Own>, H: Rounds<R::Own>, P: Turns>(
         (at plan.new arena.new resolvers.new hooks.new turns.new)) }
     ensures ended { OnErr result (Ended (parts R.ResolverSet L.Plan H.Rounds P.Turns)
         (at plan.old arena.old resolvers.old hooks.old turns.old) resolvers.new) }
+    ensures steps { IsCounted (R.begun resolvers.old) (R.begun resolvers.new) steps.old steps.new }
     ensures nearer { OnOk result
         (events_left arena.new.states.items < events_left arena.old.states.items) }
 {
     'polls: loop {
-        if advance(alloc, plan, arena, resolvers, hooks, turns)? {
+        if advance(alloc, plan, arena, resolvers, hooks, turns, steps)? {
             return Ok(());
         }
     }
 }
 
 /// Turns until every task has its answer.
-pub fn finish<R: ResolverSet, L: Plan<R::Own>, H: Rounds<R::Own>, P: Turns>(
+pub fn finish<R: ResolverSet, L: Plan<R::Own>, H: Rounds<R::Own>, P: Turns, S: Ledger>(
     alloc: Global,
     plan: &mut L,
     arena: &mut Arena<R::Future>,
     resolvers: &mut R,
     hooks: &mut H,
     turns: &mut P,
+    steps: &mut Steps<S>,
 ) -> Made<()>
     requires sound { IsSound (parts R.ResolverSet L.Plan H.Rounds P.Turns)
         (at plan.old arena.old resolvers.old hooks.old turns.old) }
@@ -110,10 +118,11 @@ pub fn finish<R: ResolverSet, L: Plan<R::Own>, H: Rounds<R::Own>, P: Turns>(
         (at plan.new arena.new resolvers.new hooks.new turns.new)) }
     ensures ended { OnErr result (Ended (parts R.ResolverSet L.Plan H.Rounds P.Turns)
         (at plan.old arena.old resolvers.old hooks.old turns.old) resolvers.new) }
+    ensures steps { IsCounted (R.begun resolvers.old) (R.begun resolvers.new) steps.old steps.new }
     ensures answered { OnOk result (arena.new.waiting ≡ []) }
 {
     'events: while !arena.waiting.is_empty() {
-        reach_event(alloc, plan, arena, resolvers, hooks, turns)?;
+        reach_event(alloc, plan, arena, resolvers, hooks, turns, steps)?;
     }
     Ok(())
 }

@@ -3,6 +3,7 @@ ghost use Rattle.gql_resolve.specs.Record.{with_more};
 ghost use Rattle.gql_resolve.specs.Lawful.{plain_answer};
 ghost use Rattle.gql_resolve.specs.Call.{call_of};
 ghost use Rattle.gql_engine.specs.Pace.{TurnPaced};
+ghost use Rattle.gql_engine.specs.Steps.{IsCounted};
 ghost use Rattle.gql_engine.specs.Parts.{due_by, delay_by};
 ghost use Rattle.gql_engine.specs.Turn.{BeginsAtMost, EntersAtMost, IsNoPut, IsOpen, PutKeeps, TurnOf, AnswersRightly};
 ghost use Rattle.gql_engine.specs.Turn.{told_by_turn, begins_now, enters_now};
@@ -10,18 +11,20 @@ ghost use Rattle.gql_engine.specs.Turn.{told_by_turn, begins_now, enters_now};
 use crate::arena::{State, Turn};
 use crate::given::Given;
 use crate::rounds::{Entered, Rounds};
-use gql_base::{Items, Made};
+use gql_base::{Items, Made, Steps};
 use gql_resolve::{Answer, FieldFuture, FieldValue, Polled, ResolverContext, ResolverSet};
 use std::alloc::Global;
+use std::sync::ledger::Ledger;
 
-#[tactic(auto, using(crate::proofs::RecordLemmas::with_more_none))]
+#[tactic(auto, using(crate::proofs::RecordLemmas::with_more_none, crate::proofs::StepLemmas::none_counted))]
 /// Takes up a task: begins it where it is fresh, and polls its future.
-pub fn take_turn<R: ResolverSet, H: Rounds<R::Own>>(
+pub fn take_turn<R: ResolverSet, H: Rounds<R::Own>, S: Ledger>(
     alloc: Global,
     resolvers: &mut R,
     hooks: &mut H,
     state: &mut State<R::Future>,
     context: &ResolverContext<'_, R::Own>,
+    steps: &mut Steps<S>,
 ) -> Made<Turn<R::Own>>
     requires { IsOpen R.is_for (call_of context.now) state.old }
     ensures rules { R.rules resolvers.new ≡ R.rules resolvers.old }
@@ -47,9 +50,10 @@ pub fn take_turn<R: ResolverSet, H: Rounds<R::Own>>(
         ≡ with_more (R.begun resolvers.old) (begins_now context.now.task state.old)) }
     ensures unbegun { H.are_quiet hooks.old → OnErr result
         (BeginsAtMost context.now.task (R.begun resolvers.old) (R.begun resolvers.new)) }
+    ensures steps { IsCounted (R.begun resolvers.old) (R.begun resolvers.new) steps.old steps.new }
 {
     match state {
-        State::Fresh => begin(alloc, resolvers, hooks, state, context),
+        State::Fresh => begin(alloc, resolvers, hooks, state, context, steps),
         State::Waiting(future) => match resolvers.poll(alloc, future, context)? {
             Polled::Ready(answer) => Ok(Turn::Answered(Given::Answered(answer))),
             Polled::Pending => Ok(Turn::Pending),
@@ -58,14 +62,15 @@ pub fn take_turn<R: ResolverSet, H: Rounds<R::Own>>(
     }
 }
 
-#[tactic(auto, using(crate::proofs::RecordLemmas::with_more_none, crate::proofs::GivenLemmas::no_put))]
+#[tactic(auto, using(crate::proofs::RecordLemmas::with_more_none, crate::proofs::GivenLemmas::no_put, crate::proofs::StepLemmas::none_counted, crate::proofs::StepLemmas::one_counted))]
 /// The first turn of a task: the hooks, the start, and the first poll of a future.
-fn begin<R: ResolverSet, H: Rounds<R::Own>>(
+fn begin<R: ResolverSet, H: Rounds<R::Own>, S: Ledger>(
     alloc: Global,
     resolvers: &mut R,
     hooks: &mut H,
     state: &mut State<R::Future>,
     context: &ResolverContext<'_, R::Own>,
+    steps: &mut Steps<S>,
 ) -> Made<Turn<R::Own>>
     ensures rules { R.rules resolvers.new ≡ R.rules resolvers.old }
     ensures promise { IfOk result
@@ -90,15 +95,20 @@ fn begin<R: ResolverSet, H: Rounds<R::Own>>(
         (R.begun resolvers.new ≡ with_more (R.begun resolvers.old) (context.now.task ∷ [])) }
     ensures unbegun { H.are_quiet hooks.old → OnErr result
         (BeginsAtMost context.now.task (R.begun resolvers.old) (R.begun resolvers.new)) }
+    ensures steps { IsCounted (R.begun resolvers.old) (R.begun resolvers.new) steps.old steps.new }
 {
     match hooks.enter(context)? {
         Entered::Answer(put) => Ok(Turn::Answered(Given::Put(put))),
-        Entered::Go => match resolvers.start(alloc, context)? {
-            FieldFuture::Value(value) => Ok(Turn::Answered(Given::Answered(answer_of(
-                alloc, value,
-            )))),
-            FieldFuture::Future(future) => poll_first(alloc, resolvers, state, future, context),
-        },
+        Entered::Go => {
+            let started = resolvers.start(alloc, context)?;
+            steps.tick();
+            match started {
+                FieldFuture::Value(value) => Ok(Turn::Answered(Given::Answered(answer_of(
+                    alloc, value,
+                )))),
+                FieldFuture::Future(future) => poll_first(alloc, resolvers, state, future, context),
+            }
+        }
     }
 }
 

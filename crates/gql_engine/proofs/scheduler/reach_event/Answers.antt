@@ -4,6 +4,7 @@ use Rattle.gql_engine.specs.Arena.{Nearer}
 use Rattle.gql_engine.specs.Parts.{parts, at}
 use Rattle.gql_engine.proofs.AdvanceLemmas.{on_err}
 use Rattle.gql_engine.proofs.ProgressLemmas.{kept_none, kept_trans, went_none, went_trans, ended_trans}
+use Rattle.gql_engine.proofs.StepLemmas.{none_counted, counted_on}
 use Rattle.gql_engine.proofs.scheduler.reach_event.Goals as goal
 
 more_than_none : (new old : List ℕ) → new ≡ old → 0 < length old → 0 < length new
@@ -18,6 +19,7 @@ polls-init g c =
       events = refl;
       kept = kept_none {e = e} first;
       went = went_none {m = first} c.requires.sound;
+      steps = none_counted _ _ _ _ refl refl;
     }
 
 pub advance-requires-clause-sound : goal.advance-requires-clause-sound
@@ -29,6 +31,12 @@ returns-in_err-advance-clause-kept g c = kept_trans c.polls.invariant.kept c.in_
 pub returns-in_err-advance-clause-ended : goal.returns-in_err-advance-clause-ended
 returns-in_err-advance-clause-ended g c = on_err c.from_residual.result _
     (ended_trans c.polls.invariant.kept c.polls.invariant.went c.in_err-advance.ensures.ended)
+
+pub returns-in_err-advance-clause-steps : goal.returns-in_err-advance-clause-steps
+returns-in_err-advance-clause-steps g c = counted_on c.polls.invariant.steps c.advance.ensures.steps
+
+pub returns-then-branch-clause-steps : goal.returns-then-branch-clause-steps
+returns-then-branch-clause-steps g c = counted_on c.polls.invariant.steps c.advance.ensures.steps
 
 pub returns-then-branch-clause-kept : goal.returns-then-branch-clause-kept
 returns-then-branch-clause-kept g c = kept_trans c.polls.invariant.kept c.in_ok-advance.ensures.kept
@@ -45,4 +53,5 @@ polls-preserved g c =
       events = nearer.0 ∙ c.polls.invariant.events;
       kept = kept_trans c.polls.invariant.kept c.in_ok-advance.ensures.kept;
       went = went_trans c.polls.invariant.kept c.polls.invariant.went c.in_ok-advance.ensures.went;
+      steps = counted_on c.polls.invariant.steps c.advance.ensures.steps;
     }

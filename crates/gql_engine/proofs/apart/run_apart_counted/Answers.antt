@@ -7,7 +7,7 @@ use Rattle.gql_engine.specs.Progress.{seen}
 use Rattle.gql_engine.proofs.AdvanceLemmas.{on_err}
 use Rattle.gql_engine.proofs.PaceLemmas.{each_paced, each_so_far, so_far_whole}
 use Rattle.gql_engine.proofs.RunLemmas.{Begins, Finishes, answers_due, due_agrees, first_sound, all_answered, seen_roots, stopped_none, stopped_run, runs_whole, stopped_whole, whole_ran, places_end}
-use Rattle.gql_engine.proofs.apart.run_apart.Goals as goal
+use Rattle.gql_engine.proofs.apart.run_apart_counted.Goals as goal
 
 pub returns-in_err-plan-clause-stopped : goal.returns-in_err-plan-clause-stopped
 returns-in_err-plan-clause-stopped g c = λ law. on_err c.from_residual.result _
