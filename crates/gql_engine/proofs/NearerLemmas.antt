@@ -9,13 +9,13 @@ use Rattle.gql_engine.specs.Turn.{StartsWaiting, KeepsWaiting}
 use Rattle.gql_engine.proofs.Lists.{get_within, length_set}
 
 module _ (F : Type 0) where
-  total_set : (weight : State F → ℕ) (states : List (State F)) (i : ℕ) (old new : State F) → slice_get states i ≡ Some old
+  pub total_set : (weight : State F → ℕ) (states : List (State F)) (i : ℕ) (old new : State F) → slice_get states i ≡ Some old
       → total weight (slice_set states i new) + weight old ≡ total weight states + weight new
   total_set weight [] i old new is = absurd (cc)
   total_set weight (s ∷ states) zero old new is = (let e : s ≡ old = cc in let f : weight s ≡ weight old = ap weight e in omega arith)
   total_set weight (s ∷ states) (suc i) old new is = let h = total_set weight states i old new is in omega arith
 
-  total_append : (weight : State F → ℕ) (one other : List (State F)) → total weight (one ++ other) ≡ total weight one + total weight other
+  pub total_append : (weight : State F → ℕ) (one other : List (State F)) → total weight (one ++ other) ≡ total weight one + total weight other
   total_append weight [] other = omega arith
   total_append weight (s ∷ one) other = let h = total_append weight one other in omega arith
 

@@ -21,7 +21,7 @@ use Rattle.gql_resolve.specs.declared.answer.Answer.{Answer}
 use Rattle.gql_schema.specs.Field.{field_type, resolver_of}
 use Rattle.gql_schema.specs.Object.{fields_of}
 use Rattle.gql_schema.specs.declared.field.Field.{Field as SchemaField}
-use Rattle.gql_engine.specs.Arena.{Subject, subject_of}
+use Rattle.gql_engine.specs.Arena.{Subject, Work, subject_of}
 use Rattle.gql_engine.specs.Completion.{tree_given}
 use Rattle.gql_engine.specs.Given.{added_of, headers_of}
 use Rattle.gql_engine.specs.Path.{key_text, path_of}
@@ -92,9 +92,17 @@ asked_in scene = asked scene (collected scene.env.now.operation.node.selection_s
 abbrev pub nothing_beneath : {V : Type 0} → Asked V → Answer V → List (Asked V)
 nothing_beneath task answer = []
 
+-- what such a task asks
+abbrev pub what_asks : {V : Type 0} → Asked V → Asking V
+what_asks task = task.asks
+
 -- what is fixed of them as tasks
 abbrev pub subject_in : {V : Type 0} → Subject V (Asked V)
 subject_in = subject_of (λ task. task.asks) nothing_beneath
+
+-- what the execution of a scene has to do
+abbrev pub work_in : {V : Type 0} → Scene V → Work V (Asked V)
+work_in scene = record { subject = subject_in; first = asked_in scene }
 
 -- the place of an occurrence at its field's type, with what it was given
 abbrev pub place_with : {V : Type 0} → Pos → TypeRef → Given V → Place

@@ -73,15 +73,15 @@ begins_now task state.Fresh = task ∷ []
 begins_now task (state.Waiting future) = []
 begins_now task state.Done = []
 
--- the events of a turn: a fresh task's hooks are entered, once
-abbrev pub enters_now : {F Event : Type 0} → Event → State F → List Event
-enters_now event state.Fresh = event ∷ []
-enters_now event (state.Waiting future) = []
-enters_now event state.Done = []
+-- the rounds of a turn, by their contexts: a fresh task's hooks are entered, once
+abbrev pub enters_now : {V F : Type 0} → ResolverContext V → State F → List (ResolverContext V)
+enters_now context state.Fresh = context ∷ []
+enters_now context (state.Waiting future) = []
+enters_now context state.Done = []
 
 -- where memory was wanting, they may not have been
-abbrev pub EntersAtMost : {Event : Type 0} → Event → Option (List Event) → Option (List Event) → Type 0
-EntersAtMost event old new = (new ≡ old) ⊎ (new ≡ with_more old (event ∷ []))
+abbrev pub EntersAtMost : {Event : Type 0} → List Event → Option (List Event) → Option (List Event) → Type 0
+EntersAtMost events old new = (new ≡ old) ⊎ (new ≡ with_more old events)
 
 -- a turn of a future gives nothing that a hook put
 abbrev pub IsNoPut : {V : Type 0} → Turn V → Type 0

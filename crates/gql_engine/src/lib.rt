@@ -20,7 +20,7 @@ mod shared;
 mod turning;
 mod waiting;
 
-pub use apart::run_apart;
+pub use apart::{run_apart, run_apart_counted};
 pub use arena::{Arena, State, Turn};
 pub use completion::takes_value;
 pub use given::Given;
