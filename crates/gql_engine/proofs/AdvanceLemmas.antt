@@ -1,11 +1,10 @@
 -- One turn: what it does to the tasks, their states, the record and the pace.
-use Rattle.std.proofs.Common.{ℕ, zero, suc, ◌≡◌, ◌+◌, ◌^◌, ◌<◌, ◌≤◌, List, [], ◌∷◌, ◌++◌, length, get_or, refl, sym, ap, subst, ◌∙◌, arith, inl, inr}
-use Rattle.std.specs.Prelude.{Option, Some, None, option_map, slice_get, slice_set, true, false, ◌⊎◌, Result, Ok, Err, OnErr, map}
+use Rattle.std.proofs.Common.{ℕ, ◌≡◌, ◌+◌, ◌^◌, ◌≤◌, List, [], ◌∷◌, ◌++◌, length, get_or, refl, sym, ap, subst, ◌∙◌, arith, inl, inr}
+use Rattle.std.specs.Prelude.{Some, option_map, slice_get, slice_set, true, false, Result, Ok, Err, OnErr, map}
 use Rattle.std.specs.Option.{ForSome}
 use Rattle.gql_resolve.specs.Call.{Call, call_of}
 use Rattle.gql_resolve.specs.Record.{with_more, entry_of}
 use Rattle.gql_resolve.specs.declared.answer.Answer.{Answer}
-use Rattle.gql_resolve.specs.declared.record_entry.RecordEntry.{RecordEntry}
 use Rattle.gql_resolve.specs.declared.resolver_context.ResolverContext.{ResolverContext}
 use Rattle.gql_engine.specs.declared.arena.State.{State}
 use Rattle.gql_engine.specs.declared.arena.State.TheVariants as state
@@ -14,11 +13,11 @@ use Rattle.gql_engine.specs.declared.given.Given.TheVariants.{Answered, Put}
 use Rattle.gql_engine.specs.Arena.{marks_of, made_of, fresh_states, started, total, IsRight, Nearer}
 use Rattle.gql_engine.specs.Given.{beneath_given}
 use Rattle.gql_engine.specs.Pace.{to_come}
-use Rattle.gql_engine.specs.Parts.{Parts, Moment, choice_by, due_by, delay_by, delay_at, stage, subject}
+use Rattle.gql_engine.specs.Parts.{Parts, Moment, choice_by, due_by, delay_by, stage, subject}
 use Rattle.gql_engine.specs.Plan.{IsContextOf}
 use Rattle.gql_engine.specs.Progress.{IsSound, Agrees, Passed, Progress, Went, Ended, story_of}
 use Rattle.gql_engine.specs.Record.{Ran, waiting_from}
-use Rattle.gql_engine.specs.Turn.{IsOpen, StartsWaiting, KeepsWaiting, begins_now, enters_now, BeginsAtMost, EntersAtMost}
+use Rattle.gql_engine.specs.Turn.{StartsWaiting, KeepsWaiting, begins_now, enters_now, BeginsAtMost, EntersAtMost}
 use Rattle.gql_engine.proofs.Lists.{get_append_left, get_set_other, set_set}
 use Rattle.gql_engine.proofs.NearerLemmas.{nearer_settled}
 use Rattle.gql_engine.proofs.PaceLemmas.{pays_answer, pays_waiting, so_far_none, so_far_answer}

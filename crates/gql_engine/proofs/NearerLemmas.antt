@@ -1,12 +1,12 @@
 -- Each turn brings the execution nearer to its end.
 use Rattle.std.proofs.Common.{ℕ, zero, suc, ◌≡◌, ◌+◌, ◌-◌, ◌*◌, ◌^◌, ◌<◌, ◌≤◌, List, [], ◌∷◌, ◌++◌, length, refl, sym, ap, subst, ◌∙◌, arith}
 use Rattle.std.proofs.lemmas.List.{length-append}
-use Rattle.std.specs.Prelude.{Option, Some, None, slice_get, slice_set, true, false, Bool}
+use Rattle.std.specs.Prelude.{Some, slice_get, slice_set, true, false}
 use Rattle.gql_engine.specs.declared.arena.State.{State}
 use Rattle.gql_engine.specs.declared.arena.State.TheVariants as state
-use Rattle.gql_engine.specs.Arena.{fresh_states, total, events_of, polls_of, events_left, polls_left, Nearer}
+use Rattle.gql_engine.specs.Arena.{fresh_states, total, events_of, polls_of, Nearer}
 use Rattle.gql_engine.specs.Turn.{StartsWaiting, KeepsWaiting}
-use Rattle.gql_engine.proofs.Lists.{get_within, length_set}
+use Rattle.gql_engine.proofs.Lists.{length_set}
 
 module _ (F : Type 0) where
   pub total_set : (weight : State F → ℕ) (states : List (State F)) (i : ℕ) (old new : State F) → slice_get states i ≡ Some old

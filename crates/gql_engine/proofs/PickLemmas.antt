@@ -1,15 +1,14 @@
 -- The task that a turn takes up.
-use Rattle.std.proofs.Common.{ℕ, zero, suc, ◌≡◌, ◌+◌, ◌<◌, ◌≤◌, List, [], ◌∷◌, ◌++◌, length, get_or, refl, sym, ap, subst, ◌∙◌, arith}
+use Rattle.std.proofs.Common.{ℕ, ◌≡◌, ◌<◌, List, length, get_or, refl, arith}
 use Rattle.std.proofs.lemmas.Option.{slice_get_read}
-use Rattle.std.specs.Prelude.{Option, Some, None, Bool, slice_get}
+use Rattle.std.specs.Prelude.{Some, Bool, slice_get}
 use Rattle.gql_resolve.specs.Call.{Call}
 use Rattle.gql_engine.specs.declared.arena.State.{State}
 use Rattle.gql_engine.specs.declared.arena.State.TheVariants as state
-use Rattle.gql_engine.specs.Record.{Mark, ready, waiting_from}
-use Rattle.gql_engine.specs.Arena.{mark_of, marks_of, Subject}
+use Rattle.gql_engine.specs.Arena.{Subject}
 use Rattle.gql_engine.specs.declared.given.Given.{Given}
 use Rattle.gql_engine.specs.Turn.{IsOpen}
-use Rattle.gql_engine.proofs.Lists.{get_at, get_within, map_set}
+use Rattle.gql_engine.proofs.Lists.{get_at}
 use Rattle.gql_engine.proofs.SoundLemmas.{Stands, chosen_within, chosen_open}
 
 pub record Pick {V Task F : Type 0} (root : Bool) (is_for : F → Call V → Type 0) (subject : Subject V Task) (tasks : List Task) (states : List (State F)) (number : ℕ) (old : State F) : Type 0 where

@@ -5,7 +5,7 @@ use Rattle.gql_resolve.specs.Call.{Call}
 use Rattle.gql_resolve.specs.declared.answer.Answer.{Answer}
 use Rattle.gql_engine.specs.Arena.{Subject}
 use Rattle.gql_engine.specs.Parts.{Parts, Moment, choice_by, due_by, stage, subject}
-use Rattle.gql_engine.specs.Progress.{IsSound, Steady, Kept, Agrees, Passed, Progress, Went, Ended, story_of}
+use Rattle.gql_engine.specs.Progress.{IsSound, Steady, Kept, Agrees, Passed, Went, Ended, story_of}
 use Rattle.gql_engine.proofs.PaceLemmas.{paces_none, paces_trans, so_far_trans}
 use Rattle.gql_engine.proofs.RecordLemmas.{ran_none, ran_trans, stopped_trans}
 use Rattle.gql_engine.proofs.RoundLemmas.{enters_none, enters_trans, so_far_enters_trans}

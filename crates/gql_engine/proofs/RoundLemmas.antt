@@ -1,5 +1,5 @@
 -- The rounds of the hooks, one stretch after another.
-use Rattle.std.proofs.Common.{ℕ, zero, suc, ◌≡◌, ◌+◌, ◌≤◌, ◌==◌, if◌then◌else◌, List, [], ◌∷◌, ◌++◌, length, map, refl, sym, ap, subst, ◌∙◌, arith, inl, inr}
+use Rattle.std.proofs.Common.{ℕ, zero, suc, ◌≡◌, ◌+◌, if◌then◌else◌, List, [], ◌∷◌, ◌++◌, map, refl, sym, ap, ◌∙◌, arith, inl, inr}
 use Rattle.std.proofs.lemmas.Bool.{cases_eq, eq-eqb, ne_eqb}
 use Rattle.std.proofs.lemmas.List.{map-append}
 use Rattle.std.proofs.lemmas.List.Elements.{All-nil, All-cons, All-append, All-weaker}
@@ -15,7 +15,7 @@ use Rattle.gql_engine.specs.Plan.{Asking, IsContextOf}
 use Rattle.gql_engine.specs.Progress.{Enters, EntersSoFar}
 use Rattle.gql_engine.specs.Rounds.{IsOneOf, KeepNumbers, ToldRounds, RoundsWhole, RoundsStopped, times, to_enter, to_enter_at}
 use Rattle.gql_engine.specs.Turn.{EntersAtMost, enters_now}
-use Rattle.gql_engine.proofs.Lists.{get_set_same, get_set_other, get_append_left, get_at, get_within}
+use Rattle.gql_engine.proofs.Lists.{get_set_same, get_set_other, get_append_left, get_within}
 use Rattle.gql_engine.proofs.RecordLemmas.{with_more_none, with_more_append}
 
 module _ (V : Type 0) where

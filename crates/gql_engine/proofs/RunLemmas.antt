@@ -1,7 +1,7 @@
 -- From the first turn to the last: fresh tasks, and what stands when none waits.
-use Rattle.std.proofs.Common.{ℕ, zero, suc, ◌≡◌, ◌+◌, ◌<◌, ◌≤◌, Bool, true, false, List, [], ◌∷◌, ◌++◌, length, map, refl, sym, ap, subst, ◌∙◌, arith}
+use Rattle.std.proofs.Common.{ℕ, zero, suc, ◌≡◌, ◌+◌, Bool, true, false, List, [], ◌∷◌, ◌++◌, length, refl, sym, ap, subst, ◌∙◌, arith}
 use Rattle.std.proofs.lemmas.List.{append-nil, length-map}
-use Rattle.std.specs.Prelude.{Option, Some, None, ◌&&◌, slice_get, slice_set}
+use Rattle.std.specs.Prelude.{Option, Some, None, ◌&&◌, slice_get}
 use Rattle.gql_resolve.specs.Call.{Call, is_mutation}
 use Rattle.gql_resolve.specs.Record.{with_more}
 use Rattle.gql_resolve.specs.declared.answer.Answer.{Answer}

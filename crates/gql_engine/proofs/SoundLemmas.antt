@@ -1,19 +1,19 @@
 -- What a turn does to the tasks and their states.
-use Rattle.std.proofs.Common.{ℕ, zero, suc, ◌≡◌, ◌+◌, ◌-◌, ◌*◌, ◌^◌, ◌<◌, ◌≤◌, List, [], ◌∷◌, ◌++◌, length, refl, sym, ap, subst, ◌∙◌, arith, inl, inr, zero-add}
+use Rattle.std.proofs.Common.{ℕ, zero, suc, ◌≡◌, ◌<◌, List, ◌++◌, length, refl, sym, ap, subst, ◌∙◌, arith, inl, inr}
 use Rattle.std.proofs.lemmas.Bool.{cases_eq}
-use Rattle.std.proofs.lemmas.List.{map-append, length-map, length-append}
-use Rattle.std.specs.Prelude.{Option, Some, None, slice_get, slice_set, map, ◌⊎◌, true, false, Bool}
+use Rattle.std.proofs.lemmas.List.{length-map, length-append}
+use Rattle.std.specs.Prelude.{Some, slice_get, slice_set, Bool}
 use Rattle.gql_resolve.specs.Call.{Call}
 use Rattle.gql_resolve.specs.declared.answer.Answer.{Answer}
 use Rattle.gql_engine.specs.declared.arena.State.{State}
 use Rattle.gql_engine.specs.declared.arena.State.TheVariants as state
-use Rattle.gql_engine.specs.Record.{Mark, untold, begun, ready, Made, waiting_from, untold_marks, after_ready, after_pending}
-use Rattle.gql_engine.specs.Arena.{mark_of, marks_of, made_of, fresh_states, total, events_of, polls_of, events_left, polls_left, Nearer, Subject, Fits, IsRight}
+use Rattle.gql_engine.specs.Record.{Mark, ready, waiting_from}
+use Rattle.gql_engine.specs.Arena.{mark_of, marks_of, fresh_states, Subject, Fits, IsRight}
 use Rattle.gql_engine.specs.declared.given.Given.{Given}
 use Rattle.gql_engine.specs.declared.given.Given.TheVariants.{Answered}
-use Rattle.gql_engine.specs.Turn.{IsOpen, StartsWaiting, KeepsWaiting}
-use Rattle.gql_engine.proofs.Lists.{map_set, get_map, get_within, get_set_same, get_set_other, get_append, get_at, length_set}
-use Rattle.gql_engine.proofs.ArenaLemmas.{IsUnanswered, Waits, waits_at, waiting_kept}
+use Rattle.gql_engine.specs.Turn.{IsOpen}
+use Rattle.gql_engine.proofs.Lists.{map_set, get_map, get_within, get_set_same, get_set_other, get_append, length_set}
+use Rattle.gql_engine.proofs.ArenaLemmas.{IsUnanswered, waits_at, waiting_kept}
 
 -- what stands between two turns, of plain lists
 pub record Stands {V Task F : Type 0} (root : Bool) (is_for : F → Call V → Type 0) (subject : Subject V Task) (holds : ℕ → Given V → Type 0)

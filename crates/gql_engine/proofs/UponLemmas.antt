@@ -1,6 +1,6 @@
 -- One turn from its pick on: the plan is aimed at a task, and the task is taken up.
 use Rattle.std.proofs.Common.{ℕ, ◌≡◌, ◌<◌, length, get_or, arith}
-use Rattle.std.specs.Prelude.{Option, Some, option_map, slice_get, Result, Ok, Err, IsErrAnd}
+use Rattle.std.specs.Prelude.{Some, option_map, slice_get, Result, Ok, Err, IsErrAnd}
 use Rattle.std.specs.Option.{ForSome}
 use Rattle.gql_resolve.specs.declared.resolver_context.ResolverContext.{ResolverContext}
 use Rattle.gql_engine.specs.declared.arena.State.{State}

@@ -1,4 +1,5 @@
--- The plan of a flat object: what each of its occurrences is as a task, and what it keeps of answers.
+-- The plan of a flat object: what each of its occurrences is as a task, and what it keeps of
+-- answers.
 use Rattle.std.specs.Prelude.{ℕ, ◌≡◌, List, [], ◌∷◌, Option, Some, None, map, slice_get}
 use Rattle.std.specs.List.{flat_map}
 use Rattle.gql_base.specs.declared.path_segment.PathSegment.{PathSegment}
@@ -21,12 +22,14 @@ all_seen scene occurrences = map (seen scene) occurrences
 
 -- the place of an occurrence is that of what it was given
 abbrev pub Keeps : {V : Type 0} → Scene V → List Occurrence → ℕ → Given V → Type 0
-Keeps scene occurrences number given = (occurrence : Occurrence) → slice_get occurrences number ≡ Some occurrence
+Keeps scene occurrences number given = (occurrence : Occurrence)
+    → slice_get occurrences number ≡ Some occurrence
     → occurrence.place ≡ Some (place_given (seen scene occurrence) given)
 
 -- the path is the one to the occurrence of a number
 abbrev pub IsAimed : List Occurrence → List PathSegment → ℕ → Type 0
-IsAimed occurrences path number = (occurrence : Occurrence) → slice_get occurrences number ≡ Some occurrence → path ≡ path_of occurrence.item.now
+IsAimed occurrences path number = (occurrence : Occurrence)
+    → slice_get occurrences number ≡ Some occurrence → path ≡ path_of occurrence.item.now
 
 -- what an occurrence adds to the members of its object
 abbrev pub place_under : List ℕ → Option Place → List (List ℕ × Place)

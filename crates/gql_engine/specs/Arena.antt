@@ -1,5 +1,6 @@
 -- The states of the tasks, and what holds of them between two turns.
-use Rattle.std.specs.Prelude.{ℕ, zero, suc, ◌≡◌, ◌+◌, ◌-◌, ◌*◌, ◌^◌, ◌<◌, ◌≤◌, List, [], ◌∷◌, ◌++◌, Some, Bool, true, false, length, map, slice_get}
+use Rattle.std.specs.Prelude.{ℕ, zero, suc, ◌≡◌, ◌+◌, ◌-◌, ◌*◌, ◌^◌, ◌<◌, ◌≤◌, List, [], ◌∷◌}
+use Rattle.std.specs.Prelude.{Some, Bool, true, false, length, map, slice_get}
 use Rattle.gql_engine.specs.declared.arena.State.{State}
 use Rattle.gql_engine.specs.declared.arena.State.TheVariants as state
 use Rattle.gql_engine.specs.declared.given.Given.{Given}
@@ -29,14 +30,16 @@ abbrev pub fresh_states : {F : Type 0} → ℕ → List (State F)
 fresh_states zero = []
 fresh_states (suc n) = state.Fresh ∷ fresh_states n
 
--- what is fixed of the tasks of a plan: what each asks, the text of its path, and the tasks that an answer makes beneath it
+-- what is fixed of the tasks of a plan: what each asks, the text of its path, and the tasks that an
+-- answer makes beneath it
 pub record Subject (V Task : Type 0) : Type 0 where
   pub call : Task → Call V
   pub path : Task → List ℕ
   pub beneath : Task → Answer V → List Task
 
 -- the same, of what tasks ask
-abbrev pub subject_of : {V Task : Type 0} → (Task → Asking V) → (Task → Answer V → List Task) → Subject V Task
+abbrev pub subject_of : {V Task : Type 0} → (Task → Asking V) → (Task → Answer V → List Task)
+    → Subject V Task
 subject_of asks beneath = record {
   call = λ task. (asks task).call;
   path = λ task. path_text (asks task).segments;
@@ -63,8 +66,9 @@ pub record IsRight {V Task F : Type 0} (base : ℕ) (answers : Task → Answer V
   pub kept : (number : ℕ) (task : Task) → base ≤ number → slice_get tasks number ≡ Some task
       → slice_get states number ≡ Some state.Done → holds number (Answered (answers task))
 
--- How far the execution is from its end. An event is the start or the answer of a task; each new task has two to come, and
--- there is room for 2^64 tasks. Between two events the numbers of the futures fall.
+-- How far the execution is from its end. An event is the start or the answer of a task; each new
+-- task has two to come, and there is room for 2^64 tasks. Between two events the numbers of the
+-- futures fall.
 
 -- the sum of the states' weights
 abbrev pub total : {F : Type 0} → (State F → ℕ) → List (State F) → ℕ
@@ -100,4 +104,5 @@ polls_left number states = total (polls_of number) states
 -- after a turn: an event is over, or the numbers of the futures fell
 abbrev pub Nearer : {F : Type 0} → (F → ℕ) → Bool → List (State F) → List (State F) → Type 0
 Nearer number true old new = events_left new < events_left old
-Nearer number false old new = (events_left new ≡ events_left old) × (polls_left number new < polls_left number old)
+Nearer number false old new = (events_left new ≡ events_left old)
+    × (polls_left number new < polls_left number old)

@@ -11,8 +11,8 @@ use Rattle.gql_engine.specs.declared.rounds.Rounds.{Ghosts as Hooking}
 use Rattle.gql_engine.specs.Arena.{Subject, subject_of, made_of}
 use Rattle.gql_engine.specs.Record.{Choice, Stage}
 
--- what is known of an execution's parts: of its resolver set, its plan, its hooks and its turns; and
--- whether the tasks that are open are roots of a mutation
+-- what is known of an execution's parts: of its resolver set, its plan, its hooks and its turns;
+-- and whether the tasks that are open are roots of a mutation
 pub record Parts (R Own World Future L H P : Type 0) : Type 1 where
   pub set : Resolving R Own World Future
   pub plan : Planning L Own
@@ -31,7 +31,8 @@ module _ {R Own World Future L H P : Type 0} (set : Resolving R Own World Future
     root = false;
   }
 
--- what an execution uses that isn't the engine's: the set, the hooks, the turns, and the steps so far
+-- what an execution uses that isn't the engine's: the set, the hooks, the turns, and the steps so
+-- far
 pub record Outside (R H P : Type 0) : Type 0 where
   pub set : R
   pub hooks : H
@@ -42,8 +43,8 @@ pub record Outside (R H P : Type 0) : Type 0 where
 abbrev pub outside : {R H P : Type 0} → R → H → P → ℕ → Outside R H P
 outside set hooks turns steps = record { set = set; hooks = hooks; turns = turns; steps = steps }
 
--- an execution at one moment: the plan, the states of its tasks, the numbers of those that wait, the
--- set, the hooks, the turns and the steps
+-- an execution at one moment: the plan, the states of its tasks, the numbers of those that wait,
+-- the set, the hooks, the turns and the steps
 pub record Moment (R Future L H P : Type 0) : Type 0 where
   pub plan : L
   pub states : List (State Future)

@@ -36,21 +36,26 @@ module _ {V Task : Type 0} (asks : Task → Asking V) where
     pub there : slice_get tasks context.task ≡ Some task
     pub context_is : IsContextOf context.task (asks task) context
 
-  -- what hooks told between two moments: one round for each of these contexts, which are of tasks that are made by then
-  pub record ToldRounds {H : Type 0} (hooks : Hooking H V) (made : List Task) (old new : H) : Type 0 where
+  -- what hooks told between two moments: one round for each of these contexts, which are of tasks
+  -- that are made by then
+  pub record ToldRounds {H : Type 0} (hooks : Hooking H V) (made : List Task)
+      (old new : H) : Type 0 where
     pub contexts : List (ResolverContext V)
     pub told_is : hooks.told new ≡ with_more (hooks.told old) (map hooks.entered contexts)
     pub own : All (IsOneOf made) contexts
 
-  -- what they told in a whole execution of tasks that were fresh: one round for each task that was made
-  pub record RoundsWhole {H : Type 0} (hooks : Hooking H V) (tasks : List Task) (old new : H) : Type 0 where
+  -- what they told in a whole execution of tasks that were fresh: one round for each task that was
+  -- made
+  pub record RoundsWhole {H : Type 0} (hooks : Hooking H V) (tasks : List Task)
+      (old new : H) : Type 0 where
     pub made : List Task
     pub stays : KeepNumbers tasks made
     pub rounds : ToldRounds hooks made old new
     pub once : (k : ℕ) (task : Task) → slice_get made k ≡ Some task → times k rounds.contexts ≡ 1
 
   -- the same where memory was wanting: one round at most for each
-  pub record RoundsStopped {H : Type 0} (hooks : Hooking H V) (tasks : List Task) (old new : H) : Type 0 where
+  pub record RoundsStopped {H : Type 0} (hooks : Hooking H V) (tasks : List Task)
+      (old new : H) : Type 0 where
     pub made : List Task
     pub stays : KeepNumbers tasks made
     pub rounds : ToldRounds hooks made old new

@@ -24,8 +24,8 @@ use std::alloc::Global;
 use std::marker::Brand;
 use std::sync::ledger::{Blank, Ledger};
 
-/// The place of the whole response of a flat object: each occurrence of a field is one task, and the
-/// tasks take the turns that are chosen for them.
+/// The place of the whole response of a flat object: each occurrence of a field is one task, and
+/// the tasks take the turns that are chosen for them.
 pub fn run_apart<R: ResolverSet, P: Turns>(
     alloc: Global,
     scene: &Scene<'_, R::Own>,
@@ -80,8 +80,8 @@ fn run_on_blank<R: ResolverSet, P: Turns, S: Ledger>(
     run_apart_counted(alloc, scene, resolvers, hooks, turns, &mut steps)
 }
 
-/// The same with the rounds of any hooks, where each start of a resolver that answered is a step. The hooks
-/// of each task are entered once, before its resolver is started.
+/// The same with the rounds of any hooks, where each start of a resolver that answered is a step.
+/// The hooks of each task are entered once, before its resolver is started.
 pub fn run_apart_counted<R: ResolverSet, H: Rounds<R::Own>, P: Turns, S: Ledger>(
     alloc: Global,
     scene: &Scene<'_, R::Own>,
@@ -108,7 +108,8 @@ pub fn run_apart_counted<R: ResolverSet, H: Rounds<R::Own>, P: Turns, S: Ledger>
         (asked_in scene.now) hooks.old hooks.new) }
     ensures unfinished { OnErr result (RoundsStopped what_asks H.Rounds
         (asked_in scene.now) hooks.old hooks.new) }
-    ensures counted { IsCounted (R.begun resolvers.old) (R.begun resolvers.new) steps.old steps.new }
+    ensures counted { IsCounted (R.begun resolvers.old) (R.begun resolvers.new)
+        steps.old steps.new }
     ensures asked { R.is_lawful resolvers.old → H.are_quiet hooks.old → OnOk result
         (steps.new ≡ steps.old + length (asked_in scene.now)) }
 {

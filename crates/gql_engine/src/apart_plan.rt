@@ -12,7 +12,8 @@ use gql_request::QueryPathNode;
 use gql_resolve::ResolverContext;
 use std::alloc::Global;
 
-/// The occurrences of a flat object's fields, each with its place once it is answered, and the path to one of them.
+/// The occurrences of a flat object's fields, each with its place once it is answered, and the path
+/// to one of them.
 #[derive(Drop)]
 pub struct ApartPlan<'a, V> {
     pub scene: &'a Scene<'a, V>,

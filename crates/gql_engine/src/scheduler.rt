@@ -14,8 +14,8 @@ use gql_resolve::{ResolverSet, Turns};
 use std::alloc::Global;
 use std::sync::ledger::Ledger;
 
-/// One turn: picks one of the tasks that wait, aims the plan at it, takes it up, and keeps its answer
-/// where it has one. True where a task has begun or has its answer.
+/// One turn: picks one of the tasks that wait, aims the plan at it, takes it up, and keeps its
+/// answer where it has one. True where a task has begun or has its answer.
 fn advance<R: ResolverSet, L: Plan<R::Own>, H: Rounds<R::Own>, P: Turns, S: Ledger>(
     alloc: Global,
     plan: &mut L,

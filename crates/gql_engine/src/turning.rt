@@ -6,7 +6,8 @@ ghost use Rattle.gql_engine.specs.Pace.{TurnPaced};
 ghost use Rattle.gql_engine.specs.Parts.{due_by, delay_by};
 ghost use Rattle.gql_engine.specs.Steps.{IsCounted};
 ghost use Rattle.gql_engine.specs.Turn.{BeginsAtMost, EntersAtMost, IsNoPut, IsOpen, PutKeeps};
-ghost use Rattle.gql_engine.specs.Turn.{TurnOf, AnswersRightly, told_by_turn, begins_now, enters_now};
+ghost use Rattle.gql_engine.specs.Turn.{TurnOf, AnswersRightly, told_by_turn, begins_now};
+ghost use Rattle.gql_engine.specs.Turn.{enters_now};
 
 use crate::arena::{State, Turn};
 use crate::given::Given;
@@ -50,7 +51,8 @@ pub fn take_turn<R: ResolverSet, H: Rounds<R::Own>, S: Ledger>(
         ≡ with_more (R.begun resolvers.old) (begins_now context.now.task state.old)) }
     ensures unbegun { H.are_quiet hooks.old → OnErr result
         (BeginsAtMost context.now.task (R.begun resolvers.old) (R.begun resolvers.new)) }
-    ensures counted { IsCounted (R.begun resolvers.old) (R.begun resolvers.new) steps.old steps.new }
+    ensures counted { IsCounted (R.begun resolvers.old) (R.begun resolvers.new)
+        steps.old steps.new }
     ensures stepped { H.are_quiet hooks.old → OnOk result
         (steps.new ≡ steps.old + length (begins_now context.now.task state.old)) }
 {
@@ -97,7 +99,8 @@ fn begin<R: ResolverSet, H: Rounds<R::Own>, S: Ledger>(
         (R.begun resolvers.new ≡ with_more (R.begun resolvers.old) (context.now.task ∷ [])) }
     ensures unbegun { H.are_quiet hooks.old → OnErr result
         (BeginsAtMost context.now.task (R.begun resolvers.old) (R.begun resolvers.new)) }
-    ensures counted { IsCounted (R.begun resolvers.old) (R.begun resolvers.new) steps.old steps.new }
+    ensures counted { IsCounted (R.begun resolvers.old) (R.begun resolvers.new)
+        steps.old steps.new }
     ensures stepped { H.are_quiet hooks.old → OnOk result (steps.new ≡ steps.old + 1) }
 {
     match hooks.enter(context)? {

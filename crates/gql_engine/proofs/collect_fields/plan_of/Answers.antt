@@ -1,4 +1,4 @@
-use Rattle.std.proofs.Common.{rules, ◌≡◌, ◌<◌, Contains, List, length, arith, subst, sym}
+use Rattle.std.proofs.Common.{Contains, List, subst, sym}
 use Rattle.gql_doc.specs.declared.document.Positioned.{Positioned}
 use Rattle.gql_doc.specs.declared.document.Selection.{Selection}
 use Rattle.gql_engine.specs.ApartPlan.{all_seen}

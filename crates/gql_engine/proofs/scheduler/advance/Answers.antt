@@ -1,4 +1,4 @@
-use Rattle.std.proofs.Common.{◌≡◌, ◌<◌, ◌≤◌, length, arith, sym, subst, refl}
+use Rattle.std.proofs.Common.{◌<◌, length, arith, sym, subst, refl}
 use Rattle.gql_resolve.specs.Call.{Call, call_of}
 use Rattle.gql_engine.specs.Parts.{parts, at, outside}
 use Rattle.gql_engine.specs.Turn.{IsOpen}
