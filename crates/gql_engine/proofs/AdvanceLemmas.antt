@@ -53,7 +53,7 @@ module _ {R Own World Future L H P : Type 0} {e : Parts R Own World Future L H P
       → Stands e.root e.set.is_for (subject e) (e.plan.holds m.plan) (e.plan.tasks m.plan) m.states m.waiting
   stands sound = record { lengths = sound.lengths; waits = sound.waits; fits = sound.fits }
 
-  sound_of : (m : Moment R Future L H P) → Stands e.root e.set.is_for (subject e) (e.plan.holds m.plan) (e.plan.tasks m.plan) m.states m.waiting → IsSound e m
+  pub sound_of : (m : Moment R Future L H P) → Stands e.root e.set.is_for (subject e) (e.plan.holds m.plan) (e.plan.tasks m.plan) m.states m.waiting → IsSound e m
   sound_of m s = record { lengths = s.lengths; waits = s.waits; fits = s.fits }
 
   pub taken : {old : Moment R Future L H P} (turns : P) (place number : ℕ) (was : State Future) (context : ResolverContext Own)
@@ -89,7 +89,7 @@ module _ {R Own World Future L H P : Type 0} {e : Parts R Own World Future L H P
   keeps_on call state.Done new is = absurd is
 
   module _ {old : Moment R Future L H P} {turns : P} {number : ℕ} {was : State Future} {context : ResolverContext Own} (t : Taken e old turns number was context) where
-    undone : was ≡ state.Done → ⊥
+    pub undone : was ≡ state.Done → ⊥
     undone = open_undone e.set.is_for (e.plan.asks t.pick.task).call was t.pick.open_is
 
     -- a task that has its answer isn't the one that is taken up
@@ -192,18 +192,28 @@ module _ {R Own World Future L H P : Type 0} {e : Parts R Own World Future L H P
         let m = made t.pick.task t.pick.task_is in
         record { made = m.0; count_is = m.1; holding = holding; keeps = keeps }
 
+    -- the same where the number isn't told
+    pub completed_with : (plan : L) (given : Given Own)
+        → ((task : e.plan.Task) → slice_get (e.plan.tasks old.plan) number ≡ Some task
+        → e.plan.tasks plan ≡ e.plan.tasks old.plan ++ beneath_given e.plan.beneath task given)
+        → e.plan.holds plan number given
+        → ((other : ℕ) (g : Given Own) → (other ≡ number → ⊥) → e.plan.holds old.plan other g → e.plan.holds plan other g)
+        → Completed plan given (length (beneath_given e.plan.beneath t.pick.task given))
+    completed_with plan given made holding keeps =
+        record { made = made t.pick.task t.pick.task_is; count_is = refl; holding = holding; keeps = keeps }
+
     -- the tasks beneath are no roots of a mutation
     abbrev pub NeverRoots : Type 0
     NeverRoots = (task : e.plan.Task) (answer : Answer Own) (place : ℕ) (below : e.plan.Task)
         → slice_get (e.plan.beneath task answer) place ≡ Some below → (e.plan.asks below).call.is_root ≡ false
 
-    no_roots : NeverRoots → (given : Given Own) (place : ℕ) (below : e.plan.Task)
+    pub no_roots : NeverRoots → (given : Given Own) (place : ℕ) (below : e.plan.Task)
         → slice_get (beneath_given e.plan.beneath t.pick.task given) place ≡ Some below → (e.plan.asks below).call.is_root ≡ false
     no_roots never (Answered answer) place below is = never t.pick.task answer place below is
     no_roots never (Put put) place below is = absurd (cc)
 
     -- the states after an answer, whatever state the task itself had come to
-    settled_states : (states : List (State Future)) (new : State Future) (count : ℕ) (more : List e.plan.Task) → count ≡ length more
+    pub settled_states : (states : List (State Future)) (new : State Future) (count : ℕ) (more : List e.plan.Task) → count ≡ length more
         → states ≡ slice_set (slice_set old.states number new) number state.Done ++ fresh_states count
         → slice_set old.states number state.Done ++ fresh_states (length more) ≡ states
     settled_states states new count more count_is is =

@@ -1,5 +1,5 @@
 -- From the first turn to the last: fresh tasks, and what stands when none waits.
-use Rattle.std.proofs.Common.{ℕ, zero, suc, ◌≡◌, ◌+◌, Bool, true, false, List, [], ◌∷◌, ◌++◌, length, refl, sym, ap, subst, ◌∙◌, arith}
+use Rattle.std.proofs.Common.{ℕ, zero, suc, ◌≡◌, ◌+◌, Bool, true, false, List, [], ◌∷◌, ◌++◌, length, refl, sym, ap, subst, ◌∙◌, arith, inl, inr}
 use Rattle.std.proofs.lemmas.List.{append-nil, length-map}
 use Rattle.std.specs.Prelude.{Option, Some, None, ◌&&◌, slice_get}
 use Rattle.gql_resolve.specs.Call.{Call, is_mutation}
@@ -10,8 +10,12 @@ use Rattle.gql_engine.specs.declared.arena.State.{State}
 use Rattle.gql_engine.specs.declared.arena.State.TheVariants as state
 use Rattle.gql_engine.specs.declared.occurrence.Occurrence.{Occurrence}
 use Rattle.gql_engine.specs.declared.scene.Scene.{Scene}
-use Rattle.gql_engine.specs.Apart.{Asked, asked_in, subject_in, work_in, placed, place_of, respond, root_of}
-use Rattle.gql_base.specs.Pairs.{unite_all}
+use Rattle.gql_engine.specs.Apart.{Asked, asked, asked_at, asked_of, asked_in, collected, name_of, subject_in, work_in, placed, place_of, respond, root_of}
+use Rattle.gql_base.specs.Pairs.{under, unite_all}
+use Rattle.gql_doc.specs.declared.document.Field.{Field}
+use Rattle.gql_doc.specs.declared.document.Positioned.{Positioned}
+use Rattle.gql_schema.specs.Object.{fields_of}
+use Rattle.gql_schema.specs.declared.field.Field.{Field as SchemaField}
 use Rattle.gql_place.specs.Join.{join}
 use Rattle.gql_engine.specs.ApartPlan.{seen as seen_as, all_seen, Keeps, place_here, places_here}
 use Rattle.std.specs.Option.{ForSome}
@@ -21,9 +25,9 @@ use Rattle.gql_engine.specs.declared.given.Given.{Given}
 use Rattle.gql_engine.specs.Arena.{mark_of, marks_of, made_of, fresh_states, started, total, Fits, IsRight}
 use Rattle.gql_engine.specs.Pace.{EachPaced, EachPacedSoFar, pending_then_ready}
 use Rattle.gql_engine.specs.Parts.{Parts, Moment, choice_by, due_by, delay_by}
-use Rattle.gql_engine.specs.Progress.{IsSound, Agrees, Seen, stage_of, story_at, RunsWhole, RunStopped}
-use Rattle.gql_engine.specs.Record.{Mark, untold, begun, ready, Story, Made, Ran, Stopped, waiting_from, waiting, untold_marks, fresh, after_mark, after_entry, made_at, begun_at}
-use Rattle.gql_engine.proofs.Lists.{get_map, get_at, get_within}
+use Rattle.gql_engine.specs.Progress.{IsSound, Agrees, Seen, stage_of, story_at, RunsWhole, RunStopped, story_of}
+use Rattle.gql_engine.specs.Record.{Mark, untold, begun, ready, Story, Made, Ran, Stopped, waiting_from, waiting, untold_marks, fresh, after_mark, after_entry, made_at, begun_at, Choice, Stage}
+use Rattle.gql_engine.proofs.Lists.{get_append, get_map, get_at, get_within}
 use Rattle.gql_engine.proofs.RecordLemmas.{with_more_none}
 use Rattle.gql_engine.proofs.StepLemmas.{started_fresh, all_started}
 
@@ -108,14 +112,37 @@ all_placed V scene answer (o ∷ os) all =
     ap (λ p. Rattle.gql_engine.specs.ApartPlan.place_under (Rattle.gql_engine.specs.Path.key_text o.item.now) p ++ places_here os) (all 0 o refl)
     ∙ ap (λ ps. ((seen_as scene o).key, place_of (seen_as scene o) (answer (seen_as scene o).asks.call)) ∷ ps) (all_placed V scene answer os (λ k p is. all (suc k) p is))
 
--- no occurrence is a root of a mutation, where the operation is none
-pub seen_roots : (V : Type 0) (scene : Scene V) (os : List Occurrence) → is_mutation scene.env.now.operation.node.ty ≡ false
-    → (number : ℕ) (task : Asked V) → slice_get (all_seen scene os) number ≡ Some task → task.asks.call.is_root ≡ false
-seen_roots V scene [] query number task is = absurd (cc)
-seen_roots V scene (o ∷ os) query zero task is =
-    let e : seen_as scene o ≡ task = cc in
-    subst (λ t. t.asks.call.is_root ≡ false) e (ap (λ b. b && true) query)
-seen_roots V scene (o ∷ os) query (suc number) task is = seen_roots V scene os query number task is
+-- whether an occurrence that asks is a root of a mutation is what the operation says
+asked_one : (V : Type 0) (scene : Scene V) (root : Bool) → is_mutation scene.env.now.operation.node.ty ≡ root → (o : Positioned Field) (found : Option SchemaField)
+    → (number : ℕ) (task : Asked V) → slice_get (asked_at scene o found) number ≡ Some task → task.asks.call.is_root ≡ root
+asked_one V scene root kind o None number task is = absurd (cc)
+asked_one V scene root kind o (Some declared) zero task is =
+    let e : asked_of scene o declared ≡ task = cc in
+    subst (λ (t : Asked V). t.asks.call.is_root ≡ root) e (ap (λ b. b && true) kind ∙ whole root)
+  where
+    whole : (b : Bool) → (b && true) ≡ b
+    whole true = refl
+    whole false = refl
+asked_one V scene root kind o (Some declared) (suc number) task is = absurd (cc)
+
+asked_each : (V : Type 0) (scene : Scene V) (root : Bool) → is_mutation scene.env.now.operation.node.ty ≡ root → (os : List (Positioned Field))
+    → (number : ℕ) (task : Asked V) → slice_get (asked scene os) number ≡ Some task → task.asks.call.is_root ≡ root
+asked_each V scene root kind [] number task is = absurd (cc)
+asked_each V scene root kind (o ∷ os) number task is =
+    elim (get_append (asked_at scene o (under (name_of o) (fields_of scene.object.now))) (asked scene os) number task is) [
+      | inl here ↦ asked_one V scene root kind o (under (name_of o) (fields_of scene.object.now)) number task here
+      | inr later ↦ asked_each V scene root kind os later.0 task later.2
+    ]
+
+pub asked_all : (V : Type 0) (scene : Scene V) (root : Bool) → is_mutation scene.env.now.operation.node.ty ≡ root
+    → (number : ℕ) (task : Asked V) → slice_get (asked_in scene) number ≡ Some task → task.asks.call.is_root ≡ root
+asked_all V scene root kind = asked_each V scene root kind (collected scene.env.now.operation.node.selection_set.node)
+
+-- nothing is beneath, so that the tasks stay
+pub tasks_kept : (V F : Type 0) (answers : Asked V → Answer V) {State_ : Type 0} {choice : Choice State_} {old new : Stage (Asked V) State_}
+    → Ran choice (story_of subject_in answers) old new → new.made.tasks ≡ old.made.tasks
+tasks_kept V F answers {old = old} ran =
+    ap (λ m. m.tasks) ran.made_is ∙ tasks_stay V (Asked V) F (story_of subject_in answers) (λ t. refl) old.made ran.entries
 
 -- the execution of a flat object's fields, from its plan to its places
 module _ {R Own World Future P : Type 0} (set : Resolving R Own World Future) (turns : Choosing P) (scene : Scene Own) (old : Seen R P) where

@@ -1,9 +1,10 @@
 -- The plan of a flat object: what each of its occurrences is as a task, and what it keeps of
 -- answers.
-use Rattle.std.specs.Prelude.{ℕ, ◌≡◌, List, [], ◌∷◌, Option, Some, None, map, slice_get}
+use Rattle.std.specs.Prelude.{ℕ, ◌≡◌, List, [], ◌∷◌, Option, Some, None, map, slice_get, ◌&&◌}
 use Rattle.std.specs.List.{flat_map}
 use Rattle.gql_base.specs.declared.path_segment.PathSegment.{PathSegment}
 use Rattle.gql_place.specs.declared.place.Place.{Place}
+use Rattle.gql_resolve.specs.Call.{is_mutation, is_single}
 use Rattle.gql_engine.specs.Apart.{Asked, asked_of, place_given}
 use Rattle.gql_engine.specs.declared.given.Given.{Given}
 use Rattle.gql_engine.specs.Path.{key_text, path_of}
@@ -14,7 +15,15 @@ use Rattle.gql_engine.specs.declared.scene.Scene.{Scene}
 abbrev pub seen : {V : Type 0} → Scene V → Occurrence → Asked V
 seen scene occurrence =
     let asked = asked_of scene occurrence.item.now occurrence.declared.now in
-    record asked { asks = record asked.asks { env = occurrence.env.now } }
+    record asked {
+      asks = record asked.asks {
+        env = occurrence.env.now;
+        call = record asked.asks.call {
+          is_root = is_mutation occurrence.env.now.operation.node.ty
+              && is_single (path_of occurrence.item.now);
+        };
+      };
+    }
 
 -- all of them
 abbrev pub all_seen : {V : Type 0} → Scene V → List Occurrence → List (Asked V)

@@ -1,5 +1,5 @@
 -- The parts of an execution, and what is seen of them at one moment.
-use Rattle.std.specs.Prelude.{ℕ, List, Bool, false}
+use Rattle.std.specs.Prelude.{ℕ, List, Bool, true, false}
 use Rattle.gql_resolve.specs.Call.{Call}
 use Rattle.gql_resolve.specs.declared.answer.Answer.{Answer}
 use Rattle.gql_resolve.specs.declared.resolver_set.ResolverSet.{Ghosts as Resolving}
@@ -29,6 +29,16 @@ module _ {R Own World Future L H P : Type 0} (set : Resolving R Own World Future
     hooks = hooks;
     turns = turns;
     root = false;
+  }
+
+  -- those of the phase that answers a root of a mutation: it alone is open
+  abbrev pub root_parts : Planning L Own → Hooking H Own → Choosing P → Parts R Own World Future L H P
+  root_parts plan hooks turns = record {
+    set = set;
+    plan = plan;
+    hooks = hooks;
+    turns = turns;
+    root = true;
   }
 
 -- what an execution uses that isn't the engine's: the set, the hooks, the turns, and the steps so

@@ -40,6 +40,7 @@ fn advance<R: ResolverSet, L: Plan<R::Own>, H: Rounds<R::Own>, P: Turns, S: Ledg
     let turn = {
         let context = plan.context(picked.number);
         take_turn(
+            false,
             alloc,
             resolvers,
             hooks,

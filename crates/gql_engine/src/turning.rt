@@ -1,9 +1,11 @@
 ghost use Rattle.std.specs.Prelude.{◌≡◌, ◌+◌, [], ◌∷◌, length, map, OnOk, IfOk, OnErr};
-ghost use Rattle.gql_resolve.specs.Record.{with_more};
-ghost use Rattle.gql_resolve.specs.Lawful.{plain_answer};
+ghost use Rattle.gql_resolve.specs.Record.{with_more, entries_of_poll};
+ghost use Rattle.gql_resolve.specs.Lawful.{plain_answer, PromisesPoll};
+ghost use Rattle.gql_resolve.specs.Paced.{PollsPaced};
 ghost use Rattle.gql_resolve.specs.Call.{call_of};
 ghost use Rattle.gql_engine.specs.Pace.{TurnPaced};
 ghost use Rattle.gql_engine.specs.Parts.{due_by, delay_by};
+ghost use Rattle.gql_engine.specs.Root.{effect_by, world_polled, world_turned, PollsRightly};
 ghost use Rattle.gql_engine.specs.Steps.{IsCounted};
 ghost use Rattle.gql_engine.specs.Turn.{BeginsAtMost, EntersAtMost, IsNoPut, IsOpen, PutKeeps};
 ghost use Rattle.gql_engine.specs.Turn.{TurnOf, AnswersRightly, told_by_turn, begins_now};
@@ -17,9 +19,11 @@ use gql_resolve::{Answer, FieldFuture, FieldValue, Polled, ResolverContext, Reso
 use std::alloc::Global;
 use std::sync::ledger::Ledger;
 
-/// Takes up a task: begins it where it is fresh, and polls its future.
+/// Takes up a task: begins it where it is fresh, and polls its future, as that of a root of a mutation
+/// or of another task. The world stays, but for the effect of a root that its resolver answered.
 #[tactic(auto, using(crate::proofs::RecordLemmas::with_more_none, crate::proofs::StepLemmas::none_counted))]
 pub fn take_turn<R: ResolverSet, H: Rounds<R::Own>, S: Ledger>(
+    root: bool,
     alloc: Global,
     resolvers: &mut R,
     hooks: &mut H,
@@ -27,12 +31,14 @@ pub fn take_turn<R: ResolverSet, H: Rounds<R::Own>, S: Ledger>(
     context: &ResolverContext<'_, R::Own>,
     steps: &mut Steps<S>,
 ) -> Made<Turn<R::Own>>
-    requires { IsOpen R.is_for (call_of context.now) state.old }
+    requires open { IsOpen R.is_for (call_of context.now) state.old }
+    requires root { (call_of context.now).is_root ≡ root }
     ensures rules { R.rules resolvers.new ≡ R.rules resolvers.old }
     ensures promise { IfOk result
         (TurnOf R.ResolverSet (call_of context.now) state.old state.new) }
     ensures lawful { R.is_lawful resolvers.old → R.is_lawful resolvers.new }
-    ensures world { R.is_lawful resolvers.old → R.world resolvers.new ≡ R.world resolvers.old }
+    ensures world { R.is_lawful resolvers.old → R.world resolvers.new ≡ world_turned root
+        (effect_by R.ResolverSet resolvers.old (call_of context.now)) (R.world resolvers.old) result }
     ensures quiet { H.are_quiet hooks.old → H.are_quiet hooks.new }
     ensures entered { OnOk result (H.told hooks.new
         ≡ with_more (H.told hooks.old) (map H.entered (enters_now context.now state.old))) }
@@ -57,8 +63,8 @@ pub fn take_turn<R: ResolverSet, H: Rounds<R::Own>, S: Ledger>(
         (steps.new ≡ steps.old + length (begins_now context.now.task state.old)) }
 {
     match state {
-        State::Fresh => begin(alloc, resolvers, hooks, state, context, steps),
-        State::Waiting(future) => match resolvers.poll(alloc, future, context)? {
+        State::Fresh => begin(root, alloc, resolvers, hooks, state, context, steps),
+        State::Waiting(future) => match poll_as(root, alloc, resolvers, future, context)? {
             Polled::Ready(answer) => Ok(Turn::Answered(Given::Answered(answer))),
             Polled::Pending => Ok(Turn::Pending),
         },
@@ -67,8 +73,9 @@ pub fn take_turn<R: ResolverSet, H: Rounds<R::Own>, S: Ledger>(
 }
 
 /// The first turn of a task: the hooks, the start, and the first poll of a future.
-#[tactic(auto, using(crate::proofs::RecordLemmas::with_more_none, crate::proofs::GivenLemmas::no_put, crate::proofs::StepLemmas::none_counted, crate::proofs::StepLemmas::one_counted))]
+#[tactic(auto, using(crate::proofs::RecordLemmas::with_more_none, crate::proofs::GivenLemmas::no_put, crate::proofs::StepLemmas::none_counted, crate::proofs::StepLemmas::one_counted, crate::proofs::RootWorld::started_world))]
 fn begin<R: ResolverSet, H: Rounds<R::Own>, S: Ledger>(
+    root: bool,
     alloc: Global,
     resolvers: &mut R,
     hooks: &mut H,
@@ -76,11 +83,13 @@ fn begin<R: ResolverSet, H: Rounds<R::Own>, S: Ledger>(
     context: &ResolverContext<'_, R::Own>,
     steps: &mut Steps<S>,
 ) -> Made<Turn<R::Own>>
+    requires { (call_of context.now).is_root ≡ root }
     ensures rules { R.rules resolvers.new ≡ R.rules resolvers.old }
     ensures promise { IfOk result
         (TurnOf R.ResolverSet (call_of context.now) State.Fresh state.new) }
     ensures lawful { R.is_lawful resolvers.old → R.is_lawful resolvers.new }
-    ensures world { R.is_lawful resolvers.old → R.world resolvers.new ≡ R.world resolvers.old }
+    ensures world { R.is_lawful resolvers.old → R.world resolvers.new ≡ world_turned root
+        (effect_by R.ResolverSet resolvers.old (call_of context.now)) (R.world resolvers.old) result }
     ensures quiet { H.are_quiet hooks.old → H.are_quiet hooks.new }
     ensures entered { OnOk result
         (H.told hooks.new ≡ with_more (H.told hooks.old) (H.entered context.now ∷ [])) }
@@ -112,7 +121,9 @@ fn begin<R: ResolverSet, H: Rounds<R::Own>, S: Ledger>(
                 FieldFuture::Value(value) => Ok(Turn::Answered(Given::Answered(answer_of(
                     alloc, value,
                 )))),
-                FieldFuture::Future(future) => poll_first(alloc, resolvers, state, future, context),
+                FieldFuture::Future(future) => poll_first(
+                    root, alloc, resolvers, state, future, context,
+                ),
             }
         }
     }
@@ -120,6 +131,7 @@ fn begin<R: ResolverSet, H: Rounds<R::Own>, S: Ledger>(
 
 /// Polls a future for the first time, and keeps it where it is pending.
 fn poll_first<R: ResolverSet>(
+    root: bool,
     alloc: Global,
     resolvers: &mut R,
     state: &mut State<R::Future>,
@@ -132,7 +144,8 @@ fn poll_first<R: ResolverSet>(
     ensures promise { IfOk result
         (TurnOf R.ResolverSet (call_of context.now) State.Fresh state.new) }
     ensures lawful { R.is_lawful resolvers.old → R.is_lawful resolvers.new }
-    ensures world { R.is_lawful resolvers.old → R.world resolvers.new ≡ R.world resolvers.old }
+    ensures world { R.is_lawful resolvers.old → R.world resolvers.new ≡ world_turned root
+        (effect_by R.ResolverSet resolvers.old (call_of context.now)) (R.world resolvers.old) result }
     ensures answer { R.is_lawful resolvers.old → AnswersRightly
         (due_by R.ResolverSet resolvers.old (call_of context.now)) result }
     ensures pace { R.is_paced resolvers.old → R.is_paced resolvers.new }
@@ -143,12 +156,43 @@ fn poll_first<R: ResolverSet>(
     ensures begun { R.begun resolvers.new ≡ R.begun resolvers.old }
 {
     let mut future = future;
-    match resolvers.poll(alloc, &mut future, context)? {
+    match poll_as(root, alloc, resolvers, &mut future, context)? {
         Polled::Ready(answer) => Ok(Turn::Answered(Given::Answered(answer))),
         Polled::Pending => {
             *state = State::Waiting(future);
             Ok(Turn::Begun)
         }
+    }
+}
+
+/// Polls a future, as that of a root of a mutation or of another task.
+#[tactic(auto, using(crate::proofs::RootWorld::polled_root, crate::proofs::RootWorld::polled_other, crate::proofs::RootWorld::answered_root, crate::proofs::RootWorld::answered_other))]
+fn poll_as<R: ResolverSet>(
+    root: bool,
+    alloc: Global,
+    resolvers: &mut R,
+    future: &mut R::Future,
+    context: &ResolverContext<'_, R::Own>,
+) -> Made<Polled<R::Own>>
+    requires { R.is_for future.old (call_of context.now) }
+    ensures promise { IfOk result (PromisesPoll R.is_for R.number
+        (call_of context.now) future.old future.new) }
+    ensures rules { R.rules resolvers.new ≡ R.rules resolvers.old }
+    ensures lawful { R.is_lawful resolvers.old → R.is_lawful resolvers.new }
+    ensures world { R.is_lawful resolvers.old → R.world resolvers.new ≡ world_polled root
+        (effect_by R.ResolverSet resolvers.old (call_of context.now)) (R.world resolvers.old) result }
+    ensures answer { R.is_lawful resolvers.old → PollsRightly
+        (due_by R.ResolverSet resolvers.old (call_of context.now)) result }
+    ensures paced { R.is_paced resolvers.old → R.is_paced resolvers.new
+        × IfOk result (PollsPaced R.number future.old future.new) }
+    ensures told { R.told resolvers.new
+        ≡ with_more (R.told resolvers.old) (entries_of_poll context.now result) }
+    ensures begun { R.begun resolvers.new ≡ R.begun resolvers.old }
+{
+    if root {
+        resolvers.poll_root(alloc, future, context)
+    } else {
+        resolvers.poll(alloc, future, context)
     }
 }
 

@@ -1,6 +1,6 @@
 use Rattle.std.proofs.Common.{◌≡◌, false, sym, ap, subst, ◌∙◌, refl}
+use Rattle.std.specs.Prelude.{slice_get}
 use Rattle.std.proofs.lemmas.List.{length-map}
-use Rattle.gql_resolve.specs.Call.{is_mutation}
 use Rattle.gql_engine.specs.Apart.{asked_in, what_asks}
 use Rattle.gql_engine.specs.ApartPlan.{seen as seen_as, all_seen}
 use Rattle.gql_engine.specs.Parts.{at, outside}
@@ -9,7 +9,7 @@ use Rattle.gql_engine.specs.Rounds.{RoundsWhole, RoundsStopped}
 use Rattle.gql_engine.proofs.AdvanceLemmas.{on_err}
 use Rattle.gql_engine.proofs.PaceLemmas.{each_paced, each_so_far, so_far_whole}
 use Rattle.gql_engine.proofs.RoundLemmas.{no_rounds, stopped_rounds, so_far_enters_whole, whole_rounds}
-use Rattle.gql_engine.proofs.RunLemmas.{Begins, Finishes, answers_due, due_agrees, first_sound, all_answered, seen_roots, stopped_none, stopped_run, runs_whole, stopped_whole, whole_ran, places_end, steps_end}
+use Rattle.gql_engine.proofs.RunLemmas.{Begins, Finishes, answers_due, due_agrees, first_sound, all_answered, asked_all, stopped_none, stopped_run, runs_whole, stopped_whole, whole_ran, places_end, steps_end}
 use Rattle.gql_engine.proofs.apart.run_apart_counted.Goals as goal
 
 pub returns-in_err-plan-clause-stopped : goal.returns-in_err-plan-clause-stopped
@@ -21,11 +21,13 @@ returns-in_err-arena-clause-stopped g c = λ law calm. on_err c.from_residual-in
     (stopped_none g.R.ResolverSet g.P.Turns c.args.scene.now (seen c.args.resolvers.now c.args.turns.now) (seen c.args.resolvers.now c.args.turns.now) refl refl)
 
 pub finish-requires : goal.finish-requires
-finish-requires g c = record {
-  sound = first_sound (at c.in_ok-plan.plan c.in_ok-arena.arena (outside c.args.resolvers.now c.args.hooks.now c.args.turns.now c.args.steps.now)) c.len.result
-      c.in_ok-arena.ensures.states (c.len.ensures ∙ c.in_ok-plan.plan.occurrences.ok.0 ∙ sym (length-map c.in_ok-plan.plan.occurrences.items (seen_as c.in_ok-plan.plan.scene.now))) c.in_ok-arena.ensures.waits
-      (seen_roots g.row.R-Own.Denot c.in_ok-plan.plan.scene.now c.in_ok-plan.plan.occurrences.items (subst (λ s. is_mutation s.env.now.operation.node.ty ≡ false) (sym c.in_ok-plan.ensures.scene) c.requires));
-}
+finish-requires g c =
+    let all = ap (λ s. all_seen s c.in_ok-plan.plan.occurrences.items) c.in_ok-plan.ensures.scene ∙ c.in_ok-plan.ensures.asked in
+    record {
+      sound = first_sound (at c.in_ok-plan.plan c.in_ok-arena.arena (outside c.args.resolvers.now c.args.hooks.now c.args.turns.now c.args.steps.now)) c.len.result
+          c.in_ok-arena.ensures.states (c.len.ensures ∙ c.in_ok-plan.plan.occurrences.ok.0 ∙ sym (length-map c.in_ok-plan.plan.occurrences.items (seen_as c.in_ok-plan.plan.scene.now))) c.in_ok-arena.ensures.waits
+          (λ number task is. asked_all g.row.R-Own.Denot c.args.scene.now false c.requires number task (ap (λ ts. slice_get ts number) (sym all) ∙ is));
+    }
 
 pub returns-in_err-finish-clause-stopped : goal.returns-in_err-finish-clause-stopped
 returns-in_err-finish-clause-stopped g c = λ law calm.

@@ -1,6 +1,7 @@
-use Rattle.std.proofs.Common.{◌<◌, length, arith, sym, subst, refl}
+use Rattle.std.proofs.Common.{◌<◌, length, arith, sym, subst, refl, ap, ◌∙◌}
 use Rattle.gql_resolve.specs.Call.{Call, call_of}
 use Rattle.gql_engine.specs.Parts.{parts, at, outside}
+use Rattle.gql_engine.specs.Root.{effect_by}
 use Rattle.gql_engine.specs.Turn.{IsOpen}
 use Rattle.gql_engine.proofs.PickLemmas.{open_undone}
 use Rattle.gql_engine.proofs.ArenaLemmas.{still_waits}
@@ -8,6 +9,7 @@ use Rattle.gql_engine.proofs.Lists.{length_set}
 use Rattle.gql_engine.proofs.NearerLemmas.{nearer_begun, nearer_pending}
 use Rattle.gql_engine.proofs.AdvanceLemmas.{went_begun, went_pending, completed_by, sound_answered, passed_answered, nearer_answered, ended_before, ended_after}
 use Rattle.gql_engine.proofs.AimLemmas.{ended_none}
+use Rattle.gql_engine.proofs.RootWorld.{other_given}
 use Rattle.gql_engine.proofs.StepLemmas.{none_counted}
 use Rattle.gql_engine.proofs.ProgressLemmas.{went_trans, ended_trans}
 use Rattle.gql_engine.proofs.UponLemmas.{upon, within, stretch_err}
@@ -41,13 +43,21 @@ index_mut-requires g c =
     let ok = c.args.arena.now.states.ok.0 in
     omega arith
 
-pub take_turn-requires : goal.take_turn-requires
-take_turn-requires g c =
+pub take_turn-requires-clause-open : goal.take_turn-requires-clause-open
+take_turn-requires-clause-open g c =
     let first = at c.args.plan.now c.args.arena.now (outside c.args.resolvers.now c.args.hooks.now c.args.turns.now c.args.steps.now) in
     let u = upon {e = parts g.R.ResolverSet g.L.Plan g.H.Rounds g.P.Turns} first c.aim.new.self c.pick_task-picked.new.turns c.pick_task-picked.result.place c.pick_task-picked.result.number c.index_mut.result.now
     c.context-context.result c.aim.ensures.stays c.aim.ensures.keeps c.requires.sound c.pick_task-picked.ensures.stands c.index_mut.ensures.value
     c.context-context.ensures c.pick_task-picked.ensures.choice c.pick_task-picked.ensures.after in
     subst (λ call. IsOpen g.R.ResolverSet.is_for call c.index_mut.result.now) (sym u.taken.context_is.call_is) u.taken.pick.open_is
+
+pub take_turn-requires-clause-root : goal.take_turn-requires-clause-root
+take_turn-requires-clause-root g c =
+    let first = at c.args.plan.now c.args.arena.now (outside c.args.resolvers.now c.args.hooks.now c.args.turns.now c.args.steps.now) in
+    let u = upon {e = parts g.R.ResolverSet g.L.Plan g.H.Rounds g.P.Turns} first c.aim.new.self c.pick_task-picked.new.turns c.pick_task-picked.result.place c.pick_task-picked.result.number c.index_mut.result.now
+    c.context-context.result c.aim.ensures.stays c.aim.ensures.keeps c.requires.sound c.pick_task-picked.ensures.stands c.index_mut.ensures.value
+    c.context-context.ensures c.pick_task-picked.ensures.choice c.pick_task-picked.ensures.after in
+    ap (λ (call : Call g.row.R-Own.Denot). call.is_root) u.taken.context_is.call_is ∙ u.taken.pick.not_root
 
 pub returns-in_err-turn-clause-stretch : goal.returns-in_err-turn-clause-stretch
 returns-in_err-turn-clause-stretch g c =
@@ -70,7 +80,11 @@ returns-in_err-count-in-Answered-clause-stretch g c =
     let u = upon {e = parts g.R.ResolverSet g.L.Plan g.H.Rounds g.P.Turns} first c.aim.new.self c.pick_task-picked.new.turns c.pick_task-picked.result.place c.pick_task-picked.result.number c.index_mut.result.now
     c.context-context.result c.aim.ensures.stays c.aim.ensures.keeps c.requires.sound c.pick_task-picked.ensures.stands c.index_mut.ensures.value
     c.context-context.ensures c.pick_task-picked.ensures.choice c.pick_task-picked.ensures.after in
-    stretch_err _ c.from_residual-in_err-count-in-Answered.result c.from_residual-in_err-count-in-Answered.ensures.1 (record { steady = record { rules_is = c.in_ok-turn.ensures.rules; lawful_is = c.in_ok-turn.ensures.lawful; paced_is = c.in_ok-turn.ensures.pace; quiet_is = c.in_ok-turn.ensures.quiet; counted = c.in_ok-turn.ensures.counted }; world_is = c.in_ok-turn.ensures.world })
+    stretch_err _ c.from_residual-in_err-count-in-Answered.result c.from_residual-in_err-count-in-Answered.ensures.1 (record {
+      steady = record { rules_is = c.in_ok-turn.ensures.rules; lawful_is = c.in_ok-turn.ensures.lawful; paced_is = c.in_ok-turn.ensures.pace; quiet_is = c.in_ok-turn.ensures.quiet; counted = c.in_ok-turn.ensures.counted };
+      world_is = λ law. other_given (effect_by g.R.ResolverSet c.args.resolvers.now (call_of c.context-context.result)) (g.R.ResolverSet.world c.args.resolvers.now)
+          (g.R.ResolverSet.world c.take_turn.new.resolvers) c.in-Answered.given (rw c.in-Answered.is at (c.in_ok-turn.ensures.world law));
+    })
     (ended_trans u.kept u.aimed.passed (ended_after u.taken _ c.in_ok-turn.ensures.entered
     (λ pace calm. rw c.in-Answered.is at (c.in_ok-turn.ensures.paced calm pace)) (λ calm. rw c.in-Answered.is at (c.in_ok-turn.ensures.told calm)) (λ calm. c.in_ok-turn.ensures.begun calm)))
 
@@ -80,7 +94,11 @@ returns-in_err-settle-in-Answered-clause-stretch g c =
     let u = upon {e = parts g.R.ResolverSet g.L.Plan g.H.Rounds g.P.Turns} first c.aim.new.self c.pick_task-picked.new.turns c.pick_task-picked.result.place c.pick_task-picked.result.number c.index_mut.result.now
     c.context-context.result c.aim.ensures.stays c.aim.ensures.keeps c.requires.sound c.pick_task-picked.ensures.stands c.index_mut.ensures.value
     c.context-context.ensures c.pick_task-picked.ensures.choice c.pick_task-picked.ensures.after in
-    stretch_err _ c.from_residual-in_err-settle-in-Answered.result c.from_residual-in_err-settle-in-Answered.ensures.1 (record { steady = record { rules_is = c.in_ok-turn.ensures.rules; lawful_is = c.in_ok-turn.ensures.lawful; paced_is = c.in_ok-turn.ensures.pace; quiet_is = c.in_ok-turn.ensures.quiet; counted = c.in_ok-turn.ensures.counted }; world_is = c.in_ok-turn.ensures.world })
+    stretch_err _ c.from_residual-in_err-settle-in-Answered.result c.from_residual-in_err-settle-in-Answered.ensures.1 (record {
+      steady = record { rules_is = c.in_ok-turn.ensures.rules; lawful_is = c.in_ok-turn.ensures.lawful; paced_is = c.in_ok-turn.ensures.pace; quiet_is = c.in_ok-turn.ensures.quiet; counted = c.in_ok-turn.ensures.counted };
+      world_is = λ law. other_given (effect_by g.R.ResolverSet c.args.resolvers.now (call_of c.context-context.result)) (g.R.ResolverSet.world c.args.resolvers.now)
+          (g.R.ResolverSet.world c.take_turn.new.resolvers) c.in-Answered.given (rw c.in-Answered.is at (c.in_ok-turn.ensures.world law));
+    })
     (ended_trans u.kept u.aimed.passed (ended_after u.taken _ c.in_ok-turn.ensures.entered
     (λ pace calm. rw c.in-Answered.is at (c.in_ok-turn.ensures.paced calm pace)) (λ calm. rw c.in-Answered.is at (c.in_ok-turn.ensures.told calm)) (λ calm. c.in_ok-turn.ensures.begun calm)))
 
@@ -112,7 +130,7 @@ returns-in-Begun-clause-stretch g c =
     c.context-context.result c.aim.ensures.stays c.aim.ensures.keeps c.requires.sound c.pick_task-picked.ensures.stands c.index_mut.ensures.value
     c.context-context.ensures c.pick_task-picked.ensures.choice c.pick_task-picked.ensures.after in
     record {
-      kept = record { steady = record { rules_is = c.in_ok-turn.ensures.rules; lawful_is = c.in_ok-turn.ensures.lawful; paced_is = c.in_ok-turn.ensures.pace; quiet_is = c.in_ok-turn.ensures.quiet; counted = c.in_ok-turn.ensures.counted }; world_is = c.in_ok-turn.ensures.world };
+      kept = record { steady = record { rules_is = c.in_ok-turn.ensures.rules; lawful_is = c.in_ok-turn.ensures.lawful; paced_is = c.in_ok-turn.ensures.pace; quiet_is = c.in_ok-turn.ensures.quiet; counted = c.in_ok-turn.ensures.counted }; world_is = λ law. rw c.in-Begun.is at (c.in_ok-turn.ensures.world law) };
       went = went_trans u.kept u.aimed (went_begun u.taken c.take_turn.new.resolvers c.take_turn.new.hooks c.take_turn.new.steps c.take_turn.new.state
           (record { told_is = c.in_ok-turn.ensures.entered; stepped = λ calm. c.in_ok-turn.ensures.stepped calm }) (rw c.in-Begun.is at c.in_ok-turn.ensures.promise)
           (λ pace calm. rw c.in-Begun.is at (c.in_ok-turn.ensures.paced calm pace)) (λ calm. rw c.in-Begun.is at (c.in_ok-turn.ensures.told calm)) (λ calm. c.in_ok-turn.ensures.begun calm));
@@ -135,7 +153,7 @@ returns-in-Pending-clause-stretch g c =
     c.context-context.result c.aim.ensures.stays c.aim.ensures.keeps c.requires.sound c.pick_task-picked.ensures.stands c.index_mut.ensures.value
     c.context-context.ensures c.pick_task-picked.ensures.choice c.pick_task-picked.ensures.after in
     record {
-      kept = record { steady = record { rules_is = c.in_ok-turn.ensures.rules; lawful_is = c.in_ok-turn.ensures.lawful; paced_is = c.in_ok-turn.ensures.pace; quiet_is = c.in_ok-turn.ensures.quiet; counted = c.in_ok-turn.ensures.counted }; world_is = c.in_ok-turn.ensures.world };
+      kept = record { steady = record { rules_is = c.in_ok-turn.ensures.rules; lawful_is = c.in_ok-turn.ensures.lawful; paced_is = c.in_ok-turn.ensures.pace; quiet_is = c.in_ok-turn.ensures.quiet; counted = c.in_ok-turn.ensures.counted }; world_is = λ law. rw c.in-Pending.is at (c.in_ok-turn.ensures.world law) };
       went = went_trans u.kept u.aimed (went_pending u.taken c.take_turn.new.resolvers c.take_turn.new.hooks c.take_turn.new.steps c.take_turn.new.state
           (record { told_is = c.in_ok-turn.ensures.entered; stepped = λ calm. c.in_ok-turn.ensures.stepped calm }) (rw c.in-Pending.is at c.in_ok-turn.ensures.promise)
           (λ pace calm. rw c.in-Pending.is at (c.in_ok-turn.ensures.paced calm pace)) (λ calm. rw c.in-Pending.is at (c.in_ok-turn.ensures.told calm)) (λ calm. c.in_ok-turn.ensures.begun calm));
@@ -161,7 +179,11 @@ returns-in_ok-settle-in-Answered-clause-stretch g c =
     c.in_ok-count-in-Answered.ensures.made c.in_ok-count-in-Answered.ensures.holds c.in_ok-count-in-Answered.ensures.keeps in
     let new = at c.complete.new.self c.settle.new.arena (outside c.take_turn.new.resolvers c.take_turn.new.hooks c.pick_task-picked.new.turns c.take_turn.new.steps) in
     record {
-      kept = record { steady = record { rules_is = c.in_ok-turn.ensures.rules; lawful_is = c.in_ok-turn.ensures.lawful; paced_is = c.in_ok-turn.ensures.pace; quiet_is = c.in_ok-turn.ensures.quiet; counted = c.in_ok-turn.ensures.counted }; world_is = c.in_ok-turn.ensures.world };
+      kept = record {
+        steady = record { rules_is = c.in_ok-turn.ensures.rules; lawful_is = c.in_ok-turn.ensures.lawful; paced_is = c.in_ok-turn.ensures.pace; quiet_is = c.in_ok-turn.ensures.quiet; counted = c.in_ok-turn.ensures.counted };
+        world_is = λ law. other_given (effect_by g.R.ResolverSet c.args.resolvers.now (call_of c.context-context.result)) (g.R.ResolverSet.world c.args.resolvers.now)
+            (g.R.ResolverSet.world c.take_turn.new.resolvers) c.in-Answered.given (rw c.in-Answered.is at (c.in_ok-turn.ensures.world law));
+      };
       went = went_trans u.kept u.aimed (record {
         sound = sound_answered u.taken refl new c.take_turn.new.state c.in-Answered.given c.in_ok-count-in-Answered.count made g.met.L.Plan.never_roots
             c.in_ok-settle-in-Answered.ensures.states c.in_ok-settle-in-Answered.ensures.waits;
