@@ -1,9 +1,9 @@
 -- The phase of a root of a mutation: stretches one after another, and the turn that answers it.
-use Rattle.std.proofs.Common.{ℕ, zero, suc, ◌≡◌, ◌+◌, Bool, true, false, if◌then◌else◌, List, [], ◌∷◌, ◌++◌, length, refl, sym, ap, subst, ◌∙◌, arith, inl, inr}
+use Rattle.std.proofs.Common.{ℕ, zero, suc, ◌≡◌, Bool, true, false, List, [], ◌∷◌, ◌++◌, length, refl, sym, ap, subst, ◌∙◌, arith, inl, inr}
 use Rattle.std.specs.Prelude.{Some, ◌⊎◌, Result, Ok, Err, IfErr, IsErrAnd, slice_get, slice_set}
 use Rattle.std.specs.declared.alloc.AllocError.{AllocError}
 use Rattle.gql_base.specs.declared.no_memory.NoMemory.{NoMemory}
-use Rattle.gql_resolve.specs.Call.{Call, call_of}
+use Rattle.gql_resolve.specs.Call.{call_of}
 use Rattle.gql_resolve.specs.declared.answer.Answer.{Answer}
 use Rattle.gql_resolve.specs.declared.resolver_context.ResolverContext.{ResolverContext}
 use Rattle.gql_engine.specs.declared.arena.State.{State}
@@ -13,7 +13,7 @@ use Rattle.gql_engine.specs.declared.given.Given.TheVariants.{Answered, Put}
 use Rattle.gql_engine.specs.Arena.{Fits, mark_of, marks_of, fresh_states}
 use Rattle.gql_engine.specs.Given.{beneath_given}
 use Rattle.gql_engine.specs.Parts.{Parts, Moment, due_by, subject}
-use Rattle.gql_engine.specs.Progress.{IsSound, Kept, Went, Ended}
+use Rattle.gql_engine.specs.Progress.{IsSound}
 use Rattle.gql_engine.specs.Record.{Mark, untold, begun, ready, waiting_from}
 use Rattle.gql_engine.specs.declared.arena.Turn.TheVariants as turn
 use Rattle.gql_engine.specs.Root.{effect_by, world_turned, roots_given, without_root, LeavesEffect, RootAnswered, RootEnded, RootWaits, RootTurned, RootReached}

@@ -1,5 +1,5 @@
 -- A mutation with one root key over a flat object, from its plan to its place.
-use Rattle.std.proofs.Common.{ℕ, zero, suc, ◌≡◌, ◌+◌, ◌≤◌, Bool, true, false, if◌then◌else◌, List, [], ◌∷◌, length, ap, subst, ◌∙◌, inl, inr}
+use Rattle.std.proofs.Common.{ℕ, ◌≡◌, true, false, if◌then◌else◌, List, [], ◌∷◌, ap, subst, ◌∙◌, inl, inr}
 use Rattle.std.specs.Prelude.{Some, ◌⊎◌, Result, Ok, Err, OnOk, slice_get}
 use Rattle.gql_base.specs.declared.no_memory.NoMemory.{NoMemory}
 use Rattle.gql_resolve.specs.Call.{Call}

@@ -3,12 +3,10 @@ use Rattle.std.proofs.Common.{◌≡◌, Bool, true, false, if◌then◌else◌,
 use Rattle.std.specs.Prelude.{Result, Ok, Err, IsTrue}
 use Rattle.std.specs.declared.alloc.AllocError.{AllocError}
 use Rattle.gql_resolve.specs.Call.{Call}
-use Rattle.gql_resolve.specs.Lawful.{StartsLawfully, PollsLawfully, PollsRootLawfully}
+use Rattle.gql_resolve.specs.Lawful.{PollsLawfully, PollsRootLawfully}
 use Rattle.gql_resolve.specs.declared.answer.Answer.{Answer}
 use Rattle.gql_resolve.specs.declared.answer.Polled.{Polled}
 use Rattle.gql_resolve.specs.declared.answer.Polled.TheVariants.{Ready, Pending}
-use Rattle.gql_resolve.specs.declared.field_future.FieldFuture.TheVariants.{Value}
-use Rattle.gql_resolve.specs.declared.field_value.FieldValue.{FieldValue}
 use Rattle.gql_engine.specs.declared.arena.Turn.TheVariants as turn
 use Rattle.gql_engine.specs.declared.given.Given.{Given}
 use Rattle.gql_engine.specs.declared.given.Given.TheVariants.{Answered, Put}

@@ -32,7 +32,8 @@ module _ {R Own World Future L H P : Type 0} (set : Resolving R Own World Future
   }
 
   -- those of the phase that answers a root of a mutation: it alone is open
-  abbrev pub root_parts : Planning L Own → Hooking H Own → Choosing P → Parts R Own World Future L H P
+  abbrev pub root_parts : Planning L Own → Hooking H Own → Choosing P
+      → Parts R Own World Future L H P
   root_parts plan hooks turns = record {
     set = set;
     plan = plan;

@@ -1,4 +1,5 @@
--- A root key of a mutation: its task is answered alone, and its effect on the world comes with its answer.
+-- A root key of a mutation (GraphQL, October 2021, section 6.2.2): its task is answered alone, and
+-- its effect on the world comes with its answer.
 use Rattle.std.specs.Prelude.{ℕ, ◌≡◌, Bool, if◌then◌else◌, true, false, List, [], ◌∷◌, ◌⊎◌, Some}
 use Rattle.std.specs.Prelude.{Result, Ok, Err, slice_get}
 use Rattle.gql_base.specs.declared.no_memory.NoMemory.{NoMemory}
@@ -21,8 +22,8 @@ use Rattle.gql_engine.specs.Parts.{Parts, Moment}
 use Rattle.gql_engine.specs.Progress.{IsSound, Steady, Kept, Passed, Went, Ended}
 
 -- the effect of a call on the world, by the rules of the set
-abbrev pub effect_by : {R Own World Future : Type 0} (set : Resolving R Own World Future) → R → Call Own
-    → World → World
+abbrev pub effect_by : {R Own World Future : Type 0} (set : Resolving R Own World Future) → R
+    → Call Own → World → World
 effect_by set resolvers call = set.effect (set.rules resolvers) call
 
 -- where a poll gives an answer, it is the one that is due
@@ -37,7 +38,8 @@ world_polled root effect world (Ok (polled.Ready answer)) = if root then effect 
 world_polled root effect world (Ok polled.Pending) = world
 world_polled root effect world (Err want) = world
 
--- the world after a turn: the answer of a root's resolver leaves its effect, and what a hook puts none
+-- the world after a turn: the answer of a root's resolver leaves its effect, and what a hook puts
+-- leaves none
 abbrev pub world_turned : {W V E : Type 0} → Bool → (W → W) → W → Result (Turn V) E → W
 world_turned root effect world (Ok (turn.Answered (Answered answer))) =
     if root then effect world else world
@@ -85,14 +87,16 @@ module _ {R Own World Future L H P : Type 0} (e : Parts R Own World Future L H P
     pub waits : new.waiting ≡ old.waiting
 
   -- what one turn of a root leaves
-  abbrev pub RootTurned : Moment R Future L H P → Moment R Future L H P → Result Reached NoMemory → Type 0
+  abbrev pub RootTurned : Moment R Future L H P → Moment R Future L H P → Result Reached NoMemory
+      → Type 0
   RootTurned old new (Ok reached.Begun) = RootWaits old new
   RootTurned old new (Ok reached.Pending) = RootWaits old new
   RootTurned old new (Ok reached.Answered) = RootAnswered old new
   RootTurned old new (Err want) = RootEnded old new want
 
   -- the same of turns until it has begun or has its answer
-  abbrev pub RootReached : Moment R Future L H P → Moment R Future L H P → Result Bool NoMemory → Type 0
+  abbrev pub RootReached : Moment R Future L H P → Moment R Future L H P → Result Bool NoMemory
+      → Type 0
   RootReached old new (Ok false) = RootWaits old new
   RootReached old new (Ok true) = RootAnswered old new
   RootReached old new (Err want) = RootEnded old new want
@@ -109,13 +113,14 @@ roots_given (Answered answer) = 1
 roots_given (Put put) = 0
 
 -- the world became the effect of the one root key of a mutation
-abbrev pub KeyEffect : {R Own World Future : Type 0} (set : Resolving R Own World Future) → Scene Own
-    → R → R → Type 0
-KeyEffect {Own = Own} set scene old new = (task : Asked Own) → slice_get (asked_in scene) 0 ≡ Some task
+abbrev pub KeyEffect : {R Own World Future : Type 0} (set : Resolving R Own World Future)
+    → Scene Own → R → R → Type 0
+KeyEffect {Own = Own} set scene old new = (task : Asked Own)
+    → slice_get (asked_in scene) 0 ≡ Some task
     → set.world new ≡ effect_by set old task.asks.call (set.world old)
 
 -- where memory was wanting, that root is told where its effect stands
-abbrev pub KeyTold : {R Own World Future : Type 0} (set : Resolving R Own World Future) → Scene Own
-    → R → R → NoMemory → Type 0
+abbrev pub KeyTold : {R Own World Future : Type 0} (set : Resolving R Own World Future)
+    → Scene Own → R → R → NoMemory → Type 0
 KeyTold set scene old new want = ((want.roots ≡ 0) × (set.world new ≡ set.world old))
     ⊎ ((want.roots ≡ 1) × KeyEffect set scene old new)

@@ -1,4 +1,5 @@
-ghost use Rattle.std.specs.Prelude.{◌≡◌, ◌<◌, ◌+◌, [], false, length, IfOk, IfErr, OnOk, OnErr, true};
+ghost use Rattle.std.specs.Prelude.{◌≡◌, ◌<◌, ◌+◌, [], false, length, IfOk, IfErr, OnOk, OnErr};
+ghost use Rattle.std.specs.Prelude.{true};
 ghost use Rattle.gql_base.specs.Pairs.{unite_all};
 ghost use Rattle.gql_place.specs.Join.{join};
 ghost use Rattle.gql_resolve.specs.Call.{is_mutation};
@@ -121,9 +122,9 @@ pub fn run_apart_counted<R: ResolverSet, H: Rounds<R::Own>, P: Turns, S: Ledger>
     Ok(root_place(alloc, scene, plan)?)
 }
 
-/// The place of a mutation with one root key over a flat object. The key's task is answered alone, with its
-/// effect on the world; all that goes on does so in the world after it. Want of memory tells the root where
-/// its effect stands.
+/// The place of a mutation with one root key over a flat object. The key's task is answered alone,
+/// with its effect on the world; all that goes on does so in the world after it. Want of memory
+/// tells the root where its effect stands.
 pub fn run_root<R: ResolverSet, H: Rounds<R::Own>, P: Turns, S: Ledger>(
     alloc: Global,
     scene: &Scene<'_, R::Own>,

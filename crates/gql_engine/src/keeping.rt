@@ -12,7 +12,8 @@ use crate::settling::settle;
 use gql_base::Made;
 use std::alloc::Global;
 
-/// Keeps what a task was given, and notes that it has its answer and which tasks are made beneath it.
+/// Keeps what a task was given, and notes that it has its answer and which tasks are made beneath
+/// it.
 pub(crate) fn keep_given<V, L: Plan<V>, F: Drop>(
     alloc: Global,
     plan: &mut L,
@@ -28,7 +29,8 @@ pub(crate) fn keep_given<V, L: Plan<V>, F: Drop>(
     ensures tasks { (task : L.Task) → slice_get (L.tasks plan.old) picked.number ≡ Some task
         → OnOk result (L.tasks plan.new ≡ L.tasks plan.old ++ beneath_given L.beneath task given) }
     ensures states { (task : L.Task) → slice_get (L.tasks plan.old) picked.number ≡ Some task
-        → OnOk result (arena.new.states.items ≡ slice_set arena.old.states.items picked.number State.Done
+        → OnOk result (arena.new.states.items
+        ≡ slice_set arena.old.states.items picked.number State.Done
         ++ fresh_states (length (beneath_given L.beneath task given))) }
     ensures waits { OnOk result
         (arena.new.waiting ≡ waiting_from 0 (marks_of arena.new.states.items)) }

@@ -1,9 +1,11 @@
-//! The phase of a root key of a mutation: its task is answered alone, and all beneath it goes on from there.
+//! The phase of a root key of a mutation: its task is answered alone, and all beneath it goes on
+//! from there.
 ghost use Rattle.std.specs.Prelude.{◌≡◌, ◌<◌, Ok, false, length, IfOk, OnOk, IfErr};
 ghost use Rattle.gql_engine.specs.Arena.{events_left};
 ghost use Rattle.gql_engine.specs.Parts.{root_parts, at, outside};
 ghost use Rattle.gql_engine.specs.Progress.{IsSound};
-ghost use Rattle.gql_engine.specs.Root.{RootNearer, RootTurned, RootReached, RootAnswered, RootEnded, roots_given};
+ghost use Rattle.gql_engine.specs.Root.{RootNearer, RootTurned, RootReached, RootAnswered};
+ghost use Rattle.gql_engine.specs.Root.{RootEnded, roots_given};
 
 use crate::arena::{Arena, Turn};
 use crate::given::Given;
@@ -25,8 +27,8 @@ pub(crate) enum Reached {
     Answered,
 }
 
-/// Answers the one task that waits, as a root of a mutation: its effect on the world comes with its answer.
-/// Want of memory tells the root where its effect stands.
+/// Answers the one task that waits, as a root of a mutation: its effect on the world comes with its
+/// answer. Want of memory tells the root where its effect stands.
 pub fn answer_root<R: ResolverSet, L: Plan<R::Own>, H: Rounds<R::Own>, P: Turns, S: Ledger>(
     alloc: Global,
     plan: &mut L,

@@ -19,8 +19,9 @@ use gql_resolve::{Answer, FieldFuture, FieldValue, Polled, ResolverContext, Reso
 use std::alloc::Global;
 use std::sync::ledger::Ledger;
 
-/// Takes up a task: begins it where it is fresh, and polls its future, as that of a root of a mutation
-/// or of another task. The world stays, but for the effect of a root that its resolver answered.
+/// Takes up a task: begins it where it is fresh, and polls its future, as that of a root of a
+/// mutation or of another task. The world stays, but for the effect of a root that its resolver
+/// answered.
 #[tactic(auto, using(crate::proofs::RecordLemmas::with_more_none, crate::proofs::StepLemmas::none_counted))]
 pub fn take_turn<R: ResolverSet, H: Rounds<R::Own>, S: Ledger>(
     root: bool,
@@ -38,7 +39,8 @@ pub fn take_turn<R: ResolverSet, H: Rounds<R::Own>, S: Ledger>(
         (TurnOf R.ResolverSet (call_of context.now) state.old state.new) }
     ensures lawful { R.is_lawful resolvers.old → R.is_lawful resolvers.new }
     ensures world { R.is_lawful resolvers.old → R.world resolvers.new ≡ world_turned root
-        (effect_by R.ResolverSet resolvers.old (call_of context.now)) (R.world resolvers.old) result }
+        (effect_by R.ResolverSet resolvers.old (call_of context.now))
+        (R.world resolvers.old) result }
     ensures quiet { H.are_quiet hooks.old → H.are_quiet hooks.new }
     ensures entered { OnOk result (H.told hooks.new
         ≡ with_more (H.told hooks.old) (map H.entered (enters_now context.now state.old))) }
@@ -89,7 +91,8 @@ fn begin<R: ResolverSet, H: Rounds<R::Own>, S: Ledger>(
         (TurnOf R.ResolverSet (call_of context.now) State.Fresh state.new) }
     ensures lawful { R.is_lawful resolvers.old → R.is_lawful resolvers.new }
     ensures world { R.is_lawful resolvers.old → R.world resolvers.new ≡ world_turned root
-        (effect_by R.ResolverSet resolvers.old (call_of context.now)) (R.world resolvers.old) result }
+        (effect_by R.ResolverSet resolvers.old (call_of context.now))
+        (R.world resolvers.old) result }
     ensures quiet { H.are_quiet hooks.old → H.are_quiet hooks.new }
     ensures entered { OnOk result
         (H.told hooks.new ≡ with_more (H.told hooks.old) (H.entered context.now ∷ [])) }
@@ -145,7 +148,8 @@ fn poll_first<R: ResolverSet>(
         (TurnOf R.ResolverSet (call_of context.now) State.Fresh state.new) }
     ensures lawful { R.is_lawful resolvers.old → R.is_lawful resolvers.new }
     ensures world { R.is_lawful resolvers.old → R.world resolvers.new ≡ world_turned root
-        (effect_by R.ResolverSet resolvers.old (call_of context.now)) (R.world resolvers.old) result }
+        (effect_by R.ResolverSet resolvers.old (call_of context.now))
+        (R.world resolvers.old) result }
     ensures answer { R.is_lawful resolvers.old → AnswersRightly
         (due_by R.ResolverSet resolvers.old (call_of context.now)) result }
     ensures pace { R.is_paced resolvers.old → R.is_paced resolvers.new }
@@ -180,7 +184,8 @@ fn poll_as<R: ResolverSet>(
     ensures rules { R.rules resolvers.new ≡ R.rules resolvers.old }
     ensures lawful { R.is_lawful resolvers.old → R.is_lawful resolvers.new }
     ensures world { R.is_lawful resolvers.old → R.world resolvers.new ≡ world_polled root
-        (effect_by R.ResolverSet resolvers.old (call_of context.now)) (R.world resolvers.old) result }
+        (effect_by R.ResolverSet resolvers.old (call_of context.now))
+        (R.world resolvers.old) result }
     ensures answer { R.is_lawful resolvers.old → PollsRightly
         (due_by R.ResolverSet resolvers.old (call_of context.now)) result }
     ensures paced { R.is_paced resolvers.old → R.is_paced resolvers.new

@@ -1,8 +1,8 @@
-use Rattle.std.proofs.Common.{◌≡◌, true, length, sym, ap, subst, ◌∙◌, refl, inl, inr}
+use Rattle.std.proofs.Common.{true, length, sym, ap, subst, ◌∙◌, refl, inl, inr}
 use Rattle.std.proofs.lemmas.List.{length-map}
 use Rattle.std.proofs.lemmas.Result.{IfOk-weaker, IfErr-weaker}
 use Rattle.std.specs.Prelude.{slice_get}
-use Rattle.gql_engine.specs.Apart.{Asked, asked_in, subject_in}
+use Rattle.gql_engine.specs.Apart.{Asked, subject_in}
 use Rattle.gql_engine.specs.ApartPlan.{seen as seen_as, all_seen}
 use Rattle.gql_engine.specs.Parts.{root_parts, choice_by, due_by, at, outside}
 use Rattle.gql_engine.specs.Progress.{seen, story_of}

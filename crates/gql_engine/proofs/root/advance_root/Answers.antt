@@ -1,9 +1,6 @@
-use Rattle.std.proofs.Common.{◌≡◌, ◌<◌, ◌+◌, ◌∷◌, length, arith, sym, ap, subst, ◌∙◌, refl, inl}
-use Rattle.std.specs.Prelude.{Ok, Err}
-use Rattle.gql_base.specs.declared.no_memory.NoMemory.{NoMemory}
+use Rattle.std.proofs.Common.{◌≡◌, ◌<◌, length, arith, sym, ap, subst, ◌∙◌, refl, inl}
 use Rattle.gql_resolve.specs.Call.{Call, call_of}
 use Rattle.gql_engine.specs.Parts.{root_parts, at, outside}
-use Rattle.gql_engine.specs.Root.{RootTurned, effect_by}
 use Rattle.gql_engine.specs.Turn.{IsOpen}
 use Rattle.gql_engine.proofs.AdvanceLemmas.{went_begun, went_pending, completed_with, passed_answered, ended_before, ended_after}
 use Rattle.gql_engine.proofs.AimLemmas.{ended_none}

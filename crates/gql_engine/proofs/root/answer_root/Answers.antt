@@ -1,4 +1,4 @@
-use Rattle.std.proofs.Common.{◌≡◌, Bool, true, false, ap, sym, subst, ◌∙◌, length}
+use Rattle.std.proofs.Common.{◌≡◌, true, false, ap, sym, subst, ◌∙◌, length}
 use Rattle.std.specs.Prelude.{Ok}
 use Rattle.gql_engine.specs.Parts.{root_parts, at, outside}
 use Rattle.gql_engine.specs.Root.{RootEnded, RootReached}
