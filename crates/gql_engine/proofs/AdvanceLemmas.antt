@@ -1,29 +1,30 @@
 -- One turn: what it does to the tasks, their states, the record and the pace.
-use Rattle.std.proofs.Common.{ℕ, zero, suc, ◌≡◌, ◌+◌, ◌^◌, ◌<◌, ◌≤◌, List, [], ◌∷◌, ◌++◌, length, get_or, refl, sym, ap, subst, ◌∙◌, arith, inl, inr}
-use Rattle.std.specs.Prelude.{Option, Some, None, option_map, slice_get, slice_set, true, false, ◌⊎◌, Result, Ok, Err, OnErr}
+use Rattle.std.proofs.Common.{ℕ, ◌≡◌, ◌+◌, ◌^◌, ◌≤◌, List, [], ◌∷◌, ◌++◌, length, get_or, refl, sym, ap, subst, ◌∙◌, arith, inl, inr}
+use Rattle.std.specs.Prelude.{Some, option_map, slice_get, slice_set, true, false, Result, Ok, Err, OnErr, map}
 use Rattle.std.specs.Option.{ForSome}
 use Rattle.gql_resolve.specs.Call.{Call, call_of}
 use Rattle.gql_resolve.specs.Record.{with_more, entry_of}
 use Rattle.gql_resolve.specs.declared.answer.Answer.{Answer}
-use Rattle.gql_resolve.specs.declared.record_entry.RecordEntry.{RecordEntry}
 use Rattle.gql_resolve.specs.declared.resolver_context.ResolverContext.{ResolverContext}
 use Rattle.gql_engine.specs.declared.arena.State.{State}
 use Rattle.gql_engine.specs.declared.arena.State.TheVariants as state
 use Rattle.gql_engine.specs.declared.given.Given.{Given}
 use Rattle.gql_engine.specs.declared.given.Given.TheVariants.{Answered, Put}
-use Rattle.gql_engine.specs.Arena.{marks_of, made_of, fresh_states, IsRight, Nearer}
+use Rattle.gql_engine.specs.Arena.{marks_of, made_of, fresh_states, started, total, IsRight, Nearer}
 use Rattle.gql_engine.specs.Given.{beneath_given}
 use Rattle.gql_engine.specs.Pace.{to_come}
-use Rattle.gql_engine.specs.Parts.{Parts, Moment, choice_by, due_by, delay_by, delay_at, stage, subject}
+use Rattle.gql_engine.specs.Parts.{Parts, Moment, choice_by, due_by, delay_by, stage, subject}
 use Rattle.gql_engine.specs.Plan.{IsContextOf}
-use Rattle.gql_engine.specs.Progress.{IsSound, Agrees, Progress, Paces, Went, Ended, story_of}
+use Rattle.gql_engine.specs.Progress.{IsSound, Agrees, Passed, Progress, Went, Ended, story_of}
 use Rattle.gql_engine.specs.Record.{Ran, waiting_from}
-use Rattle.gql_engine.specs.Turn.{IsOpen, StartsWaiting, KeepsWaiting, begins_now, BeginsAtMost}
+use Rattle.gql_engine.specs.Turn.{StartsWaiting, KeepsWaiting, begins_now, enters_now, BeginsAtMost, EntersAtMost}
 use Rattle.gql_engine.proofs.Lists.{get_append_left, get_set_other, set_set}
 use Rattle.gql_engine.proofs.NearerLemmas.{nearer_settled}
 use Rattle.gql_engine.proofs.PaceLemmas.{pays_answer, pays_waiting, so_far_none, so_far_answer}
 use Rattle.gql_engine.proofs.PickLemmas.{Pick, picked, open_undone}
 use Rattle.gql_engine.proofs.RecordLemmas.{with_more_none}
+use Rattle.gql_engine.proofs.RoundLemmas.{enters_waiting, enters_answer, so_far_entered, so_far_enters}
+use Rattle.gql_engine.proofs.StepLemmas.{stepped_waits, stepped_answer}
 use Rattle.gql_engine.proofs.SoundLemmas.{Stands, sound_settled, right_settled, sound_waits, right_waits}
 use Rattle.gql_engine.proofs.TurnLemmas.{staged, Chosen, ran_pending, ran_ready, stopped_after, stopped_before}
 
@@ -35,7 +36,7 @@ module _ {R Own World Future L H P : Type 0} (e : Parts R Own World Future L H P
   -- a task is taken up, by the choice of the turns
   pub record Taken (old : Moment R Future L H P) (turns : P) (number : ℕ) (was : State Future) (context : ResolverContext Own) : Type 0 where
     pub sound : IsSound e old
-    pub pick : Pick e.set.is_for (subject e) (e.plan.tasks old.plan) old.states number was
+    pub pick : Pick e.root e.set.is_for (subject e) (e.plan.tasks old.plan) old.states number was
     pub context_is : IsContextOf number (e.plan.asks pick.task) context
     pub chosen : ForSome (e.turns.state old.turns) (λ s. slice_get (waiting_from 0 (marks_of old.states)) (e.turns.choice s (length (waiting_from 0 (marks_of old.states)))) ≡ Some number)
     pub turns_is : e.turns.state turns ≡ option_map (λ s. e.turns.after s (length (waiting_from 0 (marks_of old.states)))) (e.turns.state old.turns)
@@ -49,10 +50,10 @@ module _ {R Own World Future L H P : Type 0} (e : Parts R Own World Future L H P
 module _ {R Own World Future L H P : Type 0} {e : Parts R Own World Future L H P} where
   -- what is sound, of plain lists
   pub stands : {m : Moment R Future L H P} → IsSound e m
-      → Stands e.set.is_for (subject e) (e.plan.holds m.plan) (e.plan.tasks m.plan) m.states m.waiting
+      → Stands e.root e.set.is_for (subject e) (e.plan.holds m.plan) (e.plan.tasks m.plan) m.states m.waiting
   stands sound = record { lengths = sound.lengths; waits = sound.waits; fits = sound.fits }
 
-  sound_of : (m : Moment R Future L H P) → Stands e.set.is_for (subject e) (e.plan.holds m.plan) (e.plan.tasks m.plan) m.states m.waiting → IsSound e m
+  pub sound_of : (m : Moment R Future L H P) → Stands e.root e.set.is_for (subject e) (e.plan.holds m.plan) (e.plan.tasks m.plan) m.states m.waiting → IsSound e m
   sound_of m s = record { lengths = s.lengths; waits = s.waits; fits = s.fits }
 
   pub taken : {old : Moment R Future L H P} (turns : P) (place number : ℕ) (was : State Future) (context : ResolverContext Own)
@@ -88,7 +89,7 @@ module _ {R Own World Future L H P : Type 0} {e : Parts R Own World Future L H P
   keeps_on call state.Done new is = absurd is
 
   module _ {old : Moment R Future L H P} {turns : P} {number : ℕ} {was : State Future} {context : ResolverContext Own} (t : Taken e old turns number was context) where
-    undone : was ≡ state.Done → ⊥
+    pub undone : was ≡ state.Done → ⊥
     undone = open_undone e.set.is_for (e.plan.asks t.pick.task).call was t.pick.open_is
 
     -- a task that has its answer isn't the one that is taken up
@@ -110,58 +111,69 @@ module _ {R Own World Future L H P : Type 0} {e : Parts R Own World Future L H P
     }
 
     -- the moment after a turn without an answer
-    abbrev pub pending : R → H → State Future → Moment R Future L H P
-    pending set hooks new = record {
+    abbrev pub pending : R → H → ℕ → State Future → Moment R Future L H P
+    pending set hooks steps new = record {
       plan = old.plan;
       states = slice_set old.states number new;
       waiting = old.waiting;
       set = set;
       hooks = hooks;
       turns = turns;
+      steps = steps;
     }
 
-    went_waiting : (set : R) (hooks : H) (new : State Future) → Waits e (call_of context) new
+    -- what the hooks and the steps show of a turn that ended well
+    pub record Shows (hooks : H) (steps : ℕ) : Type 0 where
+      pub told_is : e.hooks.told hooks ≡ with_more (e.hooks.told old.hooks) (map e.hooks.entered (enters_now context was))
+      pub stepped : e.hooks.are_quiet old.hooks → steps ≡ old.steps + length (begins_now context.task was)
+
+    went_waiting : (set : R) (hooks : H) (steps : ℕ) (new : State Future) → Shows hooks steps → Waits e (call_of context) new
         → (e.set.is_paced old.set → e.hooks.are_quiet old.hooks → to_come e.set.number (delay_by e.set old.set context.resolver) was
         ≡ false ∷ to_come e.set.number (delay_by e.set old.set context.resolver) new)
         → (e.hooks.are_quiet old.hooks → e.set.told set ≡ with_more (e.set.told old.set) (entry_of context false ∷ []))
         → (e.hooks.are_quiet old.hooks → e.set.begun set ≡ with_more (e.set.begun old.set) (begins_now context.task was))
-        → Went e old (pending set hooks new)
-    went_waiting set hooks new w paid told_is begun_is = subst (λ s. Went e old (pending set hooks s)) w.new_is
+        → Went e old (pending set hooks steps new)
+    went_waiting set hooks steps new shows w paid told_is begun_is = subst (λ s. Went e old (pending set hooks steps s)) w.new_is
         (record {
-          sound = sound_of (pending set hooks (state.Waiting w.future))
-              (sound_waits Own e.plan.Task Future e.set.is_for (subject e) (e.plan.holds old.plan) (e.plan.tasks old.plan) old.states old.waiting number t.pick.task was w.future
+          sound = sound_of (pending set hooks steps (state.Waiting w.future))
+              (sound_waits Own e.plan.Task Future e.root e.set.is_for (subject e) (e.plan.holds old.plan) (e.plan.tasks old.plan) old.states old.waiting number t.pick.task was w.future
               (stands t.sound) t.pick.task_is t.pick.old_is undone t.pick.not_root (subst (e.set.is_for w.future) t.context_is.call_is w.fits));
-          stays = λ n is. record {
-            done = get_set_other old.states number n (state.Waiting w.future) (λ same. elsewhere n same is) ∙ is;
-            held = λ given held. held;
+          passed = record {
+            stays = λ n is. record {
+              done = get_set_other old.states number n (state.Waiting w.future) (λ same. elsewhere n same is) ∙ is;
+              held = λ given held. held;
+            };
+            enters = enters_waiting old number t.pick.task was context t.pick.task_is t.pick.old_is t.context_is
+                (pending set hooks steps (state.Waiting w.future)) w.future shows.told_is refl refl;
+            stepped = λ calm. stepped_waits Future old.states number context.task was (state.Waiting w.future) old.steps steps t.pick.old_is undone refl (shows.stepped calm);
+            progress = λ law calm answers agrees. record {
+              right = λ base. right_waits Own e.plan.Task Future e.root e.set.is_for (subject e) base answers (e.plan.holds old.plan) (e.plan.tasks old.plan) old.states number w.future t.pick.within;
+              ran = ran_pending Own e.plan.Task Future e.turns.State (choice_by e.turns) e.plan.asks e.plan.beneath answers
+                  (e.turns.state old.turns) (e.turns.state turns) (e.plan.tasks old.plan) old.states number t.pick.task was context chosen_by
+                  (e.set.told old.set) (e.set.told set) (e.set.begun old.set) (e.set.begun set) (begun_is calm) w.future (told_is calm);
+            };
+            paces = λ pace calm. pays_waiting old (pending set hooks steps (state.Waiting w.future)) number t.pick.task was (state.Waiting w.future) context
+                t.pick.task_is t.pick.old_is t.context_is (told_is calm)
+                (subst (λ s. to_come e.set.number (delay_by e.set old.set context.resolver) was ≡ false ∷ to_come e.set.number (delay_by e.set old.set context.resolver) s) (sym w.new_is) (paid pace calm))
+                refl refl;
           };
-          progress = λ law calm answers agrees. record {
-            right = λ base. right_waits Own e.plan.Task Future e.set.is_for (subject e) base answers (e.plan.holds old.plan) (e.plan.tasks old.plan) old.states number w.future t.pick.within;
-            ran = ran_pending Own e.plan.Task Future e.turns.State (choice_by e.turns) e.plan.asks e.plan.beneath answers
-                (e.turns.state old.turns) (e.turns.state turns) (e.plan.tasks old.plan) old.states number t.pick.task was context chosen_by
-                (e.set.told old.set) (e.set.told set) (e.set.begun old.set) (e.set.begun set) (begun_is calm) w.future (told_is calm);
-          };
-          paces = λ pace calm. pays_waiting old (pending set hooks (state.Waiting w.future)) number t.pick.task was (state.Waiting w.future) context
-              t.pick.task_is t.pick.old_is t.context_is (told_is calm)
-              (subst (λ s. to_come e.set.number (delay_by e.set old.set context.resolver) was ≡ false ∷ to_come e.set.number (delay_by e.set old.set context.resolver) s) (sym w.new_is) (paid pace calm))
-              refl refl;
         })
 
-    pub went_begun : (set : R) (hooks : H) (new : State Future) → StartsWaiting e.set.is_for (call_of context) was new
+    pub went_begun : (set : R) (hooks : H) (steps : ℕ) (new : State Future) → Shows hooks steps → StartsWaiting e.set.is_for (call_of context) was new
         → (e.set.is_paced old.set → e.hooks.are_quiet old.hooks → to_come e.set.number (delay_by e.set old.set context.resolver) was
         ≡ false ∷ to_come e.set.number (delay_by e.set old.set context.resolver) new)
         → (e.hooks.are_quiet old.hooks → e.set.told set ≡ with_more (e.set.told old.set) (entry_of context false ∷ []))
         → (e.hooks.are_quiet old.hooks → e.set.begun set ≡ with_more (e.set.begun old.set) (begins_now context.task was))
-        → Went e old (pending set hooks new)
-    went_begun set hooks new turned = went_waiting set hooks new (starts (call_of context) was new turned)
+        → Went e old (pending set hooks steps new)
+    went_begun set hooks steps new shows turned = went_waiting set hooks steps new shows (starts (call_of context) was new turned)
 
-    pub went_pending : (set : R) (hooks : H) (new : State Future) → KeepsWaiting e.set.is_for e.set.number (call_of context) was new
+    pub went_pending : (set : R) (hooks : H) (steps : ℕ) (new : State Future) → Shows hooks steps → KeepsWaiting e.set.is_for e.set.number (call_of context) was new
         → (e.set.is_paced old.set → e.hooks.are_quiet old.hooks → to_come e.set.number (delay_by e.set old.set context.resolver) was
         ≡ false ∷ to_come e.set.number (delay_by e.set old.set context.resolver) new)
         → (e.hooks.are_quiet old.hooks → e.set.told set ≡ with_more (e.set.told old.set) (entry_of context false ∷ []))
         → (e.hooks.are_quiet old.hooks → e.set.begun set ≡ with_more (e.set.begun old.set) (begins_now context.task was))
-        → Went e old (pending set hooks new)
-    went_pending set hooks new turned = went_waiting set hooks new (keeps_on (call_of context) was new turned)
+        → Went e old (pending set hooks steps new)
+    went_pending set hooks steps new shows turned = went_waiting set hooks steps new shows (keeps_on (call_of context) was new turned)
 
     -- what a plan has done with what the task was given
     pub record Completed (plan : L) (given : Given Own) (count : ℕ) : Type 0 where
@@ -180,35 +192,45 @@ module _ {R Own World Future L H P : Type 0} {e : Parts R Own World Future L H P
         let m = made t.pick.task t.pick.task_is in
         record { made = m.0; count_is = m.1; holding = holding; keeps = keeps }
 
+    -- the same where the number isn't told
+    pub completed_with : (plan : L) (given : Given Own)
+        → ((task : e.plan.Task) → slice_get (e.plan.tasks old.plan) number ≡ Some task
+        → e.plan.tasks plan ≡ e.plan.tasks old.plan ++ beneath_given e.plan.beneath task given)
+        → e.plan.holds plan number given
+        → ((other : ℕ) (g : Given Own) → (other ≡ number → ⊥) → e.plan.holds old.plan other g → e.plan.holds plan other g)
+        → Completed plan given (length (beneath_given e.plan.beneath t.pick.task given))
+    completed_with plan given made holding keeps =
+        record { made = made t.pick.task t.pick.task_is; count_is = refl; holding = holding; keeps = keeps }
+
     -- the tasks beneath are no roots of a mutation
     abbrev pub NeverRoots : Type 0
     NeverRoots = (task : e.plan.Task) (answer : Answer Own) (place : ℕ) (below : e.plan.Task)
         → slice_get (e.plan.beneath task answer) place ≡ Some below → (e.plan.asks below).call.is_root ≡ false
 
-    no_roots : NeverRoots → (given : Given Own) (place : ℕ) (below : e.plan.Task)
+    pub no_roots : NeverRoots → (given : Given Own) (place : ℕ) (below : e.plan.Task)
         → slice_get (beneath_given e.plan.beneath t.pick.task given) place ≡ Some below → (e.plan.asks below).call.is_root ≡ false
     no_roots never (Answered answer) place below is = never t.pick.task answer place below is
     no_roots never (Put put) place below is = absurd (cc)
 
     -- the states after an answer, whatever state the task itself had come to
-    settled_states : (states : List (State Future)) (new : State Future) (count : ℕ) (more : List e.plan.Task) → count ≡ length more
+    pub settled_states : (states : List (State Future)) (new : State Future) (count : ℕ) (more : List e.plan.Task) → count ≡ length more
         → states ≡ slice_set (slice_set old.states number new) number state.Done ++ fresh_states count
         → slice_set old.states number state.Done ++ fresh_states (length more) ≡ states
     settled_states states new count more count_is is =
         sym (is ∙ ap (λ ss. ss ++ fresh_states count) (set_set old.states number new state.Done) ∙ ap (λ k. slice_set old.states number state.Done ++ fresh_states k) count_is)
 
-    sound_answered : (new : Moment R Future L H P) (now : State Future) (given : Given Own) (count : ℕ) → Completed new.plan given count → NeverRoots
+    pub sound_answered : e.root ≡ false → (new : Moment R Future L H P) (now : State Future) (given : Given Own) (count : ℕ) → Completed new.plan given count → NeverRoots
         → new.states ≡ slice_set (slice_set old.states number now) number state.Done ++ fresh_states count
         → new.waiting ≡ waiting_from 0 (marks_of new.states)
         → IsSound e new
-    sound_answered new now given count made never states_is waits =
+    sound_answered other new now given count made never states_is waits =
         let more = beneath_given e.plan.beneath t.pick.task given in
         let form = settled_states new.states now count more made.count_is states_is in
         sound_of new
-        (subst (λ ts. Stands e.set.is_for (subject e) (e.plan.holds new.plan) ts new.states new.waiting) (sym made.made)
-        (subst (λ ss. Stands e.set.is_for (subject e) (e.plan.holds new.plan) (e.plan.tasks old.plan ++ more) ss new.waiting) form
-        (sound_settled Own e.plan.Task Future e.set.is_for (subject e) (e.plan.holds old.plan) (e.plan.holds new.plan) (e.plan.tasks old.plan) more old.states old.waiting new.waiting number given
-        (stands t.sound) made.keeps made.holding (no_roots never given)
+        (subst (λ ts. Stands e.root e.set.is_for (subject e) (e.plan.holds new.plan) ts new.states new.waiting) (sym made.made)
+        (subst (λ ss. Stands e.root e.set.is_for (subject e) (e.plan.holds new.plan) (e.plan.tasks old.plan ++ more) ss new.waiting) form
+        (sound_settled Own e.plan.Task Future e.root e.set.is_for (subject e) e.root (e.plan.holds old.plan) (e.plan.holds new.plan) (e.plan.tasks old.plan) more old.states old.waiting new.waiting number given
+        (stands t.sound) made.keeps made.holding (λ k below is. no_roots never given k below is ∙ sym other) (λ n task s differs is fits. fits)
         (waits ∙ ap (λ ss. waiting_from 0 (marks_of ss)) (sym form)))))
 
     progress_answered : (new : Moment R Future L H P) (now : State Future) (given : Given Own) (count : ℕ) → Completed new.plan given count
@@ -217,7 +239,7 @@ module _ {R Own World Future L H P : Type 0} {e : Parts R Own World Future L H P
         → given ≡ Answered (due_by e.set old.set (call_of context))
         → e.set.told new.set ≡ with_more (e.set.told old.set) (entry_of context true ∷ [])
         → e.set.begun new.set ≡ with_more (e.set.begun old.set) (begins_now context.task was)
-        → (answers : e.plan.Task → Answer Own) → Agrees (subject e) (due_by e.set old.set) answers → Progress e old new answers
+        → (answers : e.plan.Task → Answer Own) → Agrees (subject e) e.root (due_by e.set old.set) answers → Progress e old new answers
     progress_answered new now given count made states_is turns_is given_is told_is begun_is answers agrees =
         let more = beneath_given e.plan.beneath t.pick.task given in
         let form = settled_states new.states now count more made.count_is states_is in
@@ -225,7 +247,7 @@ module _ {R Own World Future L H P : Type 0} {e : Parts R Own World Future L H P
         record {
           right = λ base right. subst (λ ts. IsRight base answers (e.plan.holds new.plan) ts new.states) (sym made.made)
               (subst (λ ss. IsRight base answers (e.plan.holds new.plan) (e.plan.tasks old.plan ++ more) ss) form
-              (right_settled Own e.plan.Task Future e.set.is_for (subject e) base answers (e.plan.holds old.plan) (e.plan.holds new.plan) (e.plan.tasks old.plan) more old.states number t.pick.task
+              (right_settled Own e.plan.Task Future e.root e.set.is_for (subject e) base answers (e.plan.holds old.plan) (e.plan.holds new.plan) (e.plan.tasks old.plan) more old.states number t.pick.task
               t.sound.lengths right t.pick.task_is made.keeps (subst (e.plan.holds new.plan number) due_is made.holding)));
           ran = ran_answered new more form made.made turns_is told_is begun_is answers (ap (beneath_given e.plan.beneath t.pick.task) due_is);
         }
@@ -247,17 +269,20 @@ module _ {R Own World Future L H P : Type 0} {e : Parts R Own World Future L H P
             (e.set.told old.set) (e.set.told new.set) (e.set.begun old.set) (e.set.begun new.set) begun_is more told_is more_is)))
 
     -- a task has its answer
-    pub went_answered : (new : Moment R Future L H P) (now : State Future) (given : Given Own) (count : ℕ) → Completed new.plan given count → NeverRoots
+    pub passed_answered : (new : Moment R Future L H P) → Shows new.hooks new.steps → (now : State Future) (given : Given Own) (count : ℕ) → Completed new.plan given count
         → new.states ≡ slice_set (slice_set old.states number now) number state.Done ++ fresh_states count
-        → new.waiting ≡ waiting_from 0 (marks_of new.states)
         → e.turns.state new.turns ≡ e.turns.state turns
         → (e.set.is_lawful old.set → e.hooks.are_quiet old.hooks → given ≡ Answered (due_by e.set old.set (call_of context)))
         → (e.set.is_paced old.set → e.hooks.are_quiet old.hooks → to_come e.set.number (delay_by e.set old.set context.resolver) was ≡ true ∷ [])
         → (e.hooks.are_quiet old.hooks → e.set.told new.set ≡ with_more (e.set.told old.set) (entry_of context true ∷ []))
         → (e.hooks.are_quiet old.hooks → e.set.begun new.set ≡ with_more (e.set.begun old.set) (begins_now context.task was))
-        → Went e old new
-    went_answered new now given count made never states_is waits turns_is given_is paid told_is begun_is = record {
-      sound = sound_answered new now given count made never states_is waits;
+        → Passed e old new
+    passed_answered new shows now given count made states_is turns_is given_is paid told_is begun_is = record {
+      enters = enters_answer old number t.pick.task was context t.pick.task_is t.pick.old_is t.context_is new (beneath_given e.plan.beneath t.pick.task given) count
+          shows.told_is made.made (states_is ∙ ap (λ ss. ss ++ fresh_states count) (set_set old.states number now state.Done));
+      stepped = λ calm. subst (λ ss. new.steps + total started old.states ≡ old.steps + total started ss)
+          (sym (states_is ∙ ap (λ ss. ss ++ fresh_states count) (set_set old.states number now state.Done)))
+          (stepped_answer Future old.states number context.task count was old.steps new.steps t.pick.old_is undone (shows.stepped calm));
       stays = λ n is. record {
         done = ap (λ ss. slice_get ss n) (states_is ∙ ap (λ ss. ss ++ fresh_states count) (set_set old.states number now state.Done))
             ∙ get_append_left (slice_set old.states number state.Done) (fresh_states count) n state.Done
@@ -270,31 +295,35 @@ module _ {R Own World Future L H P : Type 0} {e : Parts R Own World Future L H P
     }
 
     -- memory was wanting before the entry of the turn
-    pub ended_before : (set : R)
-        → (e.hooks.are_quiet old.hooks → e.set.told set ≡ with_more (e.set.told old.set) [])
-        → (e.hooks.are_quiet old.hooks → BeginsAtMost context.task (e.set.begun old.set) (e.set.begun set))
-        → Ended e old set
-    ended_before set told_is begins = record {
+    pub ended_before : (new : Moment R Future L H P)
+        → EntersAtMost (map e.hooks.entered (enters_now context was)) (e.hooks.told old.hooks) (e.hooks.told new.hooks)
+        → (e.hooks.are_quiet old.hooks → e.set.told new.set ≡ with_more (e.set.told old.set) [])
+        → (e.hooks.are_quiet old.hooks → BeginsAtMost context.task (e.set.begun old.set) (e.set.begun new.set))
+        → Ended e old new
+    ended_before new most told_is begins = record {
+      enters = so_far_enters old number t.pick.task was context t.pick.task_is t.pick.old_is t.context_is new.hooks most;
       stopped = λ law calm answers agrees. elim (begins calm) [
-        | inl same ↦ stopped_before (choice_by e.turns) (story_of (subject e) answers) (stage e old) (e.set.told set) (e.set.begun set) []
+        | inl same ↦ stopped_before (choice_by e.turns) (story_of (subject e) answers) (stage e old) (e.set.told new.set) (e.set.begun new.set) []
             (told_is calm ∙ with_more_none (e.set.told old.set)) (omega arith) (same ∙ sym (with_more_none (e.set.begun old.set)))
-        | inr one ↦ stopped_before (choice_by e.turns) (story_of (subject e) answers) (stage e old) (e.set.told set) (e.set.begun set) (context.task ∷ [])
+        | inr one ↦ stopped_before (choice_by e.turns) (story_of (subject e) answers) (stage e old) (e.set.told new.set) (e.set.begun new.set) (context.task ∷ [])
             (told_is calm ∙ with_more_none (e.set.told old.set)) (omega arith) one
       ];
-      paces = λ pace calm. so_far_none old set (told_is calm);
+      paces = λ pace calm. so_far_none old new.set (told_is calm);
     }
 
     -- memory was wanting after it
-    pub ended_after : (set : R)
+    pub ended_after : (new : Moment R Future L H P)
+        → e.hooks.told new.hooks ≡ with_more (e.hooks.told old.hooks) (map e.hooks.entered (enters_now context was))
         → (e.set.is_paced old.set → e.hooks.are_quiet old.hooks → to_come e.set.number (delay_by e.set old.set context.resolver) was ≡ true ∷ [])
-        → (e.hooks.are_quiet old.hooks → e.set.told set ≡ with_more (e.set.told old.set) (entry_of context true ∷ []))
-        → (e.hooks.are_quiet old.hooks → e.set.begun set ≡ with_more (e.set.begun old.set) (begins_now context.task was))
-        → Ended e old set
-    ended_after set paid told_is begun_is = record {
+        → (e.hooks.are_quiet old.hooks → e.set.told new.set ≡ with_more (e.set.told old.set) (entry_of context true ∷ []))
+        → (e.hooks.are_quiet old.hooks → e.set.begun new.set ≡ with_more (e.set.begun old.set) (begins_now context.task was))
+        → Ended e old new
+    ended_after new entered_is paid told_is begun_is = record {
+      enters = so_far_entered old number t.pick.task was context t.pick.task_is t.pick.old_is t.context_is new.hooks entered_is;
       stopped = λ law calm answers agrees. stopped_after Own e.plan.Task Future e.turns.State (choice_by e.turns) e.plan.asks e.plan.beneath answers
           (e.turns.state old.turns) (e.turns.state turns) (e.plan.tasks old.plan) old.states number t.pick.task was context chosen_by
-          (e.set.told old.set) (e.set.told set) (e.set.begun old.set) (e.set.begun set) (begun_is calm) true (told_is calm);
-      paces = λ pace calm. so_far_answer old set number t.pick.task was context t.pick.task_is t.pick.old_is t.context_is (told_is calm) (paid pace calm);
+          (e.set.told old.set) (e.set.told new.set) (e.set.begun old.set) (e.set.begun new.set) (begun_is calm) true (told_is calm);
+      paces = λ pace calm. so_far_answer old new.set number t.pick.task was context t.pick.task_is t.pick.old_is t.context_is (told_is calm) (paid pace calm);
     }
 
     pub nearer_answered : (states : List (State Future)) (new : State Future) (count : ℕ)

@@ -5,11 +5,13 @@ use Rattle.gql_engine.specs.declared.given.Given.{Given}
 use Rattle.gql_engine.specs.declared.given.Given.TheVariants.{Answered}
 use Rattle.gql_engine.specs.Arena.{made_of}
 use Rattle.gql_engine.specs.Parts.{Parts, Moment, choice_by, stage, subject}
-use Rattle.gql_engine.specs.Progress.{IsSound, Kept, Went, Ended, story_of}
+use Rattle.gql_engine.specs.Progress.{IsSound, Kept, EntersSoFar, Went, Ended, story_of}
 use Rattle.gql_engine.specs.Record.{Ran}
 use Rattle.gql_engine.proofs.PaceLemmas.{so_far_none}
 use Rattle.gql_engine.proofs.RecordLemmas.{ran_none, with_more_none}
+use Rattle.gql_engine.proofs.RoundLemmas.{enters_none, so_far_enters_none}
 use Rattle.gql_engine.proofs.SoundLemmas.{fits_kept}
+use Rattle.gql_engine.proofs.StepLemmas.{none_counted}
 use Rattle.gql_engine.proofs.TurnLemmas.{staged, stopped_before}
 
 -- the moment with another plan
@@ -21,11 +23,21 @@ with_plan old plan = record {
   set = old.set;
   hooks = old.hooks;
   turns = old.turns;
+  steps = old.steps;
 }
 
 module _ {R Own World Future L H P : Type 0} {e : Parts R Own World Future L H P} where
   pub kept_aimed : (old : Moment R Future L H P) (plan : L) → Kept e old (with_plan old plan)
-  kept_aimed old plan = record { rules_is = refl; lawful_is = λ law. law; world_is = λ law. refl; paced_is = λ pace. pace; quiet_is = λ calm. calm }
+  kept_aimed old plan = record {
+    steady = record {
+      rules_is = refl;
+      lawful_is = λ law. law;
+      paced_is = λ pace. pace;
+      quiet_is = λ calm. calm;
+      counted = none_counted _ _ _ _ refl refl;
+    };
+    world_is = λ law. refl;
+  }
 
   pub went_aimed : (old : Moment R Future L H P) (plan : L) → e.plan.tasks plan ≡ e.plan.tasks old.plan
       → ((other : ℕ) (g : Given Own) → e.plan.holds old.plan other g → e.plan.holds plan other g)
@@ -35,24 +47,28 @@ module _ {R Own World Future L H P : Type 0} {e : Parts R Own World Future L H P
       lengths = sound.lengths ∙ ap length (sym tasks_is);
       waits = sound.waits;
       fits = λ number task s task_is state_is.
-          fits_kept Own e.plan.Task Future e.set.is_for (subject e) (e.plan.holds old.plan) (e.plan.holds plan) number (keeps number) (e.plan.asks task).call s
+          fits_kept Own e.plan.Task Future e.root e.set.is_for (subject e) (e.plan.holds old.plan number) (e.plan.holds plan number) (keeps number) (e.plan.asks task).call s
           (sound.fits number task s (before number task task_is) state_is);
     };
-    stays = λ n is. record { done = is; held = λ given held. keeps n given held };
-    progress = λ law calm answers agrees. record {
-      right = λ base right. record {
-        kept = λ number task above task_is state_is. keeps number (Answered (answers task)) (right.kept number task above (before number task task_is) state_is);
+    passed = record {
+      stays = λ n is. record { done = is; held = λ given held. keeps n given held };
+      enters = enters_none old (with_plan old plan) tasks_is refl refl;
+      stepped = λ calm. refl;
+      progress = λ law calm answers agrees. record {
+        right = λ base right. record {
+          kept = λ number task above task_is state_is. keeps number (Answered (answers task)) (right.kept number task above (before number task task_is) state_is);
+        };
+        ran = subst
+            (λ ts. Ran (choice_by e.turns) (story_of (subject e) answers) (stage e old)
+            (staged (made_of ts old.states) (e.set.told old.set) (e.set.begun old.set) (e.turns.state old.turns))) (sym tasks_is)
+            (ran_none e.plan.Task e.turns.State (choice_by e.turns) (story_of (subject e) answers) (stage e old));
       };
-      ran = subst
-          (λ ts. Ran (choice_by e.turns) (story_of (subject e) answers) (stage e old)
-          (staged (made_of ts old.states) (e.set.told old.set) (e.set.begun old.set) (e.turns.state old.turns))) (sym tasks_is)
-          (ran_none e.plan.Task e.turns.State (choice_by e.turns) (story_of (subject e) answers) (stage e old));
-    };
-    paces = λ pace calm. record {
-      entries = [];
-      told_is = sym (with_more_none (e.set.told old.set));
-      stays = λ k task is. ap (λ ts. slice_get ts k) tasks_is ∙ is;
-      splits = λ k due is. refl;
+      paces = λ pace calm. record {
+        entries = [];
+        told_is = sym (with_more_none (e.set.told old.set));
+        stays = λ k task is. ap (λ ts. slice_get ts k) tasks_is ∙ is;
+        splits = λ k due is. refl;
+      };
     };
   }
     where
@@ -60,10 +76,11 @@ module _ {R Own World Future L H P : Type 0} {e : Parts R Own World Future L H P
       before number task is = ap (λ ts. slice_get ts number) (sym tasks_is) ∙ is
 
   -- memory was wanting before the turn
-  pub ended_none : (old : Moment R Future L H P) → Ended e old old.set
-  ended_none old = record {
+  pub ended_none : (old new : Moment R Future L H P) → new.set ≡ old.set → new.hooks ≡ old.hooks → Ended e old new
+  ended_none old new set_is hooks_is = record {
+    enters = subst (EntersSoFar e old) (sym hooks_is) (so_far_enters_none old);
     stopped = λ law calm answers agrees.
-        stopped_before (choice_by e.turns) (story_of (subject e) answers) (stage e old) (e.set.told old.set) (e.set.begun old.set) [] refl (omega arith)
-        (sym (with_more_none (e.set.begun old.set)));
-    paces = λ pace calm. so_far_none old old.set (sym (with_more_none (e.set.told old.set)));
+        stopped_before (choice_by e.turns) (story_of (subject e) answers) (stage e old) (e.set.told new.set) (e.set.begun new.set) []
+        (ap e.set.told set_is) (omega arith) (ap e.set.begun set_is ∙ sym (with_more_none (e.set.begun old.set)));
+    paces = λ pace calm. so_far_none old new.set (ap e.set.told set_is ∙ sym (with_more_none (e.set.told old.set)));
   }

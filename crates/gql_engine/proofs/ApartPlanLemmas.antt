@@ -1,7 +1,7 @@
 -- What the plan of a flat object keeps as its occurrences get their places.
-use Rattle.std.proofs.Common.{ℕ, ◌≡◌, ◌<◌, List, [], ◌∷◌, ◌++◌, length, map, refl, sym, ap, subst, ◌∙◌, arith}
+use Rattle.std.proofs.Common.{ℕ, ◌≡◌, ◌<◌, List, [], ◌++◌, length, refl, sym, ap, subst, ◌∙◌, arith}
 use Rattle.std.proofs.lemmas.List.{append-nil, length-map}
-use Rattle.std.specs.Prelude.{Option, Some, None, slice_get, slice_set}
+use Rattle.std.specs.Prelude.{Some, slice_get, slice_set}
 use Rattle.gql_schema.specs.Field.{field_type}
 use Rattle.gql_engine.specs.Apart.{Asked, nothing_beneath, place_given, place_with}
 use Rattle.gql_engine.specs.Given.{beneath_given}

@@ -1,13 +1,13 @@
 -- Tasks that wait, as their states change.
-use Rattle.std.proofs.Common.{ℕ, zero, suc, ◌≡◌, ◌+◌, ◌-◌, ◌*◌, ◌^◌, ◌<◌, ◌≤◌, List, [], ◌∷◌, ◌++◌, length, refl, sym, ap, subst, ◌∙◌, arith, inl, inr, append_assoc, take, drop, add-zero, add-suc, zero-add}
-use Rattle.std.proofs.lemmas.List.{append-nil, map-append, length-map, length-append}
-use Rattle.std.specs.Prelude.{Option, Some, None, slice_get, slice_set, map, ◌⊎◌, true, false, Bool}
+use Rattle.std.proofs.Common.{ℕ, zero, suc, ◌≡◌, ◌+◌, ◌≤◌, List, [], ◌∷◌, ◌++◌, length, refl, sym, ap, subst, ◌∙◌, arith, zero-add}
+use Rattle.std.proofs.lemmas.List.{map-append, length-map}
+use Rattle.std.specs.Prelude.{Some, slice_get, slice_set}
 use Rattle.std.specs.List.{remove}
 use Rattle.gql_engine.specs.declared.arena.State.{State}
 use Rattle.gql_engine.specs.declared.arena.State.TheVariants as state
-use Rattle.gql_engine.specs.Record.{Mark, untold, begun, ready, Made, waiting_from, waiting, untold_marks, after_ready, after_pending}
-use Rattle.gql_engine.specs.Arena.{mark_of, marks_of, made_of, fresh_states, total, events_of, polls_of, events_left, polls_left}
-use Rattle.gql_engine.proofs.Lists.{map_set, get_map, get_within, set_set}
+use Rattle.gql_engine.specs.Record.{Mark, untold, begun, ready, waiting_from, waiting}
+use Rattle.gql_engine.specs.Arena.{mark_of, marks_of, fresh_states}
+use Rattle.gql_engine.proofs.Lists.{map_set, get_map, set_set}
 
 abbrev pub IsUnanswered : Mark → Type 0
 IsUnanswered untold = Unit {0}

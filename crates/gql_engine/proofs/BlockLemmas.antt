@@ -2,9 +2,9 @@
 use Rattle.std.proofs.Common.{ℕ, zero, suc, ◌≡◌, ◌+◌, ◌-◌, ◌<◌, ◌≤◌, List, [], ◌∷◌, ◌++◌, Option, Some, None, length, take, drop, slice_get, slice_set, refl, sym, ap, subst, ◌∙◌, arith, append_assoc, append-nil, length-append}
 use Rattle.std.proofs.lemmas.Bool.Decides.{nat_tests}
 use Rattle.std.proofs.lemmas.List.Edits.{remove-append_left, remove-append_right}
-use Rattle.std.specs.List.{flat_map, remove}
+use Rattle.std.specs.List.{remove}
 use Rattle.std.specs.Prelude.{IsSome, OnSome, true, ◌==◌}
-use Rattle.gql_engine.specs.Waiting.{Block, numbers_in, all_in, IsSpot}
+use Rattle.gql_engine.specs.Waiting.{Block, all_in, IsSpot}
 
 get-left : {X : Type 0} (xs ys : List X) (i : ℕ) → i < length xs → slice_get (xs ++ ys) i ≡ slice_get xs i
 get-left [] ys i within = absurd (omega arith)

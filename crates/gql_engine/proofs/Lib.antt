@@ -11,6 +11,12 @@ pub mod PaceLemmas
 pub mod PickLemmas
 pub mod ProgressLemmas
 pub mod RecordLemmas
+pub mod RootLemmas
+pub mod RootRunLemmas
+pub mod RootWorld
+pub mod RoundLemmas
 pub mod RunLemmas
 pub mod SoundLemmas
+pub mod StepLemmas
 pub mod TurnLemmas
+pub mod UponLemmas

@@ -1,21 +1,21 @@
 -- Each turn brings the execution nearer to its end.
 use Rattle.std.proofs.Common.{ℕ, zero, suc, ◌≡◌, ◌+◌, ◌-◌, ◌*◌, ◌^◌, ◌<◌, ◌≤◌, List, [], ◌∷◌, ◌++◌, length, refl, sym, ap, subst, ◌∙◌, arith}
 use Rattle.std.proofs.lemmas.List.{length-append}
-use Rattle.std.specs.Prelude.{Option, Some, None, slice_get, slice_set, true, false, Bool}
+use Rattle.std.specs.Prelude.{Some, slice_get, slice_set, true, false}
 use Rattle.gql_engine.specs.declared.arena.State.{State}
 use Rattle.gql_engine.specs.declared.arena.State.TheVariants as state
-use Rattle.gql_engine.specs.Arena.{fresh_states, total, events_of, polls_of, events_left, polls_left, Nearer}
+use Rattle.gql_engine.specs.Arena.{fresh_states, total, events_of, polls_of, Nearer}
 use Rattle.gql_engine.specs.Turn.{StartsWaiting, KeepsWaiting}
-use Rattle.gql_engine.proofs.Lists.{get_within, length_set}
+use Rattle.gql_engine.proofs.Lists.{length_set}
 
 module _ (F : Type 0) where
-  total_set : (weight : State F → ℕ) (states : List (State F)) (i : ℕ) (old new : State F) → slice_get states i ≡ Some old
+  pub total_set : (weight : State F → ℕ) (states : List (State F)) (i : ℕ) (old new : State F) → slice_get states i ≡ Some old
       → total weight (slice_set states i new) + weight old ≡ total weight states + weight new
   total_set weight [] i old new is = absurd (cc)
   total_set weight (s ∷ states) zero old new is = (let e : s ≡ old = cc in let f : weight s ≡ weight old = ap weight e in omega arith)
   total_set weight (s ∷ states) (suc i) old new is = let h = total_set weight states i old new is in omega arith
 
-  total_append : (weight : State F → ℕ) (one other : List (State F)) → total weight (one ++ other) ≡ total weight one + total weight other
+  pub total_append : (weight : State F → ℕ) (one other : List (State F)) → total weight (one ++ other) ≡ total weight one + total weight other
   total_append weight [] other = omega arith
   total_append weight (s ∷ one) other = let h = total_append weight one other in omega arith
 

@@ -1,7 +1,7 @@
 -- From the first turn to the last: fresh tasks, and what stands when none waits.
-use Rattle.std.proofs.Common.{ℕ, zero, suc, ◌≡◌, ◌+◌, ◌<◌, ◌≤◌, Bool, true, false, List, [], ◌∷◌, ◌++◌, length, map, refl, sym, ap, subst, ◌∙◌, arith}
+use Rattle.std.proofs.Common.{ℕ, zero, suc, ◌≡◌, ◌+◌, Bool, true, false, List, [], ◌∷◌, ◌++◌, length, refl, sym, ap, subst, ◌∙◌, arith, inl, inr}
 use Rattle.std.proofs.lemmas.List.{append-nil, length-map}
-use Rattle.std.specs.Prelude.{Option, Some, None, ◌&&◌, slice_get, slice_set}
+use Rattle.std.specs.Prelude.{Option, Some, None, ◌&&◌, slice_get}
 use Rattle.gql_resolve.specs.Call.{Call, is_mutation}
 use Rattle.gql_resolve.specs.Record.{with_more}
 use Rattle.gql_resolve.specs.declared.answer.Answer.{Answer}
@@ -10,21 +10,26 @@ use Rattle.gql_engine.specs.declared.arena.State.{State}
 use Rattle.gql_engine.specs.declared.arena.State.TheVariants as state
 use Rattle.gql_engine.specs.declared.occurrence.Occurrence.{Occurrence}
 use Rattle.gql_engine.specs.declared.scene.Scene.{Scene}
-use Rattle.gql_engine.specs.Apart.{Asked, asked_in, subject_in, placed, place_of, respond, root_of}
-use Rattle.gql_base.specs.Pairs.{unite_all}
+use Rattle.gql_engine.specs.Apart.{Asked, asked, asked_at, asked_of, asked_in, collected, name_of, subject_in, work_in, placed, place_of, respond, root_of}
+use Rattle.gql_base.specs.Pairs.{under, unite_all}
+use Rattle.gql_doc.specs.declared.document.Field.{Field}
+use Rattle.gql_doc.specs.declared.document.Positioned.{Positioned}
+use Rattle.gql_schema.specs.Object.{fields_of}
+use Rattle.gql_schema.specs.declared.field.Field.{Field as SchemaField}
 use Rattle.gql_place.specs.Join.{join}
 use Rattle.gql_engine.specs.ApartPlan.{seen as seen_as, all_seen, Keeps, place_here, places_here}
 use Rattle.std.specs.Option.{ForSome}
 use Rattle.gql_resolve.specs.declared.resolver_set.ResolverSet.{Ghosts as Resolving}
 use Rattle.gql_resolve.specs.declared.turns.Turns.{Ghosts as Choosing}
 use Rattle.gql_engine.specs.declared.given.Given.{Given}
-use Rattle.gql_engine.specs.Arena.{mark_of, marks_of, made_of, fresh_states, Subject, Fits, IsRight}
+use Rattle.gql_engine.specs.Arena.{mark_of, marks_of, made_of, fresh_states, started, total, Fits, IsRight}
 use Rattle.gql_engine.specs.Pace.{EachPaced, EachPacedSoFar, pending_then_ready}
 use Rattle.gql_engine.specs.Parts.{Parts, Moment, choice_by, due_by, delay_by}
-use Rattle.gql_engine.specs.Progress.{IsSound, Agrees, Seen, stage_of, story_at, RunsWhole, RunStopped}
-use Rattle.gql_engine.specs.Record.{Mark, untold, begun, ready, Story, Made, Ran, Stopped, waiting_from, waiting, untold_marks, fresh, after_mark, after_entry, made_at, begun_at}
-use Rattle.gql_engine.proofs.Lists.{get_map, get_at, get_within}
+use Rattle.gql_engine.specs.Progress.{IsSound, Agrees, Seen, stage_of, story_at, RunsWhole, RunStopped, story_of}
+use Rattle.gql_engine.specs.Record.{Mark, untold, begun, ready, Story, Made, Ran, Stopped, waiting_from, waiting, untold_marks, fresh, after_mark, after_entry, made_at, begun_at, Choice, Stage}
+use Rattle.gql_engine.proofs.Lists.{get_append, get_map, get_at, get_within}
 use Rattle.gql_engine.proofs.RecordLemmas.{with_more_none}
+use Rattle.gql_engine.proofs.StepLemmas.{started_fresh, all_started}
 
 module _ (V Task F : Type 0) where
   fresh_length : (n : ℕ) → length (fresh_states {F = F} n) ≡ n
@@ -79,13 +84,13 @@ module _ (V Task F : Type 0) where
 -- fresh tasks stand
 module _ {R Own World Future L H P : Type 0} {e : Parts R Own World Future L H P} where
   pub first_sound : (m : Moment R Future L H P) (n : ℕ) → m.states ≡ fresh_states n → n ≡ length (e.plan.tasks m.plan) → m.waiting ≡ waiting_from 0 (marks_of m.states)
-      → ((number : ℕ) (task : e.plan.Task) → slice_get (e.plan.tasks m.plan) number ≡ Some task → (e.plan.asks task).call.is_root ≡ false)
+      → ((number : ℕ) (task : e.plan.Task) → slice_get (e.plan.tasks m.plan) number ≡ Some task → (e.plan.asks task).call.is_root ≡ e.root)
       → IsSound e m
   first_sound m n states_is n_is waits roots = record {
     lengths = ap length states_is ∙ fresh_length Own e.plan.Task Future n ∙ n_is;
     waits = waits;
     fits = λ number task s task_is state_is.
-        subst (Fits e.set.is_for (e.plan.holds m.plan) number (e.plan.asks task).call)
+        subst (Fits e.root e.set.is_for (e.plan.holds m.plan number) (e.plan.asks task).call)
         (fresh_at Own e.plan.Task Future n number s (ap (λ ss. slice_get ss number) (sym states_is) ∙ state_is)) (roots number task task_is);
   }
 
@@ -107,14 +112,37 @@ all_placed V scene answer (o ∷ os) all =
     ap (λ p. Rattle.gql_engine.specs.ApartPlan.place_under (Rattle.gql_engine.specs.Path.key_text o.item.now) p ++ places_here os) (all 0 o refl)
     ∙ ap (λ ps. ((seen_as scene o).key, place_of (seen_as scene o) (answer (seen_as scene o).asks.call)) ∷ ps) (all_placed V scene answer os (λ k p is. all (suc k) p is))
 
--- no occurrence is a root of a mutation, where the operation is none
-pub seen_roots : (V : Type 0) (scene : Scene V) (os : List Occurrence) → is_mutation scene.env.now.operation.node.ty ≡ false
-    → (number : ℕ) (task : Asked V) → slice_get (all_seen scene os) number ≡ Some task → task.asks.call.is_root ≡ false
-seen_roots V scene [] query number task is = absurd (cc)
-seen_roots V scene (o ∷ os) query zero task is =
-    let e : seen_as scene o ≡ task = cc in
-    subst (λ t. t.asks.call.is_root ≡ false) e (ap (λ b. b && true) query)
-seen_roots V scene (o ∷ os) query (suc number) task is = seen_roots V scene os query number task is
+-- whether an occurrence that asks is a root of a mutation is what the operation says
+asked_one : (V : Type 0) (scene : Scene V) (root : Bool) → is_mutation scene.env.now.operation.node.ty ≡ root → (o : Positioned Field) (found : Option SchemaField)
+    → (number : ℕ) (task : Asked V) → slice_get (asked_at scene o found) number ≡ Some task → task.asks.call.is_root ≡ root
+asked_one V scene root kind o None number task is = absurd (cc)
+asked_one V scene root kind o (Some declared) zero task is =
+    let e : asked_of scene o declared ≡ task = cc in
+    subst (λ (t : Asked V). t.asks.call.is_root ≡ root) e (ap (λ b. b && true) kind ∙ whole root)
+  where
+    whole : (b : Bool) → (b && true) ≡ b
+    whole true = refl
+    whole false = refl
+asked_one V scene root kind o (Some declared) (suc number) task is = absurd (cc)
+
+asked_each : (V : Type 0) (scene : Scene V) (root : Bool) → is_mutation scene.env.now.operation.node.ty ≡ root → (os : List (Positioned Field))
+    → (number : ℕ) (task : Asked V) → slice_get (asked scene os) number ≡ Some task → task.asks.call.is_root ≡ root
+asked_each V scene root kind [] number task is = absurd (cc)
+asked_each V scene root kind (o ∷ os) number task is =
+    elim (get_append (asked_at scene o (under (name_of o) (fields_of scene.object.now))) (asked scene os) number task is) [
+      | inl here ↦ asked_one V scene root kind o (under (name_of o) (fields_of scene.object.now)) number task here
+      | inr later ↦ asked_each V scene root kind os later.0 task later.2
+    ]
+
+pub asked_all : (V : Type 0) (scene : Scene V) (root : Bool) → is_mutation scene.env.now.operation.node.ty ≡ root
+    → (number : ℕ) (task : Asked V) → slice_get (asked_in scene) number ≡ Some task → task.asks.call.is_root ≡ root
+asked_all V scene root kind = asked_each V scene root kind (collected scene.env.now.operation.node.selection_set.node)
+
+-- nothing is beneath, so that the tasks stay
+pub tasks_kept : (V F : Type 0) (answers : Asked V → Answer V) {State_ : Type 0} {choice : Choice State_} {old new : Stage (Asked V) State_}
+    → Ran choice (story_of subject_in answers) old new → new.made.tasks ≡ old.made.tasks
+tasks_kept V F answers {old = old} ran =
+    ap (λ m. m.tasks) ran.made_is ∙ tasks_stay V (Asked V) F (story_of subject_in answers) (λ t. refl) old.made ran.entries
 
 -- the execution of a flat object's fields, from its plan to its places
 module _ {R Own World Future P : Type 0} (set : Resolving R Own World Future) (turns : Choosing P) (scene : Scene Own) (old : Seen R P) where
@@ -122,8 +150,8 @@ module _ {R Own World Future P : Type 0} (set : Resolving R Own World Future) (t
   abbrev pub answers_due : Asked Own → Answer Own
   answers_due task = due_by set old.set task.asks.call
 
-  pub due_agrees : Agrees {V = Own} {Task = Asked Own} subject_in (due_by set old.set) answers_due
-  due_agrees = record { agrees = λ task root. refl }
+  pub due_agrees : Agrees {V = Own} {Task = Asked Own} subject_in false (due_by set old.set) answers_due
+  due_agrees = record { agrees = λ task is. refl }
 
   -- the plan and the arena as they are made
   pub record Begins (first : Scene Own) (os : List Occurrence) (states : List (State Future)) : Type 0 where
@@ -138,11 +166,11 @@ module _ {R Own World Future P : Type 0} (set : Resolving R Own World Future) (t
     pub lengths : length states' ≡ length (all_seen last os')
     pub whole : waiting_from 0 (marks_of states') ≡ []
     pub right : IsRight 0 answers_due (Keeps first os) (all_seen first os) states → IsRight 0 answers_due (Keeps last os') (all_seen last os') states'
-    pub ran : Ran (choice_by turns) (story_at set turns subject_in old) (stage_of set turns subject_in (made_of (all_seen first os) states) old)
-        (stage_of set turns subject_in (made_of (all_seen last os') states') new)
+    pub ran : Ran (choice_by turns) (story_at set turns subject_in old) (stage_of set turns (made_of (all_seen first os) states) old)
+        (stage_of set turns (made_of (all_seen last os') states') new)
 
   pub stopped_none : (new : Seen R P) → set.told new.set ≡ set.told old.set → set.begun new.set ≡ set.begun old.set
-      → RunStopped set turns subject_in (asked_in scene) old new
+      → RunStopped set turns (work_in scene) old new
   stopped_none new told_is begun_is = record {
     stopped = record {
       entries = [];
@@ -166,16 +194,16 @@ module _ {R Own World Future P : Type 0} (set : Resolving R Own World Future) (t
         (ap (λ s. all_seen s os) begins.scene_is ∙ begins.asked_is) paced
 
     run_stopped : (new : Seen R P)
-        → Stopped (choice_by turns) (story_at set turns subject_in old) (stage_of set turns subject_in (made_of (all_seen first os) states) old) (set.told new.set) (set.begun new.set)
-        → Stopped (choice_by turns) (story_at set turns subject_in old) (stage_of set turns subject_in (fresh (asked_in scene)) old) (set.told new.set) (set.begun new.set)
+        → Stopped (choice_by turns) (story_at set turns subject_in old) (stage_of set turns (made_of (all_seen first os) states) old) (set.told new.set) (set.begun new.set)
+        → Stopped (choice_by turns) (story_at set turns subject_in old) (stage_of set turns (fresh (asked_in scene)) old) (set.told new.set) (set.begun new.set)
     run_stopped new stopped =
-        subst (λ m. Stopped (choice_by turns) (story_at set turns subject_in old) (stage_of set turns subject_in m old) (set.told new.set) (set.begun new.set)) made_is stopped
+        subst (λ m. Stopped (choice_by turns) (story_at set turns subject_in old) (stage_of set turns m old) (set.told new.set) (set.begun new.set)) made_is stopped
 
     pub stopped_run : (new : Seen R P)
-        → Stopped (choice_by turns) (story_at set turns subject_in old) (stage_of set turns subject_in (made_of (all_seen first os) states) old) (set.told new.set) (set.begun new.set)
+        → Stopped (choice_by turns) (story_at set turns subject_in old) (stage_of set turns (made_of (all_seen first os) states) old) (set.told new.set) (set.begun new.set)
         → ((before entries : List RecordEntry) → set.is_paced old.set → set.told old.set ≡ Some before → set.told new.set ≡ with_more (set.told old.set) entries
         → EachPacedSoFar (λ task. delay_by set old.set task.asks.call.resolver) (all_seen first os) entries)
-        → RunStopped set turns subject_in (asked_in scene) old new
+        → RunStopped set turns (work_in scene) old new
     stopped_run new stopped paces =
         let whole = run_stopped new stopped in
         record {
@@ -184,14 +212,14 @@ module _ {R Own World Future P : Type 0} (set : Resolving R Own World Future) (t
         }
 
     module _ (new : Seen R P) (last : Scene Own) (os' : List Occurrence) (states' : List (State Future)) (finishes : Finishes new first last os os' states states') where
-      pub whole_ran : Ran (choice_by turns) (story_at set turns subject_in old) (stage_of set turns subject_in (fresh (asked_in scene)) old)
-          (stage_of set turns subject_in (made_of (all_seen last os') states') new)
-      whole_ran = subst (λ m. Ran (choice_by turns) (story_at set turns subject_in old) (stage_of set turns subject_in m old)
-          (stage_of set turns subject_in (made_of (all_seen last os') states') new)) made_is finishes.ran
+      pub whole_ran : Ran (choice_by turns) (story_at set turns subject_in old) (stage_of set turns (fresh (asked_in scene)) old)
+          (stage_of set turns (made_of (all_seen last os') states') new)
+      whole_ran = subst (λ m. Ran (choice_by turns) (story_at set turns subject_in old) (stage_of set turns m old)
+          (stage_of set turns (made_of (all_seen last os') states') new)) made_is finishes.ran
 
       pub runs_whole : (set.is_paced old.set → ForSome (set.told old.set)
           (λ before. EachPaced (λ task. delay_by set old.set task.asks.call.resolver) (all_seen last os') whole_ran.entries))
-          → RunsWhole set turns subject_in (asked_in scene) old new
+          → RunsWhole set turns (work_in scene) old new
       runs_whole paces = record {
         made = made_of (all_seen last os') states';
         ran = whole_ran;
@@ -201,7 +229,7 @@ module _ {R Own World Future P : Type 0} (set : Resolving R Own World Future) (t
 
       pub stopped_whole : ((before entries : List RecordEntry) → set.is_paced old.set → set.told old.set ≡ Some before → set.told new.set ≡ with_more (set.told old.set) entries
           → EachPacedSoFar (λ task. delay_by set old.set task.asks.call.resolver) (all_seen first os) entries)
-          → RunStopped set turns subject_in (asked_in scene) old new
+          → RunStopped set turns (work_in scene) old new
       stopped_whole paces = record {
         stopped = record {
           entries = whole_ran.entries;
@@ -217,6 +245,15 @@ module _ {R Own World Future P : Type 0} (set : Resolving R Own World Future) (t
       tasks_end : all_seen last os' ≡ asked_in scene
       tasks_end = ap (λ m. m.tasks) whole_ran.made_is
           ∙ tasks_stay Own (Asked Own) Future (story_at set turns subject_in old) (λ t. refl) (fresh (asked_in scene)) whole_ran.entries
+
+      -- a step was taken for each task
+      pub steps_end : (steps steps' : ℕ) → steps' + total started states ≡ steps + total started states' → steps' ≡ steps + length (asked_in scene)
+      steps_end steps steps' stepped =
+          let a : total started states ≡ 0 = ap (total started) begins.states_is ∙ started_fresh Future begins.n in
+          let b = all_started Future states' (all_done Own (Asked Own) Future states' finishes.whole) in
+          let d = finishes.lengths in
+          let f = ap length tasks_end in
+          omega (arith, stepped)
 
       kept_at : (k : ℕ) (o : Occurrence) → slice_get os' k ≡ Some o → o.place ≡ Some (place_of (seen_as last o) (answers_due (seen_as last o)))
       kept_at k o is =

@@ -1,23 +1,22 @@
 -- What one turn adds to the record.
-use Rattle.std.proofs.Common.{ℕ, zero, suc, ◌≡◌, ◌+◌, ◌≤◌, List, [], ◌∷◌, ◌++◌, length, refl, sym, ap, subst, ◌∙◌, arith}
+use Rattle.std.proofs.Common.{ℕ, ◌≡◌, ◌≤◌, List, [], ◌∷◌, ◌++◌, length, refl, sym, ap, subst, ◌∙◌, arith}
 use Rattle.std.proofs.lemmas.List.{append-nil, map-append}
-use Rattle.std.specs.Prelude.{Option, Some, None, option_map, slice_get, slice_set, true, false, Bool}
+use Rattle.std.specs.Prelude.{Option, Some, option_map, slice_get, slice_set, true, false, Bool}
 use Rattle.std.specs.Option.{ForSome}
-use Rattle.gql_resolve.specs.Call.{Call, call_of}
 use Rattle.gql_resolve.specs.Record.{with_more, entry_of}
 use Rattle.gql_resolve.specs.declared.answer.Answer.{Answer}
 use Rattle.gql_resolve.specs.declared.record_entry.RecordEntry.{RecordEntry}
 use Rattle.gql_resolve.specs.declared.resolver_context.ResolverContext.{ResolverContext}
 use Rattle.gql_engine.specs.declared.arena.State.{State}
 use Rattle.gql_engine.specs.declared.arena.State.TheVariants as state
-use Rattle.gql_engine.specs.Record.{Choice, Mark, untold, begun, ready, Story, Made, waiting_from, waiting, untold_marks, beneath_of, after_ready, after_pending, after_mark, after_entry, NamesTask, Stage, Turned, begins, begun_at, state_at, made_at, Ran, Stopped}
+use Rattle.gql_engine.specs.Record.{Choice, untold, ready, Story, Made, waiting_from, untold_marks, beneath_of, after_ready, after_mark, NamesTask, Stage, begins, begun_at, Ran, Stopped}
 use Rattle.gql_base.specs.PathSegment.{path_text}
-use Rattle.gql_engine.specs.Arena.{mark_of, marks_of, made_of, fresh_states, Subject, subject_of}
+use Rattle.gql_engine.specs.Arena.{mark_of, marks_of, made_of, fresh_states, subject_of}
 use Rattle.gql_engine.specs.Plan.{Asking, IsContextOf}
 use Rattle.gql_engine.specs.Progress.{story_of}
 use Rattle.gql_engine.specs.Turn.{begins_now}
 use Rattle.gql_engine.proofs.Lists.{map_set, get_map}
-use Rattle.gql_engine.proofs.RecordLemmas.{ran_trans, with_more_none}
+use Rattle.gql_engine.proofs.RecordLemmas.{with_more_none}
 
 -- what the record sees, of plain lists
 abbrev pub staged : {Task State_ : Type 0} → Made Task → Option (List RecordEntry) → Option (List ℕ) → Option State_ → Stage Task State_

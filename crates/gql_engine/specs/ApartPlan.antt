@@ -1,8 +1,10 @@
--- The plan of a flat object: what each of its occurrences is as a task, and what it keeps of answers.
-use Rattle.std.specs.Prelude.{ℕ, ◌≡◌, List, [], ◌∷◌, Option, Some, None, map, slice_get}
+-- The plan of a flat object: what each of its occurrences is as a task, and what it keeps of
+-- answers.
+use Rattle.std.specs.Prelude.{ℕ, ◌≡◌, List, [], ◌∷◌, Option, Some, None, map, slice_get, ◌&&◌}
 use Rattle.std.specs.List.{flat_map}
 use Rattle.gql_base.specs.declared.path_segment.PathSegment.{PathSegment}
 use Rattle.gql_place.specs.declared.place.Place.{Place}
+use Rattle.gql_resolve.specs.Call.{is_mutation, is_single}
 use Rattle.gql_engine.specs.Apart.{Asked, asked_of, place_given}
 use Rattle.gql_engine.specs.declared.given.Given.{Given}
 use Rattle.gql_engine.specs.Path.{key_text, path_of}
@@ -13,7 +15,15 @@ use Rattle.gql_engine.specs.declared.scene.Scene.{Scene}
 abbrev pub seen : {V : Type 0} → Scene V → Occurrence → Asked V
 seen scene occurrence =
     let asked = asked_of scene occurrence.item.now occurrence.declared.now in
-    record asked { asks = record asked.asks { env = occurrence.env.now } }
+    record asked {
+      asks = record asked.asks {
+        env = occurrence.env.now;
+        call = record asked.asks.call {
+          is_root = is_mutation occurrence.env.now.operation.node.ty
+              && is_single (path_of occurrence.item.now);
+        };
+      };
+    }
 
 -- all of them
 abbrev pub all_seen : {V : Type 0} → Scene V → List Occurrence → List (Asked V)
@@ -21,12 +31,14 @@ all_seen scene occurrences = map (seen scene) occurrences
 
 -- the place of an occurrence is that of what it was given
 abbrev pub Keeps : {V : Type 0} → Scene V → List Occurrence → ℕ → Given V → Type 0
-Keeps scene occurrences number given = (occurrence : Occurrence) → slice_get occurrences number ≡ Some occurrence
+Keeps scene occurrences number given = (occurrence : Occurrence)
+    → slice_get occurrences number ≡ Some occurrence
     → occurrence.place ≡ Some (place_given (seen scene occurrence) given)
 
 -- the path is the one to the occurrence of a number
 abbrev pub IsAimed : List Occurrence → List PathSegment → ℕ → Type 0
-IsAimed occurrences path number = (occurrence : Occurrence) → slice_get occurrences number ≡ Some occurrence → path ≡ path_of occurrence.item.now
+IsAimed occurrences path number = (occurrence : Occurrence)
+    → slice_get occurrences number ≡ Some occurrence → path ≡ path_of occurrence.item.now
 
 -- what an occurrence adds to the members of its object
 abbrev pub place_under : List ℕ → Option Place → List (List ℕ × Place)

@@ -1,5 +1,6 @@
 -- The states of the tasks, and what holds of them between two turns.
-use Rattle.std.specs.Prelude.{ℕ, zero, suc, ◌≡◌, ◌+◌, ◌-◌, ◌*◌, ◌^◌, ◌<◌, ◌≤◌, List, [], ◌∷◌, ◌++◌, Some, Bool, true, false, length, map, slice_get}
+use Rattle.std.specs.Prelude.{ℕ, zero, suc, ◌≡◌, ◌+◌, ◌-◌, ◌*◌, ◌^◌, ◌<◌, ◌≤◌, List, [], ◌∷◌}
+use Rattle.std.specs.Prelude.{Some, Bool, true, false, length, map, slice_get}
 use Rattle.gql_engine.specs.declared.arena.State.{State}
 use Rattle.gql_engine.specs.declared.arena.State.TheVariants as state
 use Rattle.gql_engine.specs.declared.given.Given.{Given}
@@ -29,38 +30,56 @@ abbrev pub fresh_states : {F : Type 0} → ℕ → List (State F)
 fresh_states zero = []
 fresh_states (suc n) = state.Fresh ∷ fresh_states n
 
--- what is fixed of the tasks of a plan: what each asks, the text of its path, and the tasks that an answer makes beneath it
+-- what is fixed of the tasks of a plan: what each asks, the text of its path, and the tasks that an
+-- answer makes beneath it
 pub record Subject (V Task : Type 0) : Type 0 where
   pub call : Task → Call V
   pub path : Task → List ℕ
   pub beneath : Task → Answer V → List Task
 
 -- the same, of what tasks ask
-abbrev pub subject_of : {V Task : Type 0} → (Task → Asking V) → (Task → Answer V → List Task) → Subject V Task
+abbrev pub subject_of : {V Task : Type 0} → (Task → Asking V) → (Task → Answer V → List Task)
+    → Subject V Task
 subject_of asks beneath = record {
   call = λ task. (asks task).call;
   path = λ task. path_text (asks task).segments;
   beneath = beneath;
 }
 
--- of a task that was given something, that is kept; another may be taken up, and is no root of a mutation
-abbrev pub Fits : {V F : Type 0} → (F → Call V → Type 0) → (ℕ → Given V → Type 0) → ℕ → Call V → State F → Type 0
-Fits is_for holds number call state.Fresh = call.is_root ≡ false
-Fits is_for holds number call (state.Waiting future) = (call.is_root ≡ false) × is_for future call
-Fits {V = V} is_for holds number call state.Done = (given : Given V) × holds number given
+-- what an execution has to do: what is fixed of its tasks, and those that it begins with
+pub record Work (V Task : Type 0) : Type 0 where
+  pub subject : Subject V Task
+  pub first : List Task
 
--- what is kept of the tasks from a number on is the answers that are due to them; those below were answered in an earlier world
-pub record IsRight {V Task F : Type 0} (base : ℕ) (answers : Task → Answer V) (holds : ℕ → Given V → Type 0) (tasks : List Task) (states : List (State F)) : Type 0 where
-  pub kept : (number : ℕ) (task : Task) → base ≤ number → slice_get tasks number ≡ Some task → slice_get states number ≡ Some state.Done
-      → holds number (Answered (answers task))
+-- of a task that was given something, that is kept; another may be taken up, and is a root of a
+-- mutation or none, as is said of all that are open
+abbrev pub Fits : {V F : Type 0} → Bool → (F → Call V → Type 0) → (Given V → Type 0) → Call V
+    → State F → Type 0
+Fits root is_for held call state.Fresh = call.is_root ≡ root
+Fits root is_for held call (state.Waiting future) = (call.is_root ≡ root) × is_for future call
+Fits {V = V} root is_for held call state.Done = (given : Given V) × held given
 
--- How far the execution is from its end. An event is the start or the answer of a task; each new task has two to come, and
--- there is room for 2^64 tasks. Between two events the numbers of the futures fall.
+-- what is kept of the tasks from a number on is the answers that are due to them; those below were
+-- answered in an earlier world
+pub record IsRight {V Task F : Type 0} (base : ℕ) (answers : Task → Answer V)
+    (holds : ℕ → Given V → Type 0) (tasks : List Task) (states : List (State F)) : Type 0 where
+  pub kept : (number : ℕ) (task : Task) → base ≤ number → slice_get tasks number ≡ Some task
+      → slice_get states number ≡ Some state.Done → holds number (Answered (answers task))
+
+-- How far the execution is from its end. An event is the start or the answer of a task; each new
+-- task has two to come, and there is room for 2^64 tasks. Between two events the numbers of the
+-- futures fall.
 
 -- the sum of the states' weights
 abbrev pub total : {F : Type 0} → (State F → ℕ) → List (State F) → ℕ
 total weight [] = 0
 total weight (s ∷ states) = weight s + total weight states
+
+-- whether a task has begun, as a number
+abbrev pub started : {F : Type 0} → State F → ℕ
+started state.Fresh = 0
+started (state.Waiting future) = 1
+started state.Done = 1
 
 -- the events that are to come of a task
 abbrev pub events_of : {F : Type 0} → State F → ℕ
@@ -85,4 +104,5 @@ polls_left number states = total (polls_of number) states
 -- after a turn: an event is over, or the numbers of the futures fell
 abbrev pub Nearer : {F : Type 0} → (F → ℕ) → Bool → List (State F) → List (State F) → Type 0
 Nearer number true old new = events_left new < events_left old
-Nearer number false old new = (events_left new ≡ events_left old) × (polls_left number new < polls_left number old)
+Nearer number false old new = (events_left new ≡ events_left old)
+    × (polls_left number new < polls_left number old)

@@ -1,5 +1,7 @@
--- What an answer comes to by the type of its field (GraphQL, October 2021, sections 6.4.3 and 3.5). Lists and objects are to come.
-use Rattle.std.specs.Prelude.{ℕ, ◌++◌, Bool, false, List, Option, Some, None, Result, Ok, Err, if◌then◌else◌, codes}
+-- What an answer comes to by the type of its field (GraphQL, October 2021, sections 6.4.3 and 3.5).
+-- Lists and objects are to come.
+use Rattle.std.specs.Prelude.{ℕ, ◌++◌, Bool, false, List, Option, Some, None, Result, Ok, Err}
+use Rattle.std.specs.Prelude.{if◌then◌else◌, codes}
 use Rattle.std.specs.Option.{option_map_or}
 use Rattle.std.specs.Str.{bytes_eq}
 use Rattle.gql_base.specs.Kinds.{is_null}
@@ -34,13 +36,15 @@ no_array = codes "internal: expects an array"
 
 -- the fault of what the scalar doesn't take
 abbrev pub no_scalar : List ℕ → List ℕ
-no_scalar name = codes "internal: invalid value for scalar \"" ++ (name ++ codes "\", expected \"FieldValue::Value\"")
+no_scalar name = codes "internal: invalid value for scalar \"" ++
+    (name ++ codes "\", expected \"FieldValue::Value\"")
 
 -- the rule of a scalar by its name; those without a rule here are to come
 abbrev pub rule_named : List ℕ → Option ScalarRule
 rule_named name =
     if bytes_eq name (codes "Int") then Some rules.Int
-    else (if bytes_eq name (codes "String") then Some rules.Text else (if bytes_eq name (codes "Boolean") then Some rules.Bool else None))
+    else (if bytes_eq name (codes "String") then Some rules.Text
+    else (if bytes_eq name (codes "Boolean") then Some rules.Bool else None))
 
 -- whether that rule takes a value; null is none of the scalar's business
 abbrev pub takes : List ℕ → Value → Bool
@@ -49,7 +53,8 @@ takes name value = option_map_or (λ rule. takes_by rule value) (rule_named name
 -- a value at the scalar of this name
 abbrev pub leaf_at : List ℕ → Option Value → Tree
 leaf_at name None = fault (no_scalar name)
-leaf_at name (Some value) = if is_null value then tree.Absent else (if takes name value then tree.Leaf value else fault (no_scalar name))
+leaf_at name (Some value) = if is_null value then tree.Absent
+    else (if takes name value then tree.Leaf value else fault (no_scalar name))
 
 -- a value at a list type, until lists are completed
 abbrev pub list_at : Option Value → Tree
@@ -78,7 +83,8 @@ required whole = required_here whole (out-Tree whole)
 
 module _ {V : Type 0} where
   -- one layer of a type
-  abbrev pub completed_step : TypeRef-F (Option (FieldValue V) → Tree) → Option (FieldValue V) → Tree
+  abbrev pub completed_step : TypeRef-F (Option (FieldValue V) → Tree) → Option (FieldValue V)
+      → Tree
   completed_step (TypeRef-F.Named name) given = scalar_at name given
   completed_step (TypeRef-F.NonNull inner) given = required (inner given)
   completed_step (TypeRef-F.List inner) given = items_at given

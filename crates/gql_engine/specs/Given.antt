@@ -18,6 +18,7 @@ module _ {V : Type 0} where
   headers_of (Put put) = []
 
   -- the tasks beneath what a task is given: only an answer has some
-  abbrev pub beneath_given : {Task : Type 0} → (Task → Answer V → List Task) → Task → Given V → List Task
+  abbrev pub beneath_given : {Task : Type 0} → (Task → Answer V → List Task) → Task → Given V
+      → List Task
   beneath_given beneath task (Answered answer) = beneath task answer
   beneath_given beneath task (Put put) = []

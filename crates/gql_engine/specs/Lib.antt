@@ -9,5 +9,8 @@ pub mod Path
 pub mod Plan
 pub mod Progress
 pub mod Record
+pub mod Root
+pub mod Rounds
+pub mod Steps
 pub mod Turn
 pub mod Waiting

@@ -1,5 +1,5 @@
--- The parts of an execution, and what stands of them between two turns.
-use Rattle.std.specs.Prelude.{ℕ, List}
+-- The parts of an execution, and what is seen of them at one moment.
+use Rattle.std.specs.Prelude.{ℕ, List, Bool, true, false}
 use Rattle.gql_resolve.specs.Call.{Call}
 use Rattle.gql_resolve.specs.declared.answer.Answer.{Answer}
 use Rattle.gql_resolve.specs.declared.resolver_set.ResolverSet.{Ghosts as Resolving}
@@ -11,19 +11,51 @@ use Rattle.gql_engine.specs.declared.rounds.Rounds.{Ghosts as Hooking}
 use Rattle.gql_engine.specs.Arena.{Subject, subject_of, made_of}
 use Rattle.gql_engine.specs.Record.{Choice, Stage}
 
--- what is known of the kinds of an execution's parts: of its resolver set, its plan, its hooks and its turns
+-- what is known of an execution's parts: of its resolver set, its plan, its hooks and its turns;
+-- and whether the tasks that are open are roots of a mutation
 pub record Parts (R Own World Future L H P : Type 0) : Type 1 where
   pub set : Resolving R Own World Future
   pub plan : Planning L Own
   pub hooks : Hooking H Own
   pub turns : Choosing P
+  pub root : Bool
 
-module _ {R Own World Future L H P : Type 0} where
-  -- the parts, as a contract names them
-  abbrev pub parts : Resolving R Own World Future → Planning L Own → Hooking H Own → Choosing P → Parts R Own World Future L H P
-  parts set plan hooks turns = record { set = set; plan = plan; hooks = hooks; turns = turns }
+module _ {R Own World Future L H P : Type 0} (set : Resolving R Own World Future) where
+  -- the parts, as a contract names them; no open task is a root of a mutation
+  abbrev pub parts : Planning L Own → Hooking H Own → Choosing P → Parts R Own World Future L H P
+  parts plan hooks turns = record {
+    set = set;
+    plan = plan;
+    hooks = hooks;
+    turns = turns;
+    root = false;
+  }
 
--- an execution at one moment: the plan, the states of its tasks, the numbers of those that wait, the set, the hooks and the turns
+  -- those of the phase that answers a root of a mutation: it alone is open
+  abbrev pub root_parts : Planning L Own → Hooking H Own → Choosing P
+      → Parts R Own World Future L H P
+  root_parts plan hooks turns = record {
+    set = set;
+    plan = plan;
+    hooks = hooks;
+    turns = turns;
+    root = true;
+  }
+
+-- what an execution uses that isn't the engine's: the set, the hooks, the turns, and the steps so
+-- far
+pub record Outside (R H P : Type 0) : Type 0 where
+  pub set : R
+  pub hooks : H
+  pub turns : P
+  pub steps : ℕ
+
+-- the same, as a contract names it
+abbrev pub outside : {R H P : Type 0} → R → H → P → ℕ → Outside R H P
+outside set hooks turns steps = record { set = set; hooks = hooks; turns = turns; steps = steps }
+
+-- an execution at one moment: the plan, the states of its tasks, the numbers of those that wait,
+-- the set, the hooks, the turns and the steps
 pub record Moment (R Future L H P : Type 0) : Type 0 where
   pub plan : L
   pub states : List (State Future)
@@ -31,16 +63,18 @@ pub record Moment (R Future L H P : Type 0) : Type 0 where
   pub set : R
   pub hooks : H
   pub turns : P
+  pub steps : ℕ
 
 -- the moment, as a contract names it
-abbrev pub at : {R Future L H P : Type 0} → L → Arena Future → R → H → P → Moment R Future L H P
-at plan arena set hooks turns = record {
+abbrev pub at : {R Future L H P : Type 0} → L → Arena Future → Outside R H P → Moment R Future L H P
+at plan arena used = record {
   plan = plan;
   states = arena.states.items;
   waiting = arena.waiting;
-  set = set;
-  hooks = hooks;
-  turns = turns;
+  set = used.set;
+  hooks = used.hooks;
+  turns = used.turns;
+  steps = used.steps;
 }
 
 -- how turns choose

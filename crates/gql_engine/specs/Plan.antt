@@ -6,7 +6,8 @@ use Rattle.gql_request.specs.declared.query_env.QueryEnv.{QueryEnv}
 use Rattle.gql_resolve.specs.Call.{Call, call_of}
 use Rattle.gql_resolve.specs.declared.resolver_context.ResolverContext.{ResolverContext}
 
--- what a task asks: its call, the path to its field, the field as it stands in the document, and the environment of the query
+-- what a task asks: its call, the path to its field, the field as it stands in the document, and
+-- the environment of the query
 pub record Asking (V : Type 0) : Type 0 where
   pub call : Call V
   pub segments : List PathSegment
@@ -18,7 +19,8 @@ abbrev pub HasMade : {Task : Type 0} → List Task → List Task → List Task �
 HasMade old new more count = (new ≡ old ++ more) × (count ≡ length more)
 
 -- a context is that of a task by its number and what it asks
-pub record IsContextOf {V : Type 0} (number : ℕ) (asks : Asking V) (context : ResolverContext V) : Type 0 where
+pub record IsContextOf {V : Type 0} (number : ℕ) (asks : Asking V)
+    (context : ResolverContext V) : Type 0 where
   pub call_is : call_of context ≡ asks.call
   pub task_is : context.task ≡ number
   pub segments_is : context.path_node.segments.now ≡ asks.segments

@@ -1,6 +1,9 @@
--- The record of an execution: one entry for each poll that answered, and what it says about the turns.
--- A task is one call of a resolver. Tasks are numbered from 0 in the order in which they are made.
-use Rattle.std.specs.Prelude.{ℕ, zero, suc, ◌≡◌, ◌+◌, ◌-◌, ◌≤◌, ◌==◌, ◌↔◌, IsTrue, List, [], ◌∷◌, ◌++◌, Option, Some, None, Bool, if◌then◌else◌, length, map, slice_get, slice_set, slice_index, option_map}
+-- The record of an execution: one entry for each poll that answered, and what it says about the
+-- turns. A task is one call of a resolver. Tasks are numbered from 0 in the order in which they are
+-- made.
+use Rattle.std.specs.Prelude.{ℕ, suc, ◌≡◌, ◌≤◌, List, [], ◌∷◌}
+use Rattle.std.specs.Prelude.{◌++◌, Option, Some, None, Bool, if◌then◌else◌, length, slice_get}
+use Rattle.std.specs.Prelude.{slice_set, option_map}
 use Rattle.std.specs.Option.{ForSome}
 use Rattle.gql_resolve.specs.Record.{with_more}
 use Rattle.gql_resolve.specs.declared.record_entry.RecordEntry.{RecordEntry}
@@ -11,7 +14,8 @@ pub data Mark : Type 0 where
   begun : Mark
   ready : Mark
 
--- what is fixed of each task: the number of its resolver, the text of its path, and the tasks beneath its answer
+-- what is fixed of each task: the number of its resolver, the text of its path, and the tasks
+-- beneath its answer
 pub record Story (Task : Type 0) : Type 0 where
   pub resolver : Task → ℕ
   pub path : Task → List ℕ
@@ -22,7 +26,8 @@ pub record Made (Task : Type 0) : Type 0 where
   pub tasks : List Task
   pub marks : List Mark
 
--- the numbers of the tasks without a ready entry, in the order of making, counted from the first number
+-- the numbers of the tasks without a ready entry, in the order of making, counted from the first
+-- number
 abbrev pub waiting_from : ℕ → List Mark → List ℕ
 waiting_from n [] = []
 waiting_from n (untold ∷ marks) = n ∷ waiting_from (suc n) marks
@@ -53,11 +58,14 @@ after_pending made task = record { tasks = made.tasks; marks = slice_set made.ma
 
 -- a ready entry marks it too, and the tasks beneath its answer are made
 abbrev pub after_ready : {Task : Type 0} → Made Task → ℕ → List Task → Made Task
-after_ready made task more = record { tasks = made.tasks ++ more; marks = slice_set made.marks task ready ++ untold_marks more }
+after_ready made task more = record
+    { tasks = made.tasks ++ more; marks = slice_set made.marks task ready ++ untold_marks more }
 
 -- an entry does one of the two
 abbrev pub after_mark : {Task : Type 0} → Story Task → Made Task → ℕ → Bool → Made Task
-after_mark story made task is_ready = if is_ready then after_ready made task (beneath_of story (slice_get made.tasks task)) else after_pending made task
+after_mark story made task is_ready = if is_ready
+    then after_ready made task (beneath_of story (slice_get made.tasks task))
+    else after_pending made task
 
 -- the tasks and marks after one entry
 abbrev pub after_entry : {Task : Type 0} → Story Task → Made Task → RecordEntry → Made Task
@@ -71,20 +79,25 @@ pub record Choice (State : Type 0) : Type 0 where
 -- an entry has the resolver's number and the path's text of its task
 abbrev pub NamesTask : {Task : Type 0} → Story Task → Option Task → RecordEntry → Type 0
 NamesTask story None entry = ⊥
-NamesTask story (Some task) entry = (entry.resolver ≡ story.resolver task) × (entry.path ≡ story.path task)
+NamesTask story (Some task) entry = (entry.resolver ≡ story.resolver task)
+    × (entry.path ≡ story.path task)
 
 -- each entry is of the task that the turns choose among those that wait before it
-abbrev pub Turned : {Task State : Type 0} → Choice State → Story Task → State → Made Task → List RecordEntry → Type 0
+abbrev pub Turned : {Task State : Type 0} → Choice State → Story Task → State → Made Task
+    → List RecordEntry → Type 0
 Turned choice story state made [] = Unit {0}
 Turned choice story state made (entry ∷ entries) =
     (slice_get (waiting made) (choice.place state (length (waiting made))) ≡ Some entry.task)
     × NamesTask story (slice_get made.tasks entry.task) entry
-    × Turned choice story (choice.after state (length (waiting made))) (after_entry story made entry) entries
+    × Turned choice story (choice.after state (length (waiting made)))
+    (after_entry story made entry) entries
 
 -- the state of the turns after a record
-abbrev pub state_at : {Task State : Type 0} → Choice State → Story Task → State → Made Task → List RecordEntry → State
+abbrev pub state_at : {Task State : Type 0} → Choice State → Story Task → State → Made Task
+    → List RecordEntry → State
 state_at choice story state made [] = state
-state_at choice story state made (entry ∷ entries) = state_at choice story (choice.after state (length (waiting made))) (after_entry story made entry) entries
+state_at choice story state made (entry ∷ entries) = state_at choice story
+    (choice.after state (length (waiting made))) (after_entry story made entry) entries
 
 -- the tasks and marks after a record
 abbrev pub made_at : {Task : Type 0} → Story Task → Made Task → List RecordEntry → Made Task
@@ -101,10 +114,11 @@ begins task (Some ready) = []
 -- the tasks that begin in a record, each at its first entry
 abbrev pub begun_at : {Task : Type 0} → Story Task → Made Task → List RecordEntry → List ℕ
 begun_at story made [] = []
-begun_at story made (entry ∷ entries) = begins entry.task (slice_get made.marks entry.task) ++ begun_at story (after_entry story made entry) entries
+begun_at story made (entry ∷ entries) = begins entry.task (slice_get made.marks entry.task)
+    ++ begun_at story (after_entry story made entry) entries
 
--- what the record sees of an execution between two turns: the tasks with their marks, what the set told of entries and of tasks
--- that began, and the state of the turns
+-- what the record sees of an execution between two turns: the tasks with their marks, what the set
+-- told of entries and of tasks that began, and the state of the turns
 pub record Stage (Task State : Type 0) : Type 0 where
   pub made : Made Task
   pub told : Option (List RecordEntry)
@@ -112,7 +126,8 @@ pub record Stage (Task State : Type 0) : Type 0 where
   pub turns : Option State
 
 module _ {Task State : Type 0} (choice : Choice State) (story : Story Task) where
-  -- one stretch of an execution: the entries that the set was told, which the turns chose, and what stands after them
+  -- one stretch of an execution: the entries that the set was told, which the turns chose, and what
+  -- stands after them
   pub record Ran (old new : Stage Task State) : Type 0 where
     pub entries : List RecordEntry
     pub told_is : new.told ≡ with_more old.told entries
@@ -121,8 +136,10 @@ module _ {Task State : Type 0} (choice : Choice State) (story : Story Task) wher
     pub state_is : new.turns ≡ option_map (λ s. state_at choice story s old.made entries) old.turns
     pub made_is : new.made ≡ made_at story old.made entries
 
-  -- what an execution that ended for want of memory has told: such a stretch, and at most one task more has begun
-  pub record Stopped (old : Stage Task State) (told : Option (List RecordEntry)) (starts : Option (List ℕ)) : Type 0 where
+  -- what an execution that ended for want of memory has told: such a stretch, and at most one task
+  -- more has begun
+  pub record Stopped (old : Stage Task State) (told : Option (List RecordEntry))
+      (starts : Option (List ℕ)) : Type 0 where
     pub entries : List RecordEntry
     pub told_is : told ≡ with_more old.told entries
     pub last : List ℕ

@@ -1,5 +1,6 @@
 -- What one turn does to the task that it takes.
-use Rattle.std.specs.Prelude.{ℕ, ◌≡◌, ◌<◌, ◌+◌, List, [], ◌∷◌, ◌⊎◌, Option, Result, Ok, Err, Bool, true, false}
+use Rattle.std.specs.Prelude.{ℕ, ◌≡◌, ◌<◌, List, [], ◌∷◌, ◌⊎◌, Option, Result, Ok, Err}
+use Rattle.std.specs.Prelude.{true, false}
 use Rattle.gql_resolve.specs.declared.answer.Answer.{Answer}
 use Rattle.gql_resolve.specs.declared.record_entry.RecordEntry.{RecordEntry}
 use Rattle.gql_resolve.specs.declared.resolver_context.ResolverContext.{ResolverContext}
@@ -40,15 +41,18 @@ StartsWaiting is_for call (state.Waiting old) new = ⊥
 StartsWaiting is_for call state.Done new = ⊥
 
 -- after a later one the future is for the call still, and its number fell
-abbrev pub KeepsWaiting : {F C : Type 0} → (F → C → Type 0) → (F → ℕ) → C → State F → State F → Type 0
-KeepsWaiting is_for number call (state.Waiting old) (state.Waiting new) = is_for new call × (number new < number old)
+abbrev pub KeepsWaiting : {F C : Type 0} → (F → C → Type 0) → (F → ℕ) → C → State F → State F
+    → Type 0
+KeepsWaiting is_for number call (state.Waiting old) (state.Waiting new) = is_for new call
+    × (number new < number old)
 KeepsWaiting is_for number call (state.Waiting old) state.Fresh = ⊥
 KeepsWaiting is_for number call (state.Waiting old) state.Done = ⊥
 KeepsWaiting is_for number call state.Fresh new = ⊥
 KeepsWaiting is_for number call state.Done new = ⊥
 
 -- what a turn does to the state of its task
-abbrev pub TurnOf : {R V W F : Type 0} → Resolving R V W F → Call V → State F → State F → Turn V → Type 0
+abbrev pub TurnOf : {R V W F : Type 0} → Resolving R V W F → Call V → State F → State F → Turn V
+    → Type 0
 TurnOf set call old new (turn.Answered given) = Unit {0}
 TurnOf set call old new turn.Begun = StartsWaiting set.is_for call old new
 TurnOf set call old new turn.Pending = KeepsWaiting set.is_for set.number call old new
@@ -73,15 +77,16 @@ begins_now task state.Fresh = task ∷ []
 begins_now task (state.Waiting future) = []
 begins_now task state.Done = []
 
--- the events of a turn: a fresh task's hooks are entered, once
-abbrev pub enters_now : {F Event : Type 0} → Event → State F → List Event
-enters_now event state.Fresh = event ∷ []
-enters_now event (state.Waiting future) = []
-enters_now event state.Done = []
+-- the rounds of a turn, by their contexts: a fresh task's hooks are entered, once
+abbrev pub enters_now : {V F : Type 0} → ResolverContext V → State F → List (ResolverContext V)
+enters_now context state.Fresh = context ∷ []
+enters_now context (state.Waiting future) = []
+enters_now context state.Done = []
 
 -- where memory was wanting, they may not have been
-abbrev pub EntersAtMost : {Event : Type 0} → Event → Option (List Event) → Option (List Event) → Type 0
-EntersAtMost event old new = (new ≡ old) ⊎ (new ≡ with_more old (event ∷ []))
+abbrev pub EntersAtMost : {Event : Type 0} → List Event → Option (List Event) → Option (List Event)
+    → Type 0
+EntersAtMost events old new = (new ≡ old) ⊎ (new ≡ with_more old events)
 
 -- a turn of a future gives nothing that a hook put
 abbrev pub IsNoPut : {V : Type 0} → Turn V → Type 0

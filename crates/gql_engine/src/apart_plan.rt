@@ -1,5 +1,4 @@
 ghost use Rattle.std.specs.Prelude.{◌≡◌, [], false};
-ghost use Rattle.gql_resolve.specs.Call.{is_mutation};
 
 use crate::given::Given;
 use crate::occurrence::Occurrence;
@@ -12,7 +11,8 @@ use gql_request::QueryPathNode;
 use gql_resolve::ResolverContext;
 use std::alloc::Global;
 
-/// The occurrences of a flat object's fields, each with its place once it is answered, and the path to one of them.
+/// The occurrences of a flat object's fields, each with its place once it is answered, and the path
+/// to one of them.
 #[derive(Drop)]
 pub struct ApartPlan<'a, V> {
     pub scene: &'a Scene<'a, V>,
@@ -20,7 +20,6 @@ pub struct ApartPlan<'a, V> {
     pub occurrences: Vec<Occurrence<'a>>,
     pub path: Vec<PathSegment>,
     pub ghost bare: { arguments ≡ [] },
-    pub ghost query: { is_mutation scene.now.env.now.operation.node.ty ≡ false },
 }
 
 impl<'a, V: Drop> Plan<V> for ApartPlan<'a, V> {

@@ -9,7 +9,8 @@ pub enum State<F> {
     Done,
 }
 
-/// The states of the tasks of a plan, and the numbers of those without an answer, in the order of making.
+/// The states of the tasks of a plan, and the numbers of those without an answer, in the order of
+/// making.
 #[derive(Debug, Drop)]
 pub struct Arena<F> {
     pub states: Vec<State<F>>,

@@ -9,7 +9,8 @@ use gql_place::{Place, Tree, join};
 use std::alloc::Global;
 use std::mem;
 
-/// The members of an object: the places of its occurrences under their keys, those under one key joined.
+/// The members of an object: the places of its occurrences under their keys, those under one key
+/// joined.
 pub(crate) fn members_of(alloc: Global, occurrences: Vec<Occurrence<'_>>) -> Made<Pairs<Place>>
     ensures { IfOk result (λ members. members
         ≡ unite_all joined [] (places_here occurrences.entry.items)) }

@@ -4,7 +4,6 @@ ghost use Rattle.gql_base.specs.Pairs.{under};
 ghost use Rattle.gql_doc.specs.declared.document.Selection.{out-Selection};
 ghost use Rattle.gql_doc.specs.Depth.{field_set, selections_of};
 ghost use Rattle.gql_request.specs.QueryEnv.{NestsIn};
-ghost use Rattle.gql_resolve.specs.Call.{is_mutation};
 ghost use Rattle.gql_engine.specs.Apart.{asked, asked_at, asked_in, field_here, name_of};
 ghost use Rattle.gql_engine.specs.ApartPlan.{all_seen};
 
@@ -17,7 +16,6 @@ use std::alloc::Global;
 
 /// The plan of a scene: the occurrences of fields that the object has, in document order.
 pub(crate) fn plan_of<'a, V: Drop>(alloc: Global, scene: &'a Scene<'a, V>) -> Made<ApartPlan<'a, V>>
-    requires { is_mutation scene.now.env.now.operation.node.ty ≡ false }
     ensures scene { IfOk result (λ plan. plan.scene.now ≡ scene.entry.now) }
     ensures asked { IfOk result (λ plan.
         all_seen scene.entry.now plan.occurrences.items ≡ asked_in scene.entry.now) }
@@ -40,7 +38,6 @@ fn add_selection<'a, V: Drop>(
     selection: &'a Positioned<Selection>,
     occurrences: &mut Vec<Occurrence<'a>>,
 ) -> Made<()>
-    requires query { is_mutation scene.now.env.now.operation.node.ty ≡ false }
     requires stands { Contains
         (selections_of scene.now.env.now.operation.node.selection_set) selection.now }
     ensures { OnOk result (all_seen scene.entry.now occurrences.new.items
@@ -60,7 +57,6 @@ fn add_occurrence<'a, V: Drop>(
     item: &'a Positioned<Field>,
     occurrences: &mut Vec<Occurrence<'a>>,
 ) -> Made<()>
-    requires query { is_mutation scene.now.env.now.operation.node.ty ≡ false }
     requires nests { NestsIn scene.now.env.now (field_set item.now) }
     ensures { OnOk result (all_seen scene.entry.now occurrences.new.items
         ≡ all_seen scene.entry.now occurrences.old.items

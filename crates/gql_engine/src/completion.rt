@@ -1,6 +1,7 @@
 ghost use Rattle.std.specs.Prelude.{◌≡◌, IfOk, Some};
 ghost use Rattle.gql_base.specs.Kinds.{is_null};
-ghost use Rattle.gql_engine.specs.Completion.{fault, takes, rule_named, scalar_at, leaf_at, list_at, items_at, required, completed};
+ghost use Rattle.gql_engine.specs.Completion.{fault, takes, rule_named, scalar_at, leaf_at};
+ghost use Rattle.gql_engine.specs.Completion.{list_at, items_at, required, completed};
 ghost use Rattle.gql_engine.specs.Completion.{tree_of, tree_put, no_value, no_array, no_scalar};
 
 use gql_base::{Error, Made, Text, TypeRef, Value};

@@ -1,7 +1,8 @@
 use gql_base::{Error, Value};
 use gql_resolve::Answer;
 
-/// What a task is given: the answer of its resolver, or what a hook puts in its place, which is a leaf, nothing, or a fault.
+/// What a task is given: the answer of its resolver, or what a hook puts in its place, which is a
+/// leaf, nothing, or a fault.
 #[derive(Debug, Drop)]
 pub enum Given<V> {
     Answered(Answer<V>),

@@ -1,8 +1,6 @@
-ghost use Rattle.std.specs.Prelude.{◌≡◌, false};
 ghost use Rattle.std.proofs.Props.{props};
 ghost use Rattle.gql_doc.specs.Depth.{field_set};
 ghost use Rattle.gql_request.specs.QueryEnv.{NestsIn};
-ghost use Rattle.gql_resolve.specs.Call.{is_mutation};
 
 use gql_doc::{Field, Positioned};
 use gql_place::Place;
@@ -15,6 +13,5 @@ pub struct Occurrence<'a> {
     pub declared: &'a gql_schema::Field,
     pub env: &'a QueryEnv,
     pub place: Option<Place>,
-    pub ghost query: { is_mutation env.now.operation.node.ty ≡ false },
     pub ghost nests: { NestsIn env.now (field_set item.now) } by { Prim.hlevel props },
 }

@@ -9,7 +9,8 @@ use gql_base::Made;
 use gql_resolve::ResolverContext;
 use std::alloc::Global;
 
-/// A growing list of tasks: what each asks, and what its answer makes beneath. The engine knows nothing else of GraphQL.
+/// A growing list of tasks: what each asks, and what its answer makes beneath. The engine knows
+/// nothing else of GraphQL.
 pub trait Plan<V> {
     ghost Task: { Type 0 };
 
@@ -25,10 +26,12 @@ pub trait Plan<V> {
     /// What is kept of what the task of a number was given.
     ghost holds: { Self → ℕ → Given V → Type 0 };
 
-    /// That the path is the one of the task of a number. A plan has one path, and not one for each task.
+    /// That the path is the one of the task of a number. A plan has one path, and not one for each
+    /// task.
     ghost aims: { Self → ℕ → Type 0 };
 
-    /// Aims the path at a task. The tasks and what is kept of them stay, also where memory is wanting.
+    /// Aims the path at a task. The tasks and what is kept of them stay, also where memory is
+    /// wanting.
     fn aim(&mut self, alloc: Global, number: usize) -> Made<()>
         requires { number < length (tasks self.old) }
         ensures stays { tasks self.new ≡ tasks self.old }

@@ -30,8 +30,8 @@ pub trait Rounds<V> {
     /// That the hooks change no answer.
     ghost are_quiet: { Self → Type 0 };
 
-    /// The hooks before a task's resolver is called. What they answer is put in the place of its answer: a leaf, nothing, or a
-    /// fault.
+    /// The hooks before a task's resolver is called. What they answer is put in the place of its
+    /// answer: a leaf, nothing, or a fault.
     fn enter(
         &mut self,
         context: &ResolverContext<'_, V>,

@@ -2,7 +2,8 @@ use gql_request::QueryEnv;
 use gql_resolve::{FieldValue, Layers};
 use gql_schema::{Object, Types};
 
-/// What an execution is for: a request, the types of its schema, the object at its root, and the root's value.
+/// What an execution is for: a request, the types of its schema, the object at its root, and the
+/// root's value.
 #[derive(Clone, Copy)]
 pub struct Scene<'a, V> {
     pub env: &'a QueryEnv,

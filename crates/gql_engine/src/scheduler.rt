@@ -1,7 +1,7 @@
-ghost use Rattle.std.specs.Prelude.{◌≡◌, ◌<◌, [], false, Ok, length, IfOk, OnOk, OnErr};
+ghost use Rattle.std.specs.Prelude.{◌≡◌, ◌<◌, [], false, Ok, length, IfOk, OnOk};
 ghost use Rattle.gql_engine.specs.Arena.{Nearer, events_left};
-ghost use Rattle.gql_engine.specs.Parts.{parts, at};
-ghost use Rattle.gql_engine.specs.Progress.{IsSound, Kept, Went, Ended};
+ghost use Rattle.gql_engine.specs.Parts.{parts, at, outside};
+ghost use Rattle.gql_engine.specs.Progress.{IsSound, Stretch};
 
 use crate::arena::{Arena, Turn};
 use crate::picking::pick_task;
@@ -9,31 +9,28 @@ use crate::plan::Plan;
 use crate::rounds::Rounds;
 use crate::settling::settle;
 use crate::turning::take_turn;
-use gql_base::Made;
+use gql_base::{Made, Steps};
 use gql_resolve::{ResolverSet, Turns};
 use std::alloc::Global;
+use std::sync::ledger::Ledger;
 
-/// One turn: picks one of the tasks that wait, aims the plan at it, takes it up, and keeps its answer where it has one. True where a task has
-/// begun or has its answer.
-fn advance<R: ResolverSet, L: Plan<R::Own>, H: Rounds<R::Own>, P: Turns>(
+/// One turn: picks one of the tasks that wait, aims the plan at it, takes it up, and keeps its
+/// answer where it has one. True where a task has begun or has its answer.
+fn advance<R: ResolverSet, L: Plan<R::Own>, H: Rounds<R::Own>, P: Turns, S: Ledger>(
     alloc: Global,
     plan: &mut L,
     arena: &mut Arena<R::Future>,
     resolvers: &mut R,
     hooks: &mut H,
     turns: &mut P,
+    steps: &mut Steps<S>,
 ) -> Made<bool>
     requires sound { IsSound (parts R.ResolverSet L.Plan H.Rounds P.Turns)
-        (at plan.old arena.old resolvers.old hooks.old turns.old) }
+        (at plan.old arena.old (outside resolvers.old hooks.old turns.old steps.old)) }
     requires some { 0 < length arena.old.waiting }
-    ensures kept { Kept (parts R.ResolverSet L.Plan H.Rounds P.Turns)
-        (at plan.old arena.old resolvers.old hooks.old turns.old)
-        (at plan.new arena.new resolvers.new hooks.new turns.new) }
-    ensures went { OnOk result (Went (parts R.ResolverSet L.Plan H.Rounds P.Turns)
-        (at plan.old arena.old resolvers.old hooks.old turns.old)
-        (at plan.new arena.new resolvers.new hooks.new turns.new)) }
-    ensures ended { OnErr result (Ended (parts R.ResolverSet L.Plan H.Rounds P.Turns)
-        (at plan.old arena.old resolvers.old hooks.old turns.old) resolvers.new) }
+    ensures stretch { Stretch (parts R.ResolverSet L.Plan H.Rounds P.Turns)
+        (at plan.old arena.old (outside resolvers.old hooks.old turns.old steps.old))
+        (at plan.new arena.new (outside resolvers.new hooks.new turns.new steps.new)) result }
     ensures nearer { IfOk result
         (λ over. Nearer R.number over arena.old.states.items arena.new.states.items) }
     ensures still { result ≡ Ok false → arena.new.waiting ≡ arena.old.waiting }
@@ -43,11 +40,13 @@ fn advance<R: ResolverSet, L: Plan<R::Own>, H: Rounds<R::Own>, P: Turns>(
     let turn = {
         let context = plan.context(picked.number);
         take_turn(
+            false,
             alloc,
             resolvers,
             hooks,
             &mut arena.states[picked.number],
             &context,
+            steps,
         )?
     };
     match turn {
@@ -62,58 +61,50 @@ fn advance<R: ResolverSet, L: Plan<R::Own>, H: Rounds<R::Own>, P: Turns>(
 }
 
 /// Turns until a task has begun or has its answer.
-fn reach_event<R: ResolverSet, L: Plan<R::Own>, H: Rounds<R::Own>, P: Turns>(
+fn reach_event<R: ResolverSet, L: Plan<R::Own>, H: Rounds<R::Own>, P: Turns, S: Ledger>(
     alloc: Global,
     plan: &mut L,
     arena: &mut Arena<R::Future>,
     resolvers: &mut R,
     hooks: &mut H,
     turns: &mut P,
+    steps: &mut Steps<S>,
 ) -> Made<()>
     requires sound { IsSound (parts R.ResolverSet L.Plan H.Rounds P.Turns)
-        (at plan.old arena.old resolvers.old hooks.old turns.old) }
+        (at plan.old arena.old (outside resolvers.old hooks.old turns.old steps.old)) }
     requires some { 0 < length arena.old.waiting }
-    ensures kept { Kept (parts R.ResolverSet L.Plan H.Rounds P.Turns)
-        (at plan.old arena.old resolvers.old hooks.old turns.old)
-        (at plan.new arena.new resolvers.new hooks.new turns.new) }
-    ensures went { OnOk result (Went (parts R.ResolverSet L.Plan H.Rounds P.Turns)
-        (at plan.old arena.old resolvers.old hooks.old turns.old)
-        (at plan.new arena.new resolvers.new hooks.new turns.new)) }
-    ensures ended { OnErr result (Ended (parts R.ResolverSet L.Plan H.Rounds P.Turns)
-        (at plan.old arena.old resolvers.old hooks.old turns.old) resolvers.new) }
+    ensures stretch { Stretch (parts R.ResolverSet L.Plan H.Rounds P.Turns)
+        (at plan.old arena.old (outside resolvers.old hooks.old turns.old steps.old))
+        (at plan.new arena.new (outside resolvers.new hooks.new turns.new steps.new)) result }
     ensures nearer { OnOk result
         (events_left arena.new.states.items < events_left arena.old.states.items) }
 {
     'polls: loop {
-        if advance(alloc, plan, arena, resolvers, hooks, turns)? {
+        if advance(alloc, plan, arena, resolvers, hooks, turns, steps)? {
             return Ok(());
         }
     }
 }
 
 /// Turns until every task has its answer.
-pub fn finish<R: ResolverSet, L: Plan<R::Own>, H: Rounds<R::Own>, P: Turns>(
+pub fn finish<R: ResolverSet, L: Plan<R::Own>, H: Rounds<R::Own>, P: Turns, S: Ledger>(
     alloc: Global,
     plan: &mut L,
     arena: &mut Arena<R::Future>,
     resolvers: &mut R,
     hooks: &mut H,
     turns: &mut P,
+    steps: &mut Steps<S>,
 ) -> Made<()>
     requires sound { IsSound (parts R.ResolverSet L.Plan H.Rounds P.Turns)
-        (at plan.old arena.old resolvers.old hooks.old turns.old) }
-    ensures kept { Kept (parts R.ResolverSet L.Plan H.Rounds P.Turns)
-        (at plan.old arena.old resolvers.old hooks.old turns.old)
-        (at plan.new arena.new resolvers.new hooks.new turns.new) }
-    ensures went { OnOk result (Went (parts R.ResolverSet L.Plan H.Rounds P.Turns)
-        (at plan.old arena.old resolvers.old hooks.old turns.old)
-        (at plan.new arena.new resolvers.new hooks.new turns.new)) }
-    ensures ended { OnErr result (Ended (parts R.ResolverSet L.Plan H.Rounds P.Turns)
-        (at plan.old arena.old resolvers.old hooks.old turns.old) resolvers.new) }
+        (at plan.old arena.old (outside resolvers.old hooks.old turns.old steps.old)) }
+    ensures stretch { Stretch (parts R.ResolverSet L.Plan H.Rounds P.Turns)
+        (at plan.old arena.old (outside resolvers.old hooks.old turns.old steps.old))
+        (at plan.new arena.new (outside resolvers.new hooks.new turns.new steps.new)) result }
     ensures answered { OnOk result (arena.new.waiting ≡ []) }
 {
     'events: while !arena.waiting.is_empty() {
-        reach_event(alloc, plan, arena, resolvers, hooks, turns)?;
+        reach_event(alloc, plan, arena, resolvers, hooks, turns, steps)?;
     }
     Ok(())
 }

@@ -1,4 +1,5 @@
-ghost use Rattle.std.specs.Prelude.{ℕ, ◌≡◌, ◌<◌, ◌++◌, Some, length, slice_get, slice_set, OnOk, IfOk};
+ghost use Rattle.std.specs.Prelude.{ℕ, ◌≡◌, ◌<◌, ◌++◌, Some, length, slice_get, slice_set, OnOk};
+ghost use Rattle.std.specs.Prelude.{IfOk};
 ghost use Rattle.gql_engine.specs.Record.{waiting_from, begun};
 ghost use Rattle.gql_engine.specs.Arena.{marks_of, fresh_states};
 
@@ -7,7 +8,8 @@ use crate::waiting::Waiting;
 use gql_base::Made;
 use std::alloc::Global;
 
-/// Notes that a task, which stands at a place of those that wait, has its answer, and that tasks are made beneath it.
+/// Notes that a task, which stands at a place of those that wait, has its answer, and that tasks
+/// are made beneath it.
 pub fn settle<F: Drop>(arena: &mut Arena<F>, place: usize, number: usize, count: usize) -> Made<()>
     requires waits { arena.old.waiting
         ≡ waiting_from 0 (slice_set (marks_of arena.old.states.items) number begun) }

@@ -1,39 +1,51 @@
-ghost use Rattle.std.specs.Prelude.{ℕ, ◌≡◌, ◌<◌, ◌++◌, [], ◌∷◌, Some, length, OnOk, IfOk, OnErr};
-ghost use Rattle.gql_resolve.specs.Record.{with_more};
-ghost use Rattle.gql_resolve.specs.Lawful.{plain_answer};
+ghost use Rattle.std.specs.Prelude.{◌≡◌, ◌+◌, [], ◌∷◌, length, map, OnOk, IfOk, OnErr};
+ghost use Rattle.gql_resolve.specs.Record.{with_more, entries_of_poll};
+ghost use Rattle.gql_resolve.specs.Lawful.{plain_answer, PromisesPoll};
+ghost use Rattle.gql_resolve.specs.Paced.{PollsPaced};
 ghost use Rattle.gql_resolve.specs.Call.{call_of};
 ghost use Rattle.gql_engine.specs.Pace.{TurnPaced};
 ghost use Rattle.gql_engine.specs.Parts.{due_by, delay_by};
-ghost use Rattle.gql_engine.specs.Turn.{BeginsAtMost, EntersAtMost, IsNoPut, IsOpen, PutKeeps, TurnOf, AnswersRightly};
-ghost use Rattle.gql_engine.specs.Turn.{told_by_turn, begins_now, enters_now};
+ghost use Rattle.gql_engine.specs.Root.{effect_by, world_polled, world_turned, PollsRightly};
+ghost use Rattle.gql_engine.specs.Steps.{IsCounted};
+ghost use Rattle.gql_engine.specs.Turn.{BeginsAtMost, EntersAtMost, IsNoPut, IsOpen, PutKeeps};
+ghost use Rattle.gql_engine.specs.Turn.{TurnOf, AnswersRightly, told_by_turn, begins_now};
+ghost use Rattle.gql_engine.specs.Turn.{enters_now};
 
 use crate::arena::{State, Turn};
 use crate::given::Given;
 use crate::rounds::{Entered, Rounds};
-use gql_base::{Items, Made};
+use gql_base::{Items, Made, Steps};
 use gql_resolve::{Answer, FieldFuture, FieldValue, Polled, ResolverContext, ResolverSet};
 use std::alloc::Global;
+use std::sync::ledger::Ledger;
 
-/// Takes up a task: begins it where it is fresh, and polls its future.
-#[tactic(auto, using(crate::proofs::RecordLemmas::with_more_none))]
-pub fn take_turn<R: ResolverSet, H: Rounds<R::Own>>(
+/// Takes up a task: begins it where it is fresh, and polls its future, as that of a root of a
+/// mutation or of another task. The world stays, but for the effect of a root that its resolver
+/// answered.
+#[tactic(auto, using(crate::proofs::RecordLemmas::with_more_none, crate::proofs::StepLemmas::none_counted))]
+pub fn take_turn<R: ResolverSet, H: Rounds<R::Own>, S: Ledger>(
+    root: bool,
     alloc: Global,
     resolvers: &mut R,
     hooks: &mut H,
     state: &mut State<R::Future>,
     context: &ResolverContext<'_, R::Own>,
+    steps: &mut Steps<S>,
 ) -> Made<Turn<R::Own>>
-    requires { IsOpen R.is_for (call_of context.now) state.old }
+    requires open { IsOpen R.is_for (call_of context.now) state.old }
+    requires root { (call_of context.now).is_root ≡ root }
     ensures rules { R.rules resolvers.new ≡ R.rules resolvers.old }
     ensures promise { IfOk result
         (TurnOf R.ResolverSet (call_of context.now) state.old state.new) }
     ensures lawful { R.is_lawful resolvers.old → R.is_lawful resolvers.new }
-    ensures world { R.is_lawful resolvers.old → R.world resolvers.new ≡ R.world resolvers.old }
+    ensures world { R.is_lawful resolvers.old → R.world resolvers.new ≡ world_turned root
+        (effect_by R.ResolverSet resolvers.old (call_of context.now))
+        (R.world resolvers.old) result }
     ensures quiet { H.are_quiet hooks.old → H.are_quiet hooks.new }
     ensures entered { OnOk result (H.told hooks.new
-        ≡ with_more (H.told hooks.old) (enters_now (H.entered context.now) state.old)) }
-    ensures unentered { OnErr result
-        (EntersAtMost (H.entered context.now) (H.told hooks.old) (H.told hooks.new)) }
+        ≡ with_more (H.told hooks.old) (map H.entered (enters_now context.now state.old))) }
+    ensures unentered { OnErr result (EntersAtMost
+        (map H.entered (enters_now context.now state.old)) (H.told hooks.old) (H.told hooks.new)) }
     ensures put { PutKeeps resolvers.old resolvers.new result }
     ensures answer { R.is_lawful resolvers.old → H.are_quiet hooks.old → AnswersRightly
         (due_by R.ResolverSet resolvers.old (call_of context.now)) result }
@@ -47,10 +59,14 @@ pub fn take_turn<R: ResolverSet, H: Rounds<R::Own>>(
         ≡ with_more (R.begun resolvers.old) (begins_now context.now.task state.old)) }
     ensures unbegun { H.are_quiet hooks.old → OnErr result
         (BeginsAtMost context.now.task (R.begun resolvers.old) (R.begun resolvers.new)) }
+    ensures counted { IsCounted (R.begun resolvers.old) (R.begun resolvers.new)
+        steps.old steps.new }
+    ensures stepped { H.are_quiet hooks.old → OnOk result
+        (steps.new ≡ steps.old + length (begins_now context.now.task state.old)) }
 {
     match state {
-        State::Fresh => begin(alloc, resolvers, hooks, state, context),
-        State::Waiting(future) => match resolvers.poll(alloc, future, context)? {
+        State::Fresh => begin(root, alloc, resolvers, hooks, state, context, steps),
+        State::Waiting(future) => match poll_as(root, alloc, resolvers, future, context)? {
             Polled::Ready(answer) => Ok(Turn::Answered(Given::Answered(answer))),
             Polled::Pending => Ok(Turn::Pending),
         },
@@ -59,24 +75,29 @@ pub fn take_turn<R: ResolverSet, H: Rounds<R::Own>>(
 }
 
 /// The first turn of a task: the hooks, the start, and the first poll of a future.
-#[tactic(auto, using(crate::proofs::RecordLemmas::with_more_none, crate::proofs::GivenLemmas::no_put))]
-fn begin<R: ResolverSet, H: Rounds<R::Own>>(
+#[tactic(auto, using(crate::proofs::RecordLemmas::with_more_none, crate::proofs::GivenLemmas::no_put, crate::proofs::StepLemmas::none_counted, crate::proofs::StepLemmas::one_counted, crate::proofs::RootWorld::started_world))]
+fn begin<R: ResolverSet, H: Rounds<R::Own>, S: Ledger>(
+    root: bool,
     alloc: Global,
     resolvers: &mut R,
     hooks: &mut H,
     state: &mut State<R::Future>,
     context: &ResolverContext<'_, R::Own>,
+    steps: &mut Steps<S>,
 ) -> Made<Turn<R::Own>>
+    requires { (call_of context.now).is_root ≡ root }
     ensures rules { R.rules resolvers.new ≡ R.rules resolvers.old }
     ensures promise { IfOk result
         (TurnOf R.ResolverSet (call_of context.now) State.Fresh state.new) }
     ensures lawful { R.is_lawful resolvers.old → R.is_lawful resolvers.new }
-    ensures world { R.is_lawful resolvers.old → R.world resolvers.new ≡ R.world resolvers.old }
+    ensures world { R.is_lawful resolvers.old → R.world resolvers.new ≡ world_turned root
+        (effect_by R.ResolverSet resolvers.old (call_of context.now))
+        (R.world resolvers.old) result }
     ensures quiet { H.are_quiet hooks.old → H.are_quiet hooks.new }
     ensures entered { OnOk result
         (H.told hooks.new ≡ with_more (H.told hooks.old) (H.entered context.now ∷ [])) }
     ensures unentered { OnErr result
-        (EntersAtMost (H.entered context.now) (H.told hooks.old) (H.told hooks.new)) }
+        (EntersAtMost (H.entered context.now ∷ []) (H.told hooks.old) (H.told hooks.new)) }
     ensures put { PutKeeps resolvers.old resolvers.new result }
     ensures answer { R.is_lawful resolvers.old → H.are_quiet hooks.old → AnswersRightly
         (due_by R.ResolverSet resolvers.old (call_of context.now)) result }
@@ -90,20 +111,30 @@ fn begin<R: ResolverSet, H: Rounds<R::Own>>(
         (R.begun resolvers.new ≡ with_more (R.begun resolvers.old) (context.now.task ∷ [])) }
     ensures unbegun { H.are_quiet hooks.old → OnErr result
         (BeginsAtMost context.now.task (R.begun resolvers.old) (R.begun resolvers.new)) }
+    ensures counted { IsCounted (R.begun resolvers.old) (R.begun resolvers.new)
+        steps.old steps.new }
+    ensures stepped { H.are_quiet hooks.old → OnOk result (steps.new ≡ steps.old + 1) }
 {
     match hooks.enter(context)? {
         Entered::Answer(put) => Ok(Turn::Answered(Given::Put(put))),
-        Entered::Go => match resolvers.start(alloc, context)? {
-            FieldFuture::Value(value) => Ok(Turn::Answered(Given::Answered(answer_of(
-                alloc, value,
-            )))),
-            FieldFuture::Future(future) => poll_first(alloc, resolvers, state, future, context),
-        },
+        Entered::Go => {
+            let started = resolvers.start(alloc, context)?;
+            steps.tick();
+            match started {
+                FieldFuture::Value(value) => Ok(Turn::Answered(Given::Answered(answer_of(
+                    alloc, value,
+                )))),
+                FieldFuture::Future(future) => poll_first(
+                    root, alloc, resolvers, state, future, context,
+                ),
+            }
+        }
     }
 }
 
 /// Polls a future for the first time, and keeps it where it is pending.
 fn poll_first<R: ResolverSet>(
+    root: bool,
     alloc: Global,
     resolvers: &mut R,
     state: &mut State<R::Future>,
@@ -116,7 +147,9 @@ fn poll_first<R: ResolverSet>(
     ensures promise { IfOk result
         (TurnOf R.ResolverSet (call_of context.now) State.Fresh state.new) }
     ensures lawful { R.is_lawful resolvers.old → R.is_lawful resolvers.new }
-    ensures world { R.is_lawful resolvers.old → R.world resolvers.new ≡ R.world resolvers.old }
+    ensures world { R.is_lawful resolvers.old → R.world resolvers.new ≡ world_turned root
+        (effect_by R.ResolverSet resolvers.old (call_of context.now))
+        (R.world resolvers.old) result }
     ensures answer { R.is_lawful resolvers.old → AnswersRightly
         (due_by R.ResolverSet resolvers.old (call_of context.now)) result }
     ensures pace { R.is_paced resolvers.old → R.is_paced resolvers.new }
@@ -127,12 +160,44 @@ fn poll_first<R: ResolverSet>(
     ensures begun { R.begun resolvers.new ≡ R.begun resolvers.old }
 {
     let mut future = future;
-    match resolvers.poll(alloc, &mut future, context)? {
+    match poll_as(root, alloc, resolvers, &mut future, context)? {
         Polled::Ready(answer) => Ok(Turn::Answered(Given::Answered(answer))),
         Polled::Pending => {
             *state = State::Waiting(future);
             Ok(Turn::Begun)
         }
+    }
+}
+
+/// Polls a future, as that of a root of a mutation or of another task.
+#[tactic(auto, using(crate::proofs::RootWorld::polled_root, crate::proofs::RootWorld::polled_other, crate::proofs::RootWorld::answered_root, crate::proofs::RootWorld::answered_other))]
+fn poll_as<R: ResolverSet>(
+    root: bool,
+    alloc: Global,
+    resolvers: &mut R,
+    future: &mut R::Future,
+    context: &ResolverContext<'_, R::Own>,
+) -> Made<Polled<R::Own>>
+    requires { R.is_for future.old (call_of context.now) }
+    ensures promise { IfOk result (PromisesPoll R.is_for R.number
+        (call_of context.now) future.old future.new) }
+    ensures rules { R.rules resolvers.new ≡ R.rules resolvers.old }
+    ensures lawful { R.is_lawful resolvers.old → R.is_lawful resolvers.new }
+    ensures world { R.is_lawful resolvers.old → R.world resolvers.new ≡ world_polled root
+        (effect_by R.ResolverSet resolvers.old (call_of context.now))
+        (R.world resolvers.old) result }
+    ensures answer { R.is_lawful resolvers.old → PollsRightly
+        (due_by R.ResolverSet resolvers.old (call_of context.now)) result }
+    ensures paced { R.is_paced resolvers.old → R.is_paced resolvers.new
+        × IfOk result (PollsPaced R.number future.old future.new) }
+    ensures told { R.told resolvers.new
+        ≡ with_more (R.told resolvers.old) (entries_of_poll context.now result) }
+    ensures begun { R.begun resolvers.new ≡ R.begun resolvers.old }
+{
+    if root {
+        resolvers.poll_root(alloc, future, context)
+    } else {
+        resolvers.poll(alloc, future, context)
     }
 }
 

@@ -1,5 +1,6 @@
 //! The numbers of those that wait, in blocks, so that taking one out of many moves few.
-ghost use Rattle.std.specs.Prelude.{◌≡◌, ◌↔◌, ◌<◌, ◌++◌, ◌∷◌, [], Some, IsTrue, length, slice_get, OnOk, OnErr};
+ghost use Rattle.std.specs.Prelude.{◌≡◌, ◌↔◌, ◌<◌, ◌++◌, ◌∷◌, [], Some, IsTrue, length, slice_get};
+ghost use Rattle.std.specs.Prelude.{OnOk, OnErr};
 ghost use Rattle.std.specs.List.{remove};
 ghost use Rattle.gql_engine.specs.Waiting.{all_in, IsSpot};
 

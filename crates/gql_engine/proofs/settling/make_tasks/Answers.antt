@@ -1,4 +1,4 @@
-use Rattle.std.proofs.Common.{rules, ◌≡◌, ◌++◌, ◌+◌, [], ◌∷◌, length, sym, ap, ◌∙◌, append_assoc, add-one}
+use Rattle.std.proofs.Common.{rules, ◌≡◌, ◌++◌, [], ◌∷◌, length, sym, ap, ◌∙◌, append_assoc, add-one}
 use Rattle.gql_engine.specs.Record.{waiting_from}
 use Rattle.gql_engine.specs.Arena.{marks_of, fresh_states}
 use Rattle.gql_engine.specs.declared.arena.State.TheVariants as state

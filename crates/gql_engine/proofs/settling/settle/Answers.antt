@@ -1,5 +1,4 @@
-use Rattle.std.proofs.Common.{rules, ◌≡◌, ◌<◌, length, ◌∙◌, arith}
-use Rattle.std.specs.List.{remove}
+use Rattle.std.proofs.Common.{◌∙◌}
 use Rattle.gql_engine.proofs.ArenaLemmas.{one_less}
 use Rattle.gql_engine.proofs.Lists.{get_within}
 use Rattle.gql_engine.proofs.settling.settle.Goals as goal

@@ -1,4 +1,4 @@
-use Rattle.std.proofs.Common.{ℕ, List, ◌≡◌, ◌-◌, ◌<◌, ◌++◌, ◌∷◌, [], suc, length, refl, sym, ◌∙◌, arith, append-nil}
+use Rattle.std.proofs.Common.{ℕ, List, ◌≡◌, ◌-◌, ◌∷◌, [], suc, length, refl, sym, ◌∙◌, arith, append-nil}
 use Rattle.std.proofs.lemmas.Option.{slice_get_read}
 use Rattle.gql_engine.specs.Waiting.{all_in}
 use Rattle.gql_engine.proofs.BlockLemmas.{last-grows}

@@ -1,4 +1,4 @@
-use Rattle.std.proofs.Common.{◌≡◌, ◌<◌, ◌==◌, length, slice_set, deque_len, drop, refl, sym, ◌∙◌, ap, arith}
+use Rattle.std.proofs.Common.{length, slice_set, deque_len, refl, sym, ◌∙◌, ap, arith}
 use Rattle.std.proofs.lemmas.List.{length-set}
 use Rattle.std.proofs.lemmas.Option.{slice_get_read}
 use Rattle.gql_engine.specs.Waiting.{all_in}

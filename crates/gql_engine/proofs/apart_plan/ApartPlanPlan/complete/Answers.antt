@@ -1,4 +1,4 @@
-use Rattle.std.proofs.Common.{rules, ℕ, ◌≡◌, ◌<◌, length, refl, sym, ap}
+use Rattle.std.proofs.Common.{length, refl, sym, ap}
 use Rattle.std.proofs.lemmas.Option.{slice_get_read}
 use Rattle.gql_engine.proofs.ApartPlanLemmas.{none_beneath, within_seen, still_seen, now_kept, still_kept, place_seen}
 use Rattle.gql_engine.proofs.apart_plan.ApartPlanPlan.complete.Goals as goal

@@ -1,4 +1,4 @@
-use Rattle.std.proofs.Common.{◌≡◌, length, slice_get, refl, sym, ◌∙◌, ap, arith}
+use Rattle.std.proofs.Common.{length, slice_get, refl, sym, ◌∙◌, ap}
 use Rattle.std.proofs.lemmas.Option.{slice_get_read}
 use Rattle.gql_engine.proofs.BlockLemmas.{get-spot}
 use Rattle.gql_engine.proofs.waiting.Waiting.at.Goals as goal

@@ -1,0 +1,62 @@
+-- The rounds of the hooks: those of a task are entered once, before its resolver, with its context.
+use Rattle.std.specs.Prelude.{ℕ, ◌≡◌, ◌+◌, ◌≤◌, ◌==◌, if◌then◌else◌, All}
+use Rattle.std.specs.Prelude.{List, [], ◌∷◌, Option, Some, None, map, slice_get}
+use Rattle.gql_resolve.specs.Record.{with_more}
+use Rattle.gql_resolve.specs.declared.resolver_context.ResolverContext.{ResolverContext}
+use Rattle.gql_engine.specs.declared.arena.State.{State}
+use Rattle.gql_engine.specs.declared.arena.State.TheVariants as state
+use Rattle.gql_engine.specs.declared.rounds.Rounds.{Ghosts as Hooking}
+use Rattle.gql_engine.specs.Plan.{Asking, IsContextOf}
+
+-- the rounds that are to come of a task: one, where it is fresh
+abbrev pub to_enter : {F : Type 0} → State F → ℕ
+to_enter state.Fresh = 1
+to_enter (state.Waiting future) = 0
+to_enter state.Done = 0
+
+-- a task that isn't made yet has its round to come
+abbrev pub to_enter_at : {F : Type 0} → Option (State F) → ℕ
+to_enter_at None = 1
+to_enter_at (Some s) = to_enter s
+
+-- how many of these rounds were of a task
+abbrev pub times : {V : Type 0} → ℕ → List (ResolverContext V) → ℕ
+times task [] = 0
+times task (context ∷ contexts) = (if context.task == task then 1 else 0) + times task contexts
+
+-- tasks keep their numbers among those that are made
+abbrev pub KeepNumbers : {Task : Type 0} → List Task → List Task → Type 0
+KeepNumbers {Task = Task} tasks made =
+    (k : ℕ) (task : Task) → slice_get tasks k ≡ Some task → slice_get made k ≡ Some task
+
+module _ {V Task : Type 0} (asks : Task → Asking V) where
+  -- a context is that of the task of its number
+  pub record IsOneOf (tasks : List Task) (context : ResolverContext V) : Type 0 where
+    pub task : Task
+    pub there : slice_get tasks context.task ≡ Some task
+    pub context_is : IsContextOf context.task (asks task) context
+
+  -- what hooks told between two moments: one round for each of these contexts, which are of tasks
+  -- that are made by then
+  pub record ToldRounds {H : Type 0} (hooks : Hooking H V) (made : List Task)
+      (old new : H) : Type 0 where
+    pub contexts : List (ResolverContext V)
+    pub told_is : hooks.told new ≡ with_more (hooks.told old) (map hooks.entered contexts)
+    pub own : All (IsOneOf made) contexts
+
+  -- what they told in a whole execution of tasks that were fresh: one round for each task that was
+  -- made
+  pub record RoundsWhole {H : Type 0} (hooks : Hooking H V) (tasks : List Task)
+      (old new : H) : Type 0 where
+    pub made : List Task
+    pub stays : KeepNumbers tasks made
+    pub rounds : ToldRounds hooks made old new
+    pub once : (k : ℕ) (task : Task) → slice_get made k ≡ Some task → times k rounds.contexts ≡ 1
+
+  -- the same where memory was wanting: one round at most for each
+  pub record RoundsStopped {H : Type 0} (hooks : Hooking H V) (tasks : List Task)
+      (old new : H) : Type 0 where
+    pub made : List Task
+    pub stays : KeepNumbers tasks made
+    pub rounds : ToldRounds hooks made old new
+    pub once : (k : ℕ) → times k rounds.contexts ≤ 1
