@@ -1,4 +1,6 @@
 pub mod CompletionLemmas
 pub mod ExecutionLemmas
 pub mod LawProofs
+mod DocumentRows
 mod Rows
+mod Written
