@@ -1,5 +1,5 @@
 -- Whole queries, computed from a document to its response.
-use Rattle.std.proofs.Common.{rules, ◌≡◌, ℕ, pos, true, false, List, [], ◌∷◌, Some, None, Ok, refl, ◌∙◌}
+use Rattle.std.proofs.Common.{rules, ◌≡◌, ℕ, pos, List, [], ◌∷◌, None, Ok, refl, ◌∙◌}
 use Rattle.std.specs.Prelude.{codes}
 use Rattle.gql_base.specs.declared.error.Error.{Error}
 use Rattle.gql_base.specs.declared.path_segment.PathSegment.TheVariants.{Field, Index}

@@ -2,5 +2,7 @@ pub mod CompletionLemmas
 pub mod ExecutionLemmas
 pub mod LawProofs
 mod DocumentRows
+mod FragmentRows
+mod MutationRows
 mod Rows
 mod Written

@@ -1,5 +1,5 @@
 -- Documents, types and answers in short, for the rows that are computed. All of a document stands in line 1.
-use Rattle.std.proofs.Common.{rules, ◌≡◌, ℕ, ℤ, Bool, true, false, cond, ◌+◌, List, [], ◌∷◌, map, Option, Some, None, get_or, Result, Ok, Err, refl, ap, ◌∙◌}
+use Rattle.std.proofs.Common.{rules, ◌≡◌, ℕ, ℤ, true, false, cond, ◌+◌, List, [], ◌∷◌, map, Option, Some, None, get_or, Ok, Err, refl, ap, ◌∙◌}
 use Rattle.std.specs.Prelude.{codes}
 use Rattle.std.specs.List.{cons_option, filter_map}
 use Rattle.gql_base.specs.declared.error.Error.{Error}
@@ -8,7 +8,9 @@ use Rattle.gql_base.specs.declared.type_ref.TypeRef.{TypeRef}
 use Rattle.gql_base.specs.declared.value.Value.{Value}
 use Rattle.gql_base.specs.declared.value.Value.TheVariants as value
 use Rattle.gql_doc.specs.Depth.{Fragments}
+use Rattle.gql_doc.specs.declared.document.Argument.{Argument}
 use Rattle.gql_doc.specs.declared.document.Directive.{Directive}
+use Rattle.gql_doc.specs.declared.document.DocValue.{DocValue}
 use Rattle.gql_doc.specs.declared.document.FragmentDefinition.{FragmentDefinition}
 use Rattle.gql_doc.specs.declared.document.FragmentSpread.{FragmentSpread}
 use Rattle.gql_doc.specs.declared.document.Field.{Field, out-Field, out-roll-Field, roll-Field}
@@ -46,17 +48,24 @@ Selections = List (Positioned Selection)
 abbrev pub set : ℕ → Selections → Positioned SelectionSet
 set column selections = placed column (roll-SelectionSet (record { items = selections }))
 
--- the field of a name, with this set
-abbrev pub named : ℕ → List ℕ → Positioned SelectionSet → Positioned Field
-named column name inner =
-    placed column (roll-Field (record { alias = None; name = placed column name; arguments = []; directives = []; selection_set = inner }))
+-- a field by its alias, its name, its arguments and its set
+abbrev pub named : ℕ → Option (Positioned (List ℕ)) → List ℕ → List Argument → Positioned SelectionSet → Positioned Field
+named column alias name arguments inner =
+    placed column (roll-Field (record { alias = alias; name = placed column name; arguments = arguments; directives = []; selection_set = inner }))
 
+abbrev pub given_field : ℕ → Option (Positioned (List ℕ)) → List ℕ → List Argument → Positioned SelectionSet → Positioned Selection
+given_field column alias name arguments inner = placed column (selection.Field (named column alias name arguments inner))
+
+-- a field without alias and arguments
 abbrev pub field : ℕ → List ℕ → Positioned SelectionSet → Positioned Selection
-field column name inner = placed column (selection.Field (named column name inner))
+field column name inner = given_field column None name [] inner
 
 -- a field without a set, which stands for the empty one
 abbrev pub leaf : ℕ → List ℕ → Positioned Selection
 leaf column name = field column name (set column [])
+
+abbrev pub argument : List ℕ → DocValue → Argument
+argument name written = record { name = placed 1 name; value = placed 1 written }
 
 -- a fragment in place on a type
 abbrev pub under_condition : ℕ → List ℕ → Positioned SelectionSet → Positioned InlineFragment
@@ -205,14 +214,15 @@ module _ (known : List ℕ → Value) where
       → kept known (placed column node ∷ rest) ≡ placed column left ∷ rest_left
   stays column node left rest rest_left is rest_is = λ i. cons_option (if_kept known (placed column (is i))) (rest_is i)
 
-  pub keeps_field : (column : ℕ) (name : List ℕ) (place : ℕ) (inner inner_left rest rest_left : Selections) → kept known inner ≡ inner_left → kept known rest ≡ rest_left
-      → kept known (field column name (set place inner) ∷ rest) ≡ field column name (set place inner_left) ∷ rest_left
+  pub keeps_field : (column : ℕ) (alias : Option (Positioned (List ℕ))) (name : List ℕ) (arguments : List Argument) (place : ℕ) (inner inner_left rest rest_left : Selections)
+      → kept known inner ≡ inner_left → kept known rest ≡ rest_left
+      → kept known (given_field column alias name arguments (set place inner) ∷ rest) ≡ given_field column alias name arguments (set place inner_left) ∷ rest_left
   unfolding field_at
-  keeps_field column name place inner inner_left rest rest_left is rest_is =
+  keeps_field column alias name arguments place inner inner_left rest rest_left is rest_is =
       let parts : (set : SelectionSet) → FieldParts
-      = λ set. record { alias = None; name = placed column name; arguments = []; directives = []; selection_set = placed place set } in
+      = λ set. record { alias = alias; name = placed column name; arguments = arguments; directives = []; selection_set = placed place set } in
       let start : SelectionSet = roll-SelectionSet (record { items = inner }) in
-      stays column (selection.Field (named column name (set place inner))) (selection.Field (named column name (set place inner_left))) rest rest_left
+      stays column (selection.Field (named column alias name arguments (set place inner))) (selection.Field (named column alias name arguments (set place inner_left))) rest rest_left
       (selection-Field column (roll-Field (parts start))
       ∙ ap (λ field. field_at column (out-Field field)) (kept_parts (parts start))
       ∙ ap (field_at column) (out-roll-Field (parts (kept_set known start)))
