@@ -4,10 +4,11 @@ use Rattle.std.specs.List.{Contains, flat_map}
 use Rattle.std.proofs.lemmas.List.Elements.{Contains-append_cases, Contains-append_left, Contains-append_right}
 use Rattle.gql_base.specs.declared.server_error.ServerError.{ServerError}
 use Rattle.gql_doc.specs.declared.document.ExecutableDocument.{ExecutableDocument}
-use Rattle.gql_admit.specs.Breaches.{IsBreach, told, told_at}
+use Rattle.gql_admit.specs.Breaches.{told, told_at}
+use Rattle.gql_admit.specs.Circular.{Adds, IsCircular}
 use Rattle.gql_admit.specs.BreachOrder.{Lists}
 use Rattle.gql_admit.specs.Places.{Place, document_places}
-use Rattle.gql_admit.specs.RulesChecked.{error_of, refused_with}
+use Rattle.gql_admit.specs.RulesChecked.{IsBreach, at_place, circular, error_of, refused_with}
 use Rattle.gql_admit.specs.Walking.{tells}
 use Rattle.gql_admit.specs.declared.breach.Breach.{Breach}
 use Rattle.gql_admit.specs.declared.site.Site.{Site}
@@ -51,25 +52,35 @@ module _ {A B : Type 0} (f : A → List B) where
         | inr behind ↦ Contains-append_right (f y) (flat_map f xs) b (given_at xs x b behind gives)
       ]
 
--- what is told of all places, listed
-pub all_listed : (against : Against) (document : ExecutableDocument) (found list : List Breach) → Lists (Contains found) list
-    → found ≡ [] ++ tells against (document_places against.site.now document) → against.fragments.now ≡ document.fragments
+-- what is told of all places and of circular fragments, listed
+pub all_listed : (against : Against) (document : ExecutableDocument) (told_first found list : List Breach) → Lists (Contains found) list
+    → told_first ≡ [] ++ tells against (document_places against.site.now document) → against.fragments.now ≡ document.fragments
+    → Adds (IsCircular document.fragments) told_first found
     → Lists (IsBreach against.site.now document) list
-all_listed against document found list lists is fragments = record {
-  in_order = lists.in_order;
-  exact = λ e. (
-    λ h.
-    let from = given_from (told_at against.site.now document.fragments) (document_places against.site.now document) e
-    (subst (λ fragments. Contains (told against.site.now fragments (document_places against.site.now document)) e) fragments
-    (subst (λ xs. Contains xs e) is ((lists.exact e).0 h))) in
-    record { place = from.item; stands = from.there; breaks = from.gives },
-    λ breach.
-    (lists.exact e).1
-    (subst (λ xs. Contains xs e) (sym is)
-    (subst (λ fragments. Contains (told against.site.now fragments (document_places against.site.now document)) e) (sym fragments)
-    (given_at (told_at against.site.now document.fragments) (document_places against.site.now document) breach.place e breach.stands breach.breaks))),
-  );
-}
+all_listed against document told_first found list lists is fragments adds =
+    let site = against.site.now in
+    let places = document_places site document in
+    let first : told_first ≡ told site document.fragments places = is ∙ ap (λ f. told site f places) fragments in
+    record {
+      in_order = lists.in_order;
+      exact = λ e. (
+        λ h.
+        elim (adds.only e ((lists.exact e).0 h)) [
+          | inl at ↦
+          let from = given_from (told_at site document.fragments) places e (subst (λ xs. Contains xs e) first at) in
+          at_place from.item from.there from.gives
+          | inr is_circular ↦ circular is_circular
+        ],
+        λ breach. (lists.exact e).1 (among e breach),
+      );
+    }
+  where
+    among : (e : Breach) → IsBreach against.site.now document e → Contains found e
+    among e (at_place place stands breaks) =
+        adds.kept e
+        (subst (λ xs. Contains xs e) (sym (is ∙ ap (λ f. told against.site.now f (document_places against.site.now document)) fragments))
+        (given_at (told_at against.site.now document.fragments) (document_places against.site.now document) place e stands breaks))
+    among e (circular is_circular) = adds.has e is_circular
 
 -- a list that isn't empty is refused with the errors of all
 pub some_refused : (breaches : List Breach) (errors : List ServerError) → errors ≡ map error_of breaches → 0 < length breaches

@@ -1,5 +1,6 @@
 pub mod BreachLemmas
 pub mod ChoiceLemmas
+pub mod CircularLemmas
 pub mod CrowdedLemmas
 pub mod DepthLemmas
 pub mod FirstLemmas

@@ -1,19 +1,18 @@
 -- The rules of the specification that a document breaks over a table of types.
 use Rattle.std.specs.Prelude.{ℕ, Bool, true, false, List, [], ◌∷◌, Option, Some, None, if◌then◌else◌}
-use Rattle.std.specs.List.{Contains, flat_map}
+use Rattle.std.specs.List.{flat_map}
 use Rattle.gql_base.specs.Pairs.{under}
 use Rattle.gql_base.specs.TypeRef.{innermost, type_text}
 use Rattle.gql_base.specs.declared.pos.Pos.{Pos}
 use Rattle.gql_base.specs.declared.type_ref.TypeRef.{TypeRef}
 use Rattle.gql_doc.specs.Depth.{Fragments}
-use Rattle.gql_doc.specs.declared.document.ExecutableDocument.{ExecutableDocument}
 use Rattle.gql_doc.specs.declared.document.FragmentDefinition.{FragmentDefinition}
 use Rattle.gql_doc.specs.declared.document.Positioned.{Positioned}
 use Rattle.gql_schema.specs.Types.{type_name}
 use Rattle.gql_schema.specs.declared.schema_type.SchemaType.{SchemaType}
-use Rattle.gql_admit.specs.BreachTexts.{circular_text, composite_text, condition_text, leaf_text, unknown_field_text, unknown_fragment_text}
+use Rattle.gql_admit.specs.BreachTexts.{composite_text, condition_text, leaf_text, unknown_field_text, unknown_fragment_text}
 use Rattle.gql_admit.specs.FieldTypes.{field_type, is_composite, is_leaf, table_of}
-use Rattle.gql_admit.specs.Places.{FieldPlace, Place, OnCondition, OnField, OnSpread, document_places}
+use Rattle.gql_admit.specs.Places.{FieldPlace, Place, OnCondition, OnField, OnSpread}
 use Rattle.gql_admit.specs.declared.breach.Breach.{Breach}
 use Rattle.gql_admit.specs.declared.breach.BreachKind.{BreachKind}
 use Rattle.gql_admit.specs.declared.breach.BreachKind.TheVariants as kinds
@@ -86,9 +85,3 @@ module _ (site : Site) (fragments : Fragments) where
   -- those that are broken at some places
   abbrev pub told : List Place → List Breach
   told places = flat_map told_at places
-
--- a rule that a document breaks at one of its places
-pub record IsBreach (site : Site) (document : ExecutableDocument) (found : Breach) : Type 0 where
-  pub place : Place
-  pub stands : Contains (document_places site document) place
-  pub breaks : Contains (told_at site document.fragments place) found

@@ -1,5 +1,6 @@
 -- Fragments that reach themselves by spreads (GraphQL, October 2021, section 5.5.2.2).
-use Rattle.std.specs.Prelude.{◌≡◌, ℕ, ◌<◌, Bool, true, false, ◌||◌, ◌==◌, List, [], ◌∷◌, ◌++◌, Some, length, slice_get, slice_index_or, if◌then◌else◌}
+use Rattle.std.specs.Prelude.{◌≡◌, ℕ, ◌<◌, Bool, true, false, ◌||◌, ◌==◌, ◌⊎◌, List, [], ◌∷◌, ◌++◌, Some, length, slice_get, slice_index_or, if◌then◌else◌}
+use Rattle.std.specs.List.{Contains}
 use Rattle.gql_doc.specs.Depth.{Fragments}
 use Rattle.gql_doc.specs.declared.document.FragmentDefinition.{FragmentDefinition}
 use Rattle.gql_doc.specs.declared.document.Positioned.{Positioned}
@@ -36,14 +37,28 @@ pub data Reaches (graph : List (List ℕ)) (start : ℕ) : ℕ → Type 0 where
 pub record AreWithin (graph : List (List ℕ)) : Type 0 where
   pub within : (from to : ℕ) → is_in to (led_to graph from) ≡ true → to < length graph
 
--- a fragment that reaches itself
-pub record IsCircular (fragments : Fragments) (found : Breach) : Type 0 where
-  pub place : ℕ
+-- numbers below a bound
+pub record AreBelow (bound : ℕ) (ns : List ℕ) : Type 0 where
+  pub below : (k : ℕ) → is_in k ns ≡ true → k < bound
+
+-- the fragment at a place reaches itself, and this is told of it
+pub record CircularAt (fragments : Fragments) (place : ℕ) (found : Breach) : Type 0 where
   pub name : List ℕ
   pub fragment : Positioned FragmentDefinition
   pub stands : slice_get fragments place ≡ Some (name, fragment)
   pub reaches : Reaches (graph_of fragments) place place
   pub told : found ≡ breach fragment.pos kinds.CircularFragment name (circular_text name)
+
+-- this is told of some fragment that reaches itself
+pub record IsCircular (fragments : Fragments) (found : Breach) : Type 0 where
+  pub place : ℕ
+  pub there : CircularAt fragments place found
+
+-- exactly those that are meant were added to others
+pub record Adds (IsMeant : Breach → Type 0) (old new : List Breach) : Type 0 where
+  pub kept : (found : Breach) → Contains old found → Contains new found
+  pub has : (found : Breach) → IsMeant found → Contains new found
+  pub only : (found : Breach) → Contains new found → Contains old found ⊎ IsMeant found
 
 -- each place is marked exactly where it is among those reached
 pub record Marks (marks : List Bool) (reached : List ℕ) : Type 0 where

@@ -1,12 +1,21 @@
 -- What the check of rules answers (GraphQL, October 2021, section 5).
 use Rattle.std.specs.Prelude.{◌≡◌, List, [], ◌∷◌, map, Some, Result, Ok, Err}
+use Rattle.std.specs.List.{Contains}
 use Rattle.gql_base.specs.declared.server_error.ServerError.{ServerError}
 use Rattle.gql_doc.specs.declared.document.ExecutableDocument.{ExecutableDocument}
-use Rattle.gql_admit.specs.Breaches.{IsBreach}
+use Rattle.gql_admit.specs.Breaches.{told_at}
 use Rattle.gql_admit.specs.BreachOrder.{Lists}
+use Rattle.gql_admit.specs.Circular.{IsCircular}
+use Rattle.gql_admit.specs.Places.{Place, document_places}
 use Rattle.gql_admit.specs.Refusal.{refusal}
 use Rattle.gql_admit.specs.declared.breach.Breach.{Breach}
 use Rattle.gql_admit.specs.declared.site.Site.{Site}
+
+-- a rule that a document breaks: at one of its places, or by a fragment that reaches itself
+pub data IsBreach (site : Site) (document : ExecutableDocument) (found : Breach) : Type 0 where
+  at_place : (place : Place) → Contains (document_places site document) place
+      → Contains (told_at site document.fragments place) found → IsBreach site document found
+  circular : IsCircular document.fragments found → IsBreach site document found
 
 -- the error of a breach: its text, at its place
 abbrev pub error_of : Breach → ServerError

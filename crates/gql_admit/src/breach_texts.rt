@@ -48,6 +48,14 @@ pub fn unknown_fragment(alloc: Global, pos: Pos, name: &str) -> Made<Breach>
     breach_of(alloc, pos, BreachKind::UnknownFragment, name, text)
 }
 
+/// A fragment that reaches itself.
+pub fn circular_fragment(alloc: Global, pos: Pos, name: &str) -> Made<Breach>
+    ensures { IfOk result (λ made. made ≡ breach pos BreachKind.CircularFragment name.now (circular_text name.now)) }
+{
+    let text = circular_message(alloc, name)?;
+    breach_of(alloc, pos, BreachKind::CircularFragment, name, text)
+}
+
 fn breach_of(alloc: Global, pos: Pos, kind: BreachKind, name: &str, text: String) -> Made<Breach>
     ensures { IfOk result (λ made. made ≡ breach pos kind name.now (string_bytes text)) }
 {
@@ -94,4 +102,11 @@ fn unknown_fragment_message(alloc: Global, name: &str) -> Made<String>
     ensures { IfOk result (λ text. string_bytes text ≡ unknown_fragment_text name.now) }
 {
     format!(in alloc; "Unknown fragment \"{name}\".")
+}
+
+#[tactic(auto, unfolding(crate::specs::BreachTexts::circular_text))]
+fn circular_message(alloc: Global, name: &str) -> Made<String>
+    ensures { IfOk result (λ text. string_bytes text ≡ circular_text name.now) }
+{
+    format!(in alloc; "Fragment \"{name}\" contains itself.")
 }

@@ -7,6 +7,7 @@ mod breach;
 mod breach_order;
 mod breach_texts;
 mod chosen;
+mod circular;
 mod conditions;
 mod copied;
 mod depth;

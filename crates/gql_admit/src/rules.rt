@@ -1,11 +1,11 @@
 //! The check of a document against a table of types.
 ghost use Rattle.std.specs.Prelude.{◌≡◌, IfOk, map};
-ghost use Rattle.gql_admit.specs.Breaches.{IsBreach};
 ghost use Rattle.gql_admit.specs.BreachOrder.{Lists};
-ghost use Rattle.gql_admit.specs.RulesChecked.{IsChecked, error_of, refused_with};
+ghost use Rattle.gql_admit.specs.RulesChecked.{IsBreach, IsChecked, error_of, refused_with};
 
 use crate::breach::Breach;
 use crate::breach_order::sorted_once;
+use crate::circular::tell_circular;
 use crate::refusals::refuse;
 use crate::site::Site;
 use crate::walk::Against;
@@ -16,7 +16,7 @@ use std::alloc::Global;
 
 /// Refuses a document that breaks a rule of the specification over the site's types, with all that it breaks, in the order of the
 /// document, each once (GraphQL, October 2021, section 5). Looked at are unknown fields, leaves with a set and other types without
-/// one, conditions on types that aren't composite, and unknown fragments.
+/// one, conditions on types that aren't composite, unknown fragments, and fragments that reach themselves.
 pub fn check_rules(
     alloc: Global,
     site: &Site<'_>,
@@ -50,6 +50,7 @@ fn breaches_of(
 {
     let mut found = Items::new(alloc);
     walk_document(alloc, doc, &against, &mut found)?;
+    tell_circular(alloc, &doc.fragments, &mut found)?;
     Ok(sorted_once(found))
 }
 

@@ -9,7 +9,7 @@ use std::test::Fail;
 
 /// Documents over `Query { value: Int, o: A!, u: U, on: I }`, where the object `A { a: Int }` is in the union `U` and implements the
 /// interface `I`, and what is told of them.
-const RULES: [(&str, &str); 14] = [
+const RULES: [(&str, &str); 17] = [
     ("{ value o { a } }", ""),
     ("{ value1 }", "Unknown field \"value1\" on type \"Query\". 1:3; "),
     ("{ ...X }", "Unknown fragment \"X\". 1:3; "),
@@ -42,6 +42,16 @@ const RULES: [(&str, &str); 14] = [
     ("{ on { a ... on A { b } } }", "Unknown field \"a\" on type \"I\". 1:8; Unknown field \"b\" on type \"A\". 1:21; "),
     ("mutation { lost }", ""),
     ("query A { x } query B { y }", "Unknown field \"x\" on type \"Query\". 1:11; Unknown field \"y\" on type \"Query\". 1:25; "),
+    (
+        "{ value } fragment A on Query { ...A }",
+        "Fragment \"A\" contains itself. 1:11; ",
+    ),
+    (
+        "{ value } fragment A on A { lost { ...B } } fragment B on Lost { ...A } fragment C on A { ...B }",
+        "Fragment \"A\" contains itself. 1:11; Unknown field \"lost\" on type \"A\". 1:29; \
+        Fragment \"B\" contains itself. 1:45; Fragment condition \"Lost\" is no object, interface or union. 1:59; ",
+    ),
+    ("{ ...A } fragment A on Query { ...B ...B } fragment B on Query { value }", ""),
     ("{ __typename { a } }", "Field \"__typename\" of type \"String!\" must not have a selection. 1:3; "),
 ];
 
