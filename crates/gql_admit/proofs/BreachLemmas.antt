@@ -1,5 +1,5 @@
 -- What is told of all places is what the document breaks.
-use Rattle.std.proofs.Common.{rules, arith, ◌≡◌, ◌<◌, ◌↔◌, ℕ, zero, suc, Bool, true, false, List, [], ◌∷◌, ◌++◌, map, length, Result, Ok, Err, refl, ap, sym, subst, ◌∙◌, inl, inr}
+use Rattle.std.proofs.Common.{arith, ◌≡◌, ◌<◌, zero, suc, List, [], ◌∷◌, ◌++◌, map, length, Err, refl, ap, sym, subst, ◌∙◌, inl, inr}
 use Rattle.std.specs.List.{Contains, flat_map}
 use Rattle.std.proofs.lemmas.List.Elements.{Contains-append_cases, Contains-append_left, Contains-append_right}
 use Rattle.gql_base.specs.declared.server_error.ServerError.{ServerError}
@@ -7,11 +7,10 @@ use Rattle.gql_doc.specs.declared.document.ExecutableDocument.{ExecutableDocumen
 use Rattle.gql_admit.specs.Breaches.{told, told_at}
 use Rattle.gql_admit.specs.Circular.{Adds, IsCircular}
 use Rattle.gql_admit.specs.BreachOrder.{Lists}
-use Rattle.gql_admit.specs.Places.{Place, document_places}
+use Rattle.gql_admit.specs.Places.{document_places}
 use Rattle.gql_admit.specs.RulesChecked.{IsBreach, at_place, circular, error_of, refused_with}
 use Rattle.gql_admit.specs.Walking.{tells}
 use Rattle.gql_admit.specs.declared.breach.Breach.{Breach}
-use Rattle.gql_admit.specs.declared.site.Site.{Site}
 use Rattle.gql_admit.specs.declared.walk.Against.{Against}
 
 none_in : {A : Type 0} (x : A) (G : Type 0) → Contains [] x → G

@@ -1,10 +1,10 @@
 -- Marks beside the places that were reached.
-use Rattle.std.proofs.Common.{◌≡◌, inl, inr, ℕ, zero, suc, ◌+◌, ◌<◌, Bool, true, false, ◌||◌, cond, List, [], ◌∷◌, ◌++◌, take, length, Some, get_or, slice_get, slice_set, refl, ap, sym, subst, ◌∙◌, add-one, arith}
+use Rattle.std.proofs.Common.{◌≡◌, ℕ, zero, suc, ◌+◌, ◌<◌, Bool, true, false, ◌||◌, List, [], ◌∷◌, ◌++◌, take, length, Some, get_or, slice_get, slice_set, refl, ap, sym, subst, ◌∙◌, add-one}
 use Rattle.std.proofs.lemmas.List.{get_or_read}
 use Rattle.std.proofs.lemmas.Option.{slice_get-get_or}
 use Rattle.std.specs.Prelude.{◌==◌}
 use Rattle.gql_admit.specs.Circular.{AreWithin, Marks, Reaches, at_once, further, is_in, led_to, with_number, with_numbers}
-use Rattle.gql_admit.proofs.ReachLemmas.{among-append, among-take, or-left, or-right, same_number}
+use Rattle.gql_admit.proofs.ReachLemmas.{among-append, or-left, or-right, same_number}
 
 -- a marked place is there already
 pub known_number : (marks : List Bool) (reached : List ℕ) (place : ℕ) → Marks marks reached → slice_get marks place ≡ Some true

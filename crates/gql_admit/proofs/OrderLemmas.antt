@@ -1,6 +1,5 @@
 -- The order of breaches is total, and breaches that tie are the same.
-use Rattle.std.proofs.Common.{◌≡◌, Less, Equal, Greater, arith, ℕ, true, List, [], ◌∷◌, refl, ap, ◌∙◌}
-use Rattle.std.specs.Cmp.Lexicographic.{slice_cmp}
+use Rattle.std.proofs.Common.{◌≡◌, Less, Equal, Greater, arith, ℕ, true, List, [], ◌∷◌, refl}
 use Rattle.std.specs.declared.cmp.Ordering.{Ordering}
 use Rattle.std.specs.Ordering.{eq_by_cmp, is_eq, nat_cmp, ordering_then}
 use Rattle.std.proofs.lemmas.Cmp.{ranked, by_ranked}

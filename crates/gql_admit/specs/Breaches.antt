@@ -1,5 +1,5 @@
 -- The rules of the specification that a document breaks over a table of types.
-use Rattle.std.specs.Prelude.{ℕ, Bool, true, false, List, [], ◌∷◌, Option, Some, None, if◌then◌else◌}
+use Rattle.std.specs.Prelude.{ℕ, Bool, true, false, List, [], ◌∷◌, Option, Some, None}
 use Rattle.std.specs.List.{flat_map}
 use Rattle.gql_base.specs.Pairs.{under}
 use Rattle.gql_base.specs.TypeRef.{innermost, type_text}

@@ -1,5 +1,5 @@
 -- Which fields a type has where a document is checked, and of which type they are (GraphQL, October 2021, sections 3.6, 4.1 and 5.3.1).
-use Rattle.std.specs.Prelude.{ℕ, Bool, true, false, ◌&&◌, not, List, codes, Option, Some, None, option_map, if◌then◌else◌}
+use Rattle.std.specs.Prelude.{ℕ, Bool, true, false, ◌&&◌, not, List, codes, Option, Some, option_map, if◌then◌else◌}
 use Rattle.std.specs.Str.{bytes_eq}
 use Rattle.gql_base.specs.declared.type_ref.TypeRef.{TypeRef}
 use Rattle.gql_base.specs.declared.type_ref.TypeRef.TheVariants as ref

@@ -7,7 +7,7 @@ use Rattle.gql_base.specs.Pairs.{under, values_of}
 use Rattle.gql_base.specs.TypeRef.{innermost}
 use Rattle.gql_base.specs.declared.pos.Pos.{Pos}
 use Rattle.gql_base.specs.declared.type_ref.TypeRef.{TypeRef}
-use Rattle.gql_doc.specs.Depth.{Fragments, fragment_set, operation_set, operations_in}
+use Rattle.gql_doc.specs.Depth.{fragment_set, operation_set, operations_in}
 use Rattle.gql_doc.specs.declared.document.ExecutableDocument.{ExecutableDocument}
 use Rattle.gql_doc.specs.declared.document.FragmentDefinition.{FragmentDefinition}
 use Rattle.gql_doc.specs.declared.document.OperationDefinition.{OperationDefinition}
@@ -22,7 +22,7 @@ use Rattle.gql_doc.specs.declared.document.InlineFragment.{InlineFragment}
 use Rattle.gql_doc.specs.declared.document.SelectionSet.{SelectionSet}
 use Rattle.gql_schema.specs.declared.schema_type.SchemaType.{SchemaType}
 use Rattle.gql_schema.specs.declared.schema_type.SchemaType.TheVariants as types
-use Rattle.gql_admit.specs.FieldTypes.{field_type, is_composite, table_of}
+use Rattle.gql_admit.specs.FieldTypes.{field_type, table_of}
 use Rattle.gql_admit.specs.declared.site.Site.{Site}
 
 -- a field without what is beneath it

@@ -1,7 +1,7 @@
 use Rattle.std.proofs.Common.{length, subst, sym}
 use Rattle.gql_base.specs.Pairs.{names_of, values_of}
 use Rattle.gql_admit.specs.Spreads.{spread_in}
-use Rattle.gql_admit.proofs.CircularLemmas.{AllBelow, all_more, graph_within}
+use Rattle.gql_admit.proofs.CircularLemmas.{AllBelow, all_more}
 use Rattle.gql_admit.proofs.SpreadLemmas.{map_step}
 use Rattle.gql_admit.proofs.WalkLemmas.{value_at}
 use Rattle.gql_admit.proofs.spreads.graph_of.Goals as goal
