@@ -1,9 +1,16 @@
+pub mod BreachLemmas
 pub mod ChoiceLemmas
+pub mod CircularLemmas
 pub mod CrowdedLemmas
 pub mod DepthLemmas
 pub mod FirstLemmas
 pub mod KeepLemmas
+pub mod MarkLemmas
+pub mod OrderLemmas
+pub mod ReachLemmas
 pub mod RefusalLemmas
 pub mod Rows
+pub mod SpreadLemmas
+pub mod ToldLemmas
 pub mod TruthLemmas
 pub mod WalkLemmas

@@ -1,6 +1,16 @@
+pub mod BreachOrder
+pub mod BreachTexts
+pub mod Breaches
 pub mod Choice
+pub mod Circular
+pub mod FieldTypeViews
+pub mod FieldTypes
 pub mod Known
 pub mod Left
 pub mod Limits
+pub mod Places
 pub mod Refusal
+pub mod RulesChecked
+pub mod Spreads
 pub mod Walked
+pub mod Walking

@@ -3,19 +3,30 @@
 #![tactic(auto)]
 
 mod beneath;
+mod breach;
+mod breach_order;
+mod breach_texts;
 mod chosen;
+mod circular;
 mod conditions;
 mod copied;
 mod depth;
 mod directives;
+mod field_type;
 mod keeping;
 mod operation;
+mod reaching;
 mod refusals;
+mod rules;
 mod site;
+mod spreads;
+mod walk;
+mod walk_document;
 
 pub use chosen::Chosen;
 pub use depth::check_depth;
 pub use directives::check_directives;
 pub use keeping::keep;
 pub use operation::choose_operation;
+pub use rules::check_rules;
 pub use site::Site;

@@ -61,7 +61,7 @@ fn unknown_operation_message(alloc: Global, name: &str) -> Made<String>
 
 /// An error with this message, and with one place or none.
 #[tactic(auto, using(crate::proofs::RefusalLemmas::refusal_of))]
-fn refuse(alloc: Global, message: &str, place: Option<Pos>) -> Made<ServerError>
+pub fn refuse(alloc: Global, message: &str, place: Option<Pos>) -> Made<ServerError>
     ensures { IfOk result (λ error. error ≡ refusal message.now place) }
 {
     ServerError::new(alloc, message, place)

@@ -3,6 +3,8 @@
 #![tactic(auto)]
 
 #[cfg(test)]
+mod rules_tests;
+#[cfg(test)]
 mod short_form;
 #[cfg(test)]
 mod tests;

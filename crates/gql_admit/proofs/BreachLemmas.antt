@@ -1,0 +1,88 @@
+-- What is told of all places is what the document breaks.
+use Rattle.std.proofs.Common.{arith, ◌≡◌, ◌<◌, zero, suc, List, [], ◌∷◌, ◌++◌, map, length, Err, refl, ap, sym, subst, ◌∙◌, inl, inr}
+use Rattle.std.specs.List.{Contains, flat_map}
+use Rattle.std.proofs.lemmas.List.Elements.{Contains-append_cases, Contains-append_left, Contains-append_right}
+use Rattle.gql_base.specs.declared.server_error.ServerError.{ServerError}
+use Rattle.gql_doc.specs.declared.document.ExecutableDocument.{ExecutableDocument}
+use Rattle.gql_admit.specs.Breaches.{told, told_at}
+use Rattle.gql_admit.specs.Circular.{Adds, IsCircular}
+use Rattle.gql_admit.specs.BreachOrder.{Lists}
+use Rattle.gql_admit.specs.Places.{document_places}
+use Rattle.gql_admit.specs.RulesChecked.{IsBreach, at_place, circular, error_of, refused_with}
+use Rattle.gql_admit.specs.Walking.{tells}
+use Rattle.gql_admit.specs.declared.breach.Breach.{Breach}
+use Rattle.gql_admit.specs.declared.walk.Against.{Against}
+
+none_in : {A : Type 0} (x : A) (G : Type 0) → Contains [] x → G
+none_in x G (k, within, at) = absurd (omega arith)
+
+one_in : {A : Type 0} (x y : A) → Contains (x ∷ []) y → x ≡ y
+one_in x y (zero, within, at) = at
+one_in x y (suc k, within, at) = absurd (omega arith)
+
+first_in : {A : Type 0} (x : A) (xs : List A) → Contains (x ∷ xs) x
+first_in x xs = (0, omega arith, refl)
+
+later_in : {A : Type 0} (y x : A) (xs : List A) → Contains xs x → Contains (y ∷ xs) x
+later_in y x xs at = Contains-append_right (y ∷ []) xs x at
+
+module _ {A B : Type 0} (f : A → List B) where
+  -- what some item gives
+  record Given (xs : List A) (b : B) : Type 0 where
+    item : A
+    there : Contains xs item
+    gives : Contains (f item) b
+
+  given_from : (xs : List A) (b : B) → Contains (flat_map f xs) b → Given xs b
+  given_from [] b at = none_in b (Given [] b) at
+  given_from (x ∷ xs) b at =
+      elim (Contains-append_cases (f x) (flat_map f xs) b at) [
+        | inl h ↦ record { item = x; there = first_in x xs; gives = h }
+        | inr h ↦
+        let rest = given_from xs b h in
+        record { item = rest.item; there = later_in x rest.item xs rest.there; gives = rest.gives }
+      ]
+
+  given_at : (xs : List A) (x : A) (b : B) → Contains xs x → Contains (f x) b → Contains (flat_map f xs) b
+  given_at [] x b at gives = none_in x (Contains (flat_map f []) b) at
+  given_at (y ∷ xs) x b at gives =
+      elim (Contains-append_cases (y ∷ []) xs x at) [
+        | inl here ↦ Contains-append_left (f y) (flat_map f xs) b (subst (λ z. Contains (f z) b) (sym (one_in y x here)) gives)
+        | inr behind ↦ Contains-append_right (f y) (flat_map f xs) b (given_at xs x b behind gives)
+      ]
+
+-- what is told of all places and of circular fragments, listed
+pub all_listed : (against : Against) (document : ExecutableDocument) (told_first found list : List Breach) → Lists (Contains found) list
+    → told_first ≡ [] ++ tells against (document_places against.site.now document) → against.fragments.now ≡ document.fragments
+    → Adds (IsCircular document.fragments) told_first found
+    → Lists (IsBreach against.site.now document) list
+all_listed against document told_first found list lists is fragments adds =
+    let site = against.site.now in
+    let places = document_places site document in
+    let first : told_first ≡ told site document.fragments places = is ∙ ap (λ f. told site f places) fragments in
+    record {
+      in_order = lists.in_order;
+      exact = λ e. (
+        λ h.
+        elim (adds.only e ((lists.exact e).0 h)) [
+          | inl at ↦
+          let from = given_from (told_at site document.fragments) places e (subst (λ xs. Contains xs e) first at) in
+          at_place from.item from.there from.gives
+          | inr is_circular ↦ circular is_circular
+        ],
+        λ breach. (lists.exact e).1 (among e breach),
+      );
+    }
+  where
+    among : (e : Breach) → IsBreach against.site.now document e → Contains found e
+    among e (at_place place stands breaks) =
+        adds.kept e
+        (subst (λ xs. Contains xs e) (sym (is ∙ ap (λ f. told against.site.now f (document_places against.site.now document)) fragments))
+        (given_at (told_at against.site.now document.fragments) (document_places against.site.now document) place e stands breaks))
+    among e (circular is_circular) = adds.has e is_circular
+
+-- a list that isn't empty is refused with the errors of all
+pub some_refused : (breaches : List Breach) (errors : List ServerError) → errors ≡ map error_of breaches → 0 < length breaches
+    → Err errors ≡ refused_with breaches
+some_refused [] errors is some = absurd (omega arith)
+some_refused (found ∷ others) errors is some = ap Err is

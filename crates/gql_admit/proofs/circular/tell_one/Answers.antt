@@ -1,0 +1,14 @@
+use Rattle.std.proofs.Common.{◌≡◌, ◌++◌, [], ◌∷◌}
+use Rattle.gql_admit.specs.Circular.{Adds, CircularAt}
+use Rattle.gql_admit.proofs.CircularLemmas.{on_ok, one_told}
+use Rattle.gql_admit.proofs.circular.tell_one.Goals as goal
+
+pub returns : goal.returns
+returns c =
+    on_ok c.push.result (c.push.new.self ≡ c.args.found.now ++ c.in_ok-circular_fragment.field-0 ∷ [])
+    (Adds (CircularAt c.args.fragments.now c.args.place) c.args.found.now c.push.new.self)
+    (λ added.
+    one_told c.args.fragments.now c.args.place c.at.result.0.now c.at.result.1.now c.args.found.now c.push.new.self c.in_ok-circular_fragment.field-0
+    c.in_ok-reaches_itself.field-0 c.args.graph.now c.at.ensures c.requires.graph c.in_ok-reaches_itself.ensures c.if-not-branch.false
+    c.in_ok-circular_fragment.ensures added)
+    c.push.ensures.ok

@@ -1,0 +1,87 @@
+-- The rules of the specification that a document breaks over a table of types.
+use Rattle.std.specs.Prelude.{ℕ, Bool, true, false, List, [], ◌∷◌, Option, Some, None}
+use Rattle.std.specs.List.{flat_map}
+use Rattle.gql_base.specs.Pairs.{under}
+use Rattle.gql_base.specs.TypeRef.{innermost, type_text}
+use Rattle.gql_base.specs.declared.pos.Pos.{Pos}
+use Rattle.gql_base.specs.declared.type_ref.TypeRef.{TypeRef}
+use Rattle.gql_doc.specs.Depth.{Fragments}
+use Rattle.gql_doc.specs.declared.document.FragmentDefinition.{FragmentDefinition}
+use Rattle.gql_doc.specs.declared.document.Positioned.{Positioned}
+use Rattle.gql_schema.specs.Types.{type_name}
+use Rattle.gql_schema.specs.declared.schema_type.SchemaType.{SchemaType}
+use Rattle.gql_admit.specs.BreachTexts.{composite_text, condition_text, leaf_text, unknown_field_text, unknown_fragment_text}
+use Rattle.gql_admit.specs.FieldTypes.{field_type, is_composite, is_leaf, table_of}
+use Rattle.gql_admit.specs.Places.{FieldPlace, Place, OnCondition, OnField, OnSpread}
+use Rattle.gql_admit.specs.declared.breach.Breach.{Breach}
+use Rattle.gql_admit.specs.declared.breach.BreachKind.{BreachKind}
+use Rattle.gql_admit.specs.declared.breach.BreachKind.TheVariants as kinds
+use Rattle.gql_admit.specs.declared.site.Site.{Site}
+
+-- a breach of this kind at a place, with the name that it is about
+abbrev pub breach : Pos → BreachKind → List ℕ → List ℕ → Breach
+breach pos kind name text = record { pos = pos; kind = kind; name = name; text = text }
+
+-- what a test tells, where it fails
+abbrev pub unless : Bool → Breach → List Breach
+unless true found = []
+unless false found = found ∷ []
+
+-- whether a type that was looked for is there and passes a test
+abbrev pub passes : (SchemaType → Bool) → Option SchemaType → Bool
+passes test None = false
+passes test (Some ty) = test ty
+
+-- whether the name is that of a type whose fields have no sets, and of an object, an interface or a union
+abbrev pub is_leaf_named : Site → List ℕ → Bool
+is_leaf_named site name = passes is_leaf (under name (table_of site))
+
+abbrev pub is_composite_named : Site → List ℕ → Bool
+is_composite_named site name = passes is_composite (under name (table_of site))
+
+abbrev pub unknown_field : FieldPlace → Breach
+unknown_field field = breach field.pos kinds.UnknownField field.name (unknown_field_text field.name (type_name field.parent))
+
+abbrev pub set_on_leaf : FieldPlace → TypeRef → Breach
+set_on_leaf field ty = breach field.pos kinds.Selection field.name (leaf_text field.name (type_text ty))
+
+abbrev pub no_set : FieldPlace → TypeRef → Breach
+no_set field ty = breach field.pos kinds.Selection field.name (composite_text field.name (type_text ty))
+
+abbrev pub unknown_condition : Pos → List ℕ → Breach
+unknown_condition pos name = breach pos kinds.Condition name (condition_text name)
+
+abbrev pub unknown_fragment : Pos → List ℕ → Breach
+unknown_fragment pos name = breach pos kinds.UnknownFragment name (unknown_fragment_text name)
+
+-- a leaf has no set, and another type has one
+abbrev pub told_of_set : FieldPlace → TypeRef → (leaf has_set : Bool) → List Breach
+told_of_set field ty true true = set_on_leaf field ty ∷ []
+told_of_set field ty true false = []
+told_of_set field ty false true = []
+told_of_set field ty false false = no_set field ty ∷ []
+
+-- a spread names a fragment
+abbrev pub told_of_spread : Pos → List ℕ → Option (Positioned FragmentDefinition) → List Breach
+told_of_spread pos name None = unknown_fragment pos name ∷ []
+told_of_spread pos name (Some fragment) = []
+
+-- a condition names an object, an interface or a union
+abbrev pub told_of_condition : Site → Pos → List ℕ → List Breach
+told_of_condition site pos name = unless (is_composite_named site name) (unknown_condition pos name)
+
+module _ (site : Site) (fragments : Fragments) where
+  -- a field is one of its type's, with a set or without one
+  abbrev pub told_of_field : FieldPlace → Option TypeRef → List Breach
+  told_of_field field None = unknown_field field ∷ []
+  told_of_field field (Some ty) = told_of_set field ty (is_leaf_named site (innermost ty)) field.has_set
+
+  -- the rules that are broken at a place
+  abbrev pub told_at : Place → List Breach
+  told_at (OnField field) = told_of_field field (field_type site field.parent field.name)
+  told_at (OnSpread pos name) = told_of_spread pos name (under name fragments)
+  told_at (OnCondition pos name) = told_of_condition site pos name
+
+  -- those that are broken at some places
+  abbrev pub told : List Place → List Breach
+  told places = flat_map told_at places

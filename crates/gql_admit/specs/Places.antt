@@ -1,0 +1,154 @@
+-- The places of a document at which rules are looked at, each with the type that it stands on. Beneath an unknown field, a leaf or a
+-- condition on no composite type there are none.
+use Rattle.std.specs.Prelude.{ℕ, Bool, true, false, not, List, [], ◌∷◌, ◌++◌, Option, Some, None, option_and_then}
+use Rattle.std.specs.List.{flat_map}
+use Rattle.std.specs.Option.{option_copied}
+use Rattle.gql_base.specs.Pairs.{under, values_of}
+use Rattle.gql_base.specs.TypeRef.{innermost}
+use Rattle.gql_base.specs.declared.pos.Pos.{Pos}
+use Rattle.gql_base.specs.declared.type_ref.TypeRef.{TypeRef}
+use Rattle.gql_doc.specs.Depth.{fragment_set, operation_set, operations_in}
+use Rattle.gql_doc.specs.declared.document.ExecutableDocument.{ExecutableDocument}
+use Rattle.gql_doc.specs.declared.document.FragmentDefinition.{FragmentDefinition}
+use Rattle.gql_doc.specs.declared.document.OperationDefinition.{OperationDefinition}
+use Rattle.gql_doc.specs.declared.document.OperationType.{OperationType}
+use Rattle.gql_doc.specs.declared.document.OperationType.TheVariants.{Query, Mutation, Subscription}
+use Rattle.gql_doc.specs.declared.document.Positioned.{Positioned}
+use Rattle.gql_doc.specs.declared.document.Selection.{Selection}
+use Rattle.gql_doc.specs.declared.document.Selection.TheOpen.{Selection-F, Field-F, InlineFragment-F, SelectionSet-F}
+use Rattle.gql_doc.specs.declared.document.Selection.TheFolds.{fold-Field, fold-InlineFragment, fold-Selection, fold-SelectionSet}
+use Rattle.gql_doc.specs.declared.document.Field.{Field}
+use Rattle.gql_doc.specs.declared.document.InlineFragment.{InlineFragment}
+use Rattle.gql_doc.specs.declared.document.SelectionSet.{SelectionSet}
+use Rattle.gql_schema.specs.declared.schema_type.SchemaType.{SchemaType}
+use Rattle.gql_schema.specs.declared.schema_type.SchemaType.TheVariants as types
+use Rattle.gql_admit.specs.FieldTypes.{field_type, table_of}
+use Rattle.gql_admit.specs.declared.site.Site.{Site}
+
+-- a field without what is beneath it
+pub record FieldPlace : Type 0 where
+  -- the type that it stands on
+  pub parent : SchemaType
+  pub pos : Pos
+  pub name : List ℕ
+  pub has_set : Bool
+
+pub data Place : Type 0 where
+  OnField : FieldPlace → Place
+  -- a spread of the fragment of this name
+  OnSpread : Pos → List ℕ → Place
+  -- a condition on the type of this name
+  OnCondition : Pos → List ℕ → Place
+
+-- the places beneath a type
+abbrev pub Places : Type 0
+Places = SchemaType → List Place
+
+-- a set's places, and whether it has any selection
+pub record SetPlaces : Type 0 where
+  pub is_empty : Bool
+  pub on : Places
+
+-- whether a list has no item
+abbrev pub is_nil : {A : Type 0} → List A → Bool
+is_nil [] = true
+is_nil (x ∷ xs) = false
+
+-- the places on a type, where it is composite
+abbrev pub on_composite : Option SchemaType → Places → List Place
+on_composite None places = []
+on_composite (Some (types.Object object)) places = places (types.Object object)
+on_composite (Some (types.Interface interface)) places = places (types.Interface interface)
+on_composite (Some (types.Union union)) places = places (types.Union union)
+on_composite (Some _) places = []
+
+-- one level of each part of a document
+abbrev pub selection_step : Selection-F Places (Pos → Places) Places SetPlaces → Places
+selection_step (Selection-F.Field field) ty = field.node field.pos ty
+selection_step (Selection-F.FragmentSpread spread) ty = OnSpread spread.pos spread.node.fragment_name.node ∷ []
+selection_step (Selection-F.InlineFragment fragment) ty = fragment.node ty
+
+abbrev pub set_step : SelectionSet-F Places (Pos → Places) Places SetPlaces → SetPlaces
+set_step set = record {
+  is_empty = is_nil set.items;
+  on = λ ty. flat_map (λ selection. selection.node ty) set.items;
+}
+
+-- the places on a type, if there is one
+abbrev pub on_any : Option SchemaType → Places → List Place
+on_any None places = []
+on_any (Some ty) places = places ty
+
+-- an object at the root of queries or mutations, and a subscription at that of subscriptions
+abbrev pub as_object : Option SchemaType → Option SchemaType
+as_object (Some (types.Object object)) = Some (types.Object object)
+as_object _ = None
+
+abbrev pub as_subscription : Option SchemaType → Option SchemaType
+as_subscription (Some (types.Subscription subscription)) = Some (types.Subscription subscription)
+as_subscription _ = None
+
+module _ (site : Site) where
+  -- the places on the type of this name
+  abbrev pub on_named : List ℕ → Places → List Place
+  on_named name places = on_composite (under name (table_of site)) places
+
+  -- the places of the set of a field of this type, where the field is known
+  abbrev pub beneath_field : Option TypeRef → Places → List Place
+  beneath_field None places = []
+  beneath_field (Some ty) places = on_named (innermost ty) places
+
+  -- the places of a fragment in place: it stands on the type around it, or on that of its condition
+  abbrev pub under_condition : Option (Positioned (List ℕ)) → Places → Places
+  under_condition None places ty = places ty
+  under_condition (Some condition) places ty = OnCondition condition.pos condition.node ∷ on_named condition.node places
+
+  -- one level of a field, and of a fragment in place
+  abbrev pub field_step : Field-F Places (Pos → Places) Places SetPlaces → Pos → Places
+  field_step field pos ty =
+      OnField (record { parent = ty; pos = pos; name = field.name.node; has_set = not field.selection_set.node.is_empty })
+      ∷ beneath_field (field_type site ty field.name.node) field.selection_set.node.on
+
+  abbrev pub inline_step : InlineFragment-F Places (Pos → Places) Places SetPlaces → Places
+  inline_step fragment = under_condition fragment.type_condition fragment.selection_set.node.on
+
+  abbrev pub selection_places : Selection → Places
+  selection_places = fold-Selection Places (Pos → Places) Places SetPlaces selection_step field_step inline_step set_step
+
+  abbrev pub field_places : Field → Pos → Places
+  field_places = fold-Field Places (Pos → Places) Places SetPlaces selection_step field_step inline_step set_step
+
+  abbrev pub inline_places : InlineFragment → Places
+  inline_places = fold-InlineFragment Places (Pos → Places) Places SetPlaces selection_step field_step inline_step set_step
+
+  abbrev pub places_of_set : SelectionSet → SetPlaces
+  places_of_set = fold-SelectionSet Places (Pos → Places) Places SetPlaces selection_step field_step inline_step set_step
+
+  -- the places in a set on a type
+  abbrev pub set_places : SelectionSet → Places
+  set_places set = (places_of_set set).on
+
+  -- the type of a name, if there is one
+  abbrev pub type_named : Option (List ℕ) → Option SchemaType
+  type_named name = option_and_then (λ n. under n (table_of site)) name
+
+  -- the root of a kind of operation, where there is one (section 3.3.1)
+  abbrev pub root_of : OperationType → Option SchemaType
+  root_of Query = as_object (under site.query.now (table_of site))
+  root_of Mutation = as_object (type_named (option_copied site.mutation))
+  root_of Subscription = as_subscription (type_named (option_copied site.subscription))
+
+  -- an operation without a root has no places
+  abbrev pub operation_places : Positioned OperationDefinition → List Place
+  operation_places operation = on_any (root_of operation.node.ty) (set_places (operation_set operation).node)
+
+  abbrev pub fragment_places : Positioned FragmentDefinition → List Place
+  fragment_places fragment =
+      OnCondition fragment.node.type_condition.pos fragment.node.type_condition.node
+      ∷ on_named fragment.node.type_condition.node (set_places (fragment_set fragment).node)
+
+  -- the places of a document as it stands: spreads aren't entered
+  abbrev pub document_places : ExecutableDocument → List Place
+  document_places document =
+      flat_map operation_places (operations_in document.operations)
+      ++ flat_map fragment_places (values_of document.fragments)

@@ -1,0 +1,33 @@
+-- What the check of rules answers (GraphQL, October 2021, section 5).
+use Rattle.std.specs.Prelude.{◌≡◌, List, [], ◌∷◌, map, Some, Result, Ok, Err}
+use Rattle.std.specs.List.{Contains}
+use Rattle.gql_base.specs.declared.server_error.ServerError.{ServerError}
+use Rattle.gql_doc.specs.declared.document.ExecutableDocument.{ExecutableDocument}
+use Rattle.gql_admit.specs.Breaches.{told_at}
+use Rattle.gql_admit.specs.BreachOrder.{Lists}
+use Rattle.gql_admit.specs.Circular.{IsCircular}
+use Rattle.gql_admit.specs.Places.{Place, document_places}
+use Rattle.gql_admit.specs.Refusal.{refusal}
+use Rattle.gql_admit.specs.declared.breach.Breach.{Breach}
+use Rattle.gql_admit.specs.declared.site.Site.{Site}
+
+-- a rule that a document breaks: at one of its places, or by a fragment that reaches itself
+pub data IsBreach (site : Site) (document : ExecutableDocument) (found : Breach) : Type 0 where
+  at_place : (place : Place) → Contains (document_places site document) place
+      → Contains (told_at site document.fragments place) found → IsBreach site document found
+  circular : IsCircular document.fragments found → IsBreach site document found
+
+-- the error of a breach: its text, at its place
+abbrev pub error_of : Breach → ServerError
+error_of found = refusal found.text (Some found.pos)
+
+-- a document without breaches passes, and another is refused with all of them
+abbrev pub refused_with : List Breach → Result (Unit {0}) (List ServerError)
+refused_with [] = Ok tt
+refused_with (found ∷ others) = Err (error_of found ∷ map error_of others)
+
+-- the check's answer is what comes of the list of all breaches, in their order, each once
+pub record IsChecked (site : Site) (document : ExecutableDocument) (checked : Result (Unit {0}) (List ServerError)) : Type 0 where
+  pub breaches : List Breach
+  pub all : Lists (IsBreach site document) breaches
+  pub answer : checked ≡ refused_with breaches

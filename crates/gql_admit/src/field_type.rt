@@ -1,0 +1,93 @@
+//! The types of fields where a document is checked.
+ghost use Rattle.std.specs.Prelude.{◌≡◌, IfOk, option_map};
+ghost use Rattle.gql_base.specs.TypeRef.{innermost, type_text};
+ghost use Rattle.gql_admit.specs.FieldTypes.{field_type, has_entities, has_typename, is_composite, is_leaf, is_subscription};
+ghost use Rattle.gql_admit.specs.FieldTypeViews.{type_behind};
+
+use crate::site::Site;
+use gql_base::{Made, Text, TypeRef};
+use gql_schema::SchemaType;
+use std::alloc::Global;
+
+/// The type of a field that is known.
+#[derive(Clone, Copy)]
+pub enum FieldType<'a> {
+    Typename,
+    Entities,
+    Declared(&'a TypeRef),
+}
+
+impl FieldType<'_> {
+    /// The name of the type of what stands in the field.
+    pub fn inner_name(&self) -> &str
+        ensures { result.now ≡ innermost (type_behind self.now) }
+    {
+        match self {
+            FieldType::Typename => "String",
+            FieldType::Entities => "_Entity",
+            FieldType::Declared(ty) => ty.type_name(),
+        }
+    }
+
+    /// The type as it is written.
+    pub fn text(&self, alloc: Global) -> Made<Text>
+        ensures { IfOk result (λ text. text ≡ type_text (type_behind self.now)) }
+    {
+        match self {
+            FieldType::Typename => Text::new(alloc, "String!"),
+            FieldType::Entities => Text::new(alloc, "[_Entity]!"),
+            FieldType::Declared(ty) => ty.text(alloc),
+        }
+    }
+}
+
+impl<'a> Site<'a> {
+    /// The type of the field of this name, where the type has it.
+    pub fn field_type(&self, ty: &'a SchemaType, name: &str) -> Option<FieldType<'a>>
+        ensures { option_map type_behind result ≡ field_type self.now ty.now name.now }
+    {
+        if has_typename(ty, name) {
+            return Some(FieldType::Typename);
+        }
+        if self.has_entities(ty, name) {
+            return Some(FieldType::Entities);
+        }
+        let declared = ty.declared(name)?;
+        Some(FieldType::Declared(declared.ty))
+    }
+
+    fn has_entities(&self, ty: &SchemaType, name: &str) -> bool
+        ensures { result ≡ has_entities self.now ty.now name.now }
+    {
+        self.entities && name == "_entities" && ty.name() == self.query
+    }
+}
+
+fn has_typename(ty: &SchemaType, name: &str) -> bool
+    ensures { result ≡ has_typename ty.now name.now }
+{
+    name == "__typename" && !is_subscription_type(ty)
+}
+
+fn is_subscription_type(ty: &SchemaType) -> bool
+    ensures { result ≡ is_subscription ty.now }
+{
+    matches!(ty, SchemaType::Subscription(_))
+}
+
+/// True exactly where fields of the type have sets.
+pub fn is_composite_type(ty: &SchemaType) -> bool
+    ensures { result ≡ is_composite ty.now }
+{
+    matches!(
+        ty,
+        SchemaType::Object(_) | SchemaType::Interface(_) | SchemaType::Union(_)
+    )
+}
+
+/// True exactly where fields of the type have no sets.
+pub fn is_leaf_type(ty: &SchemaType) -> bool
+    ensures { result ≡ is_leaf ty.now }
+{
+    matches!(ty, SchemaType::Scalar(_) | SchemaType::Enum(_))
+}

@@ -1,0 +1,76 @@
+//! The check of a document against a table of types.
+ghost use Rattle.std.specs.Prelude.{◌≡◌, IfOk, map};
+ghost use Rattle.gql_admit.specs.BreachOrder.{Lists};
+ghost use Rattle.gql_admit.specs.RulesChecked.{IsBreach, IsChecked, error_of, refused_with};
+
+use crate::breach::Breach;
+use crate::breach_order::sorted_once;
+use crate::circular::tell_circular;
+use crate::refusals::refuse;
+use crate::site::Site;
+use crate::walk::Against;
+use crate::walk_document::walk_document;
+use gql_base::{Items, Made, ServerError};
+use gql_doc::ExecutableDocument;
+use std::alloc::Global;
+
+/// Refuses a document that breaks a rule of the specification over the site's types, with all that it breaks, in the order of the
+/// document, each once (GraphQL, October 2021, section 5). Looked at are unknown fields, leaves with a set and other types without
+/// one, conditions on types that aren't composite, unknown fragments, and fragments that reach themselves.
+pub fn check_rules(
+    alloc: Global,
+    site: &Site<'_>,
+    doc: &ExecutableDocument,
+) -> Made<Result<(), Items<ServerError>>>
+    ensures { IfOk result (λ checked. IsChecked site.now doc.now checked) }
+{
+    let breaches = breaches_of(alloc, against(site, doc), doc)?;
+    refused(alloc, breaches.as_slice())
+}
+
+fn against<'a>(site: &'a Site<'a>, doc: &'a ExecutableDocument) -> Against<'a>
+    ensures site { result.site.now ≡ site.now }
+    ensures fragments { result.fragments.now ≡ doc.now.fragments }
+{
+    Against {
+        site,
+        fragments: &doc.fragments,
+    }
+}
+
+/// All breaches of a document in their order, each once.
+#[tactic(auto, using(crate::proofs::BreachLemmas::all_listed))]
+fn breaches_of(
+    alloc: Global,
+    against: Against<'_>,
+    doc: &ExecutableDocument,
+) -> Made<Items<Breach>>
+    requires { against.fragments.now ≡ doc.now.fragments }
+    ensures { IfOk result (λ breaches. Lists (IsBreach against.entry.site.now doc.now) breaches) }
+{
+    let mut found = Items::new(alloc);
+    walk_document(alloc, doc, &against, &mut found)?;
+    tell_circular(alloc, &doc.fragments, &mut found)?;
+    Ok(sorted_once(found))
+}
+
+#[tactic(auto, using(crate::proofs::BreachLemmas::some_refused))]
+fn refused(alloc: Global, breaches: &[Breach]) -> Made<Result<(), Items<ServerError>>>
+    ensures { IfOk result (λ checked. checked ≡ refused_with breaches.now) }
+{
+    if breaches.is_empty() {
+        return Ok(Ok(()));
+    }
+    let errors = errors_of(alloc, breaches)?;
+    Ok(Err(errors))
+}
+
+fn errors_of(alloc: Global, breaches: &[Breach]) -> Made<Items<ServerError>>
+    ensures { IfOk result (λ errors. errors ≡ map error_of breaches.now) }
+{
+    let mut errors = Items::with_capacity(alloc, breaches.len())?;
+    for breach in breaches {
+        errors.push(refuse(alloc, breach.text.as_str(), Some(breach.pos))?)?;
+    }
+    Ok(errors)
+}

@@ -1,0 +1,143 @@
+//! The walk over a whole document: its operations with a root, and its fragments, spread or not.
+ghost use Rattle.std.specs.Prelude.{◌≡◌, ◌++◌, OnOk};
+ghost use Rattle.std.specs.List.{flat_map};
+ghost use Rattle.std.specs.Option.{option_copied};
+ghost use Rattle.gql_base.specs.Pairs.{values_of};
+ghost use Rattle.gql_admit.specs.Places.{as_object, as_subscription, document_places, fragment_places, operation_places, root_of, type_named};
+ghost use Rattle.gql_admit.specs.Walking.{tells};
+
+use crate::breach::Breach;
+use crate::site::Site;
+use crate::walk::{Against, tell_condition, walk_named, walk_set};
+use gql_base::{Items, Made, Pairs};
+use gql_doc::{
+    DocumentOperations, ExecutableDocument, FragmentDefinition, OperationDefinition, OperationType,
+    Positioned,
+};
+use gql_schema::SchemaType;
+use std::alloc::Global;
+
+/// Tells the rules that are broken at the places of a document.
+#[tactic(auto, using(crate::proofs::ToldLemmas::told_both))]
+pub fn walk_document(
+    alloc: Global,
+    doc: &ExecutableDocument,
+    against: &Against<'_>,
+    found: &mut Items<Breach>,
+) -> Made<()>
+    ensures { OnOk result (found.new ≡ found.old ++ tells against.now (document_places against.now.site.now doc.now)) }
+{
+    match &doc.operations {
+        DocumentOperations::Single(operation) => walk_operation(alloc, operation, against, found)?,
+        DocumentOperations::Multiple(operations) => {
+            walk_operations(alloc, operations, against, found)?
+        }
+    }
+    walk_fragments(alloc, &doc.fragments, against, found)
+}
+
+fn walk_operations(
+    alloc: Global,
+    operations: &Pairs<Positioned<OperationDefinition>>,
+    against: &Against<'_>,
+    found: &mut Items<Breach>,
+) -> Made<()>
+    ensures { OnOk result (found.new ≡ found.old ++ tells against.now
+        (flat_map (operation_places against.now.site.now) (values_of operations.now))) }
+{
+    for place in 0..operations.len() {
+        let (_, operation) = operations.at(place);
+        walk_operation(alloc, operation, against, found)?;
+    }
+    Ok(())
+}
+
+fn walk_operation(
+    alloc: Global,
+    operation: &Positioned<OperationDefinition>,
+    against: &Against<'_>,
+    found: &mut Items<Breach>,
+) -> Made<()>
+    ensures { OnOk result (found.new ≡ found.old ++ tells against.now (operation_places against.now.site.now operation.now)) }
+{
+    match against.site.root(operation.node.ty) {
+        None => Ok(()),
+        Some(ty) => walk_set(alloc, &operation.node.selection_set.node, ty, against, found),
+    }
+}
+
+fn walk_fragments(
+    alloc: Global,
+    fragments: &Pairs<Positioned<FragmentDefinition>>,
+    against: &Against<'_>,
+    found: &mut Items<Breach>,
+) -> Made<()>
+    ensures { OnOk result (found.new ≡ found.old ++ tells against.now
+        (flat_map (fragment_places against.now.site.now) (values_of fragments.now))) }
+{
+    for place in 0..fragments.len() {
+        let (_, fragment) = fragments.at(place);
+        walk_fragment(alloc, fragment, against, found)?;
+    }
+    Ok(())
+}
+
+fn walk_fragment(
+    alloc: Global,
+    fragment: &Positioned<FragmentDefinition>,
+    against: &Against<'_>,
+    found: &mut Items<Breach>,
+) -> Made<()>
+    ensures { OnOk result (found.new ≡ found.old ++ tells against.now (fragment_places against.now.site.now fragment.now)) }
+{
+    let condition = &fragment.node.type_condition;
+    tell_condition(alloc, condition, against, found)?;
+    walk_named(
+        alloc,
+        &fragment.node.selection_set.node,
+        condition.node.as_str(),
+        against,
+        found,
+    )
+}
+
+impl<'a> Site<'a> {
+    /// The type at the root of a kind of operation, where there is one.
+    fn root(&self, kind: OperationType) -> Option<&'a SchemaType>
+        ensures { option_copied result ≡ root_of self.now kind }
+    {
+        match kind {
+            OperationType::Query => object_of(self.types.get(self.query)),
+            OperationType::Mutation => object_of(self.named(self.mutation)),
+            OperationType::Subscription => subscription_of(self.named(self.subscription)),
+        }
+    }
+
+    /// The type of a name, where there is one.
+    fn named(&self, name: Option<&str>) -> Option<&'a SchemaType>
+        ensures { option_copied result ≡ type_named self.now (option_copied name.entry) }
+    {
+        match name {
+            None => None,
+            Some(name) => self.types.get(name),
+        }
+    }
+}
+
+fn object_of(ty: Option<&SchemaType>) -> Option<&SchemaType>
+    ensures { option_copied result ≡ as_object (option_copied ty.entry) }
+{
+    match ty {
+        Some(SchemaType::Object(_)) => ty,
+        _ => None,
+    }
+}
+
+fn subscription_of(ty: Option<&SchemaType>) -> Option<&SchemaType>
+    ensures { option_copied result ≡ as_subscription (option_copied ty.entry) }
+{
+    match ty {
+        Some(SchemaType::Subscription(_)) => ty,
+        _ => None,
+    }
+}
