@@ -8,9 +8,10 @@ use Rattle.gql_form.specs.Read.{the_only}
 use Rattle.gql_form.specs.declared.bench_form.BenchForm.{BenchForm}
 use Rattle.gql_form.specs.declared.fields.FieldForm.{FieldForm}
 use Rattle.gql_form.specs.declared.schema_form.SchemaForm.{SchemaForm}
+use Rattle.gql_form.specs.declared.setup_form.SetupForm.{SetupForm}
 use Rattle.gql_form.specs.declared.type_form.ObjectForm.{ObjectForm}
 use Rattle.gql_form.specs.declared.type_form.TypeForm.{TypeForm}
-use Rattle.gql_cli.specs.FirstBench.{AreTaken, Takes, answer_constant, bare_name_here, field_with, first_field, first_fields, first_in, first_with, is_bare_setup, is_nothing, object_fields, object_form, query_alone, root_fields, takes_constant}
+use Rattle.gql_cli.specs.FirstBench.{AreTaken, Takes, answer_constant, bare_name_here, field_with, first_field, first_fields, first_in, first_over, first_with, is_bare_setup, is_nothing, object_fields, object_form, query_alone, root_fields, takes_constant}
 use Rattle.gql_cli.specs.declared.first_bench.FirstBench.{FirstBench}
 use Rattle.gql_cli.specs.declared.first_bench.FirstField.{FirstField}
 
@@ -128,19 +129,19 @@ type-taken : (root : List ℕ) (found : Option TypeForm) (fields : List FirstFie
 type-taken root None fields is = cc
 type-taken root (Some type) fields is = form-taken root (object_form type) fields is
 
-with-taken : (form : BenchForm) (query : List ℕ) (found : Option (List FirstField)) (first : FirstBench)
-    → ((fields : List FirstField) → found ≡ Some fields → AreTaken fields) → option_map (first_with form query) found ≡ Some first → AreTaken first.fields
-with-taken form query None first taken is = cc
-with-taken form query (Some fields) first taken is =
-    let same : first_with form query fields ≡ first = cc in
+with-taken : (setup : SetupForm) (query : List ℕ) (found : Option (List FirstField)) (first : FirstBench)
+    → ((fields : List FirstField) → found ≡ Some fields → AreTaken fields) → option_map (first_with setup query) found ≡ Some first → AreTaken first.fields
+with-taken setup query None first taken is = cc
+with-taken setup query (Some fields) first taken is =
+    let same : first_with setup query fields ≡ first = cc in
     subst (λ (f : FirstBench). AreTaken f.fields) same (taken fields refl)
 
-query-taken : (form : BenchForm) (found : Option (List ℕ)) (first : FirstBench)
-    → option_and_then (λ query. option_map (first_with form query) (root_fields form.setup.schema)) found ≡ Some first → AreTaken first.fields
-query-taken form None first is = cc
-query-taken form (Some query) first is =
-    with-taken form query (root_fields form.setup.schema) first
-    (λ fields. type-taken form.setup.schema.query (the_only form.setup.schema.types) fields) is
+query-taken : (setup : SetupForm) (found : Option (List ℕ)) (first : FirstBench)
+    → option_and_then (first_over setup) found ≡ Some first → AreTaken first.fields
+query-taken setup None first is = cc
+query-taken setup (Some query) first is =
+    with-taken setup query (root_fields setup.schema) first
+    (λ fields. type-taken setup.schema.query (the_only setup.schema.types) fields) is
 
 pub first-taken : (form : BenchForm) (first : FirstBench) → first_in form ≡ Some first → AreTaken first.fields
-first-taken form first is = query-taken form (query_alone form.work) first (behind-test (is_bare_setup form.setup) _ first is)
+first-taken form first is = query-taken form.setup (query_alone form.work) first (behind-test (is_bare_setup form.setup) _ first is)

@@ -137,14 +137,16 @@ abbrev pub query_alone : WorkForm → Option (List ℕ)
 query_alone (work.One request) = query_of request
 query_alone _ = None
 
-abbrev pub first_with : BenchForm → List ℕ → List FirstField → FirstBench
-first_with form query fields = record { root = form.setup.schema.query; fields = fields; query = query; turns = form.setup.turns }
+abbrev pub first_with : SetupForm → List ℕ → List FirstField → FirstBench
+first_with setup query fields = record { root = setup.schema.query; fields = fields; query = query; turns = setup.turns }
+
+-- the first bench of this query, if the schema is that of one
+abbrev pub first_over : SetupForm → List ℕ → Option FirstBench
+first_over setup query = option_map (first_with setup query) (root_fields setup.schema)
 
 -- the first bench that a bench is, if it is one
 abbrev pub first_in : BenchForm → Option FirstBench
-first_in form =
-    if is_bare_setup form.setup then option_and_then
-    (λ query. option_map (first_with form query) (root_fields form.setup.schema)) (query_alone form.work) else None
+first_in form = if is_bare_setup form.setup then option_and_then (first_over form.setup) (query_alone form.work) else None
 
 -- the fields' constants under the fields' names
 abbrev pub constants : List FirstField → List (List ℕ × Value)

@@ -42,6 +42,12 @@ HasTables command json bench = (form : BenchForm) × IsReadAs command json form 
 abbrev pub IsNotBuilt : Command → Data → Type 0
 IsNotBuilt command json = (form : BenchForm) × IsReadAs command json form × IsNoFirstBench form
 
+-- what a bench is found to be
+abbrev pub IsFoundOf : BenchForm → Found → Type 0
+IsFoundOf form (found.Bench bench) = IsBenchOf form bench
+IsFoundOf form (found.BadAt place) = ⊥
+IsFoundOf form found.NotBuilt = IsNoFirstBench form
+
 -- what is found in a JSON value
 abbrev pub IsFound : Command → Data → Found → Type 0
 IsFound command json (found.Bench bench) = HasTables command json bench

@@ -4,7 +4,7 @@ ghost use Rattle.serde_json.specs.View.{view};
 ghost use Rattle.gql_cli.specs.Bench.{json_of, bench_request, behind, lines_for, JsonGives, QueryGives, Gives, HoldsTold, WithRecord};
 ghost use Rattle.gql_cli.specs.BenchAnswers.{IsBenchOf, IsSuited, IsSetOf};
 ghost use Rattle.gql_cli.specs.FirstBench.{IsNoFirstBench};
-ghost use Rattle.gql_cli.specs.Shape.{form_command, shape_line, HasTables, IsBadAt, IsFound, IsNotBuilt};
+ghost use Rattle.gql_cli.specs.Shape.{form_command, shape_line, HasTables, IsBadAt, IsFound, IsFoundOf, IsNotBuilt};
 
 use crate::answer::{refusal_of, response_of};
 use crate::first_bench::first_of;
@@ -100,8 +100,9 @@ fn bench_text<M: Tables>(
 ) -> Made<Written>
     ensures { IfOk result (WithRecord (JsonGives command (view json)) (HoldsTold (M.held tables.new) M.Set.told)) }
 {
-    let found = find_bench(alloc, command, &json)?;
+    let read = find_bench(alloc, command, &json);
     drop(json);
+    let found = read?;
     match found {
         Found::Bench(bench) => query_text(alloc, command, &bench, tables),
         Found::BadAt(place) => Ok(Written::BadShape(bad_shape_line(alloc, &place)?)),
@@ -194,11 +195,26 @@ fn find_bench(alloc: Global, command: Command, json: &Value) -> Made<Found>
     ensures { IfOk result (IsFound command (view json.now)) }
 {
     match form_of(alloc, command.form(), json)? {
-        Ok(form) => match tables_of_form(alloc, &form)? {
-            Some(bench) => Ok(Found::Bench(bench)),
-            None => Ok(Found::NotBuilt),
-        },
+        Ok(form) => found_of(alloc, form),
         Err(place) => Ok(Found::BadAt(place)),
+    }
+}
+
+/// What a bench is found to be. It is let go of once its tables are made.
+fn found_of(alloc: Global, form: BenchForm) -> Made<Found>
+    ensures { IfOk result (IsFoundOf form) }
+{
+    let found = found_in(alloc, &form);
+    drop(form);
+    found
+}
+
+fn found_in(alloc: Global, form: &BenchForm) -> Made<Found>
+    ensures { IfOk result (IsFoundOf form.now) }
+{
+    match tables_of_form(alloc, form)? {
+        Some(bench) => Ok(Found::Bench(bench)),
+        None => Ok(Found::NotBuilt),
     }
 }
 

@@ -4,7 +4,7 @@ ghost use Rattle.std.specs.Option.{option_copied};
 ghost use Rattle.gql_base.specs.Kinds.{is_null};
 ghost use Rattle.gql_base.specs.declared.type_ref.TypeRef.{out-TypeRef};
 ghost use Rattle.gql_form.specs.Read.{the_only};
-ghost use Rattle.gql_cli.specs.FirstBench.{answer_constant, are_bare_settings, bare_name_here, first_field, first_fields, first_in, is_bare_schema, is_bare_setup, is_enabled, is_first_type, is_nothing, is_null_value, is_unlogged, object_fields, object_form, plain_value, query_alone, query_of, root_fields, rule_constant, takes_constant};
+ghost use Rattle.gql_cli.specs.FirstBench.{answer_constant, are_bare_settings, bare_name_here, first_field, first_fields, first_in, first_over, is_bare_schema, is_bare_setup, is_enabled, is_first_type, is_nothing, is_null_value, is_unlogged, object_fields, object_form, plain_value, query_alone, query_of, root_fields, rule_constant, takes_constant};
 
 use gql_base::{Copied, Items, Made, Name, Pairs, Text, TypeRef, Value};
 use gql_engine::takes_value;
@@ -38,21 +38,30 @@ pub struct FirstBench {
 pub(crate) fn first_of(alloc: Global, form: &BenchForm) -> Made<Option<FirstBench>>
     ensures { IfOk result (λ found. found ≡ first_in form.now) }
 {
-    let setup = &form.setup;
-    if !is_bare_setup(setup) {
+    if !is_bare_setup(&form.setup) {
         return Ok(None);
     }
-    let Some(query) = query_alone(&form.work) else {
-        return Ok(None);
-    };
-    match root_fields(alloc, &setup.schema)? {
+    match query_alone(&form.work) {
+        Some(query) => first_over(alloc, &form.setup, query),
         None => Ok(None),
+    }
+}
+
+/// The first bench of this query, if the schema is that of one.
+fn first_over(alloc: Global, setup: &SetupForm, query: &str) -> Made<Option<FirstBench>>
+    ensures { IfOk result (λ found. found ≡ first_over setup.now query.now) }
+{
+    let root = Name::new(alloc, setup.schema.query.as_str())?;
+    let query = Text::new(alloc, query)?;
+    let turns = Items::from_slice(alloc, setup.turns.as_slice())?;
+    match root_fields(alloc, &setup.schema)? {
         Some(fields) => Ok(Some(FirstBench {
-            root: Name::new(alloc, setup.schema.query.as_str())?,
+            root,
             fields,
-            query: Text::new(alloc, query)?,
-            turns: Items::from_slice(alloc, setup.turns.as_slice())?,
+            query,
+            turns,
         })),
+        None => Ok(None),
     }
 }
 
