@@ -2,15 +2,19 @@
 use Rattle.std.proofs.Common.{◌≡◌, ℕ, List, [], ◌∷◌, Option, Some, None, Result, Ok, Err, IfOk, MatchOption, refl, ap, sym, ◌∙◌, subst}
 use Rattle.serde_json.specs.Data.{Data}
 use Rattle.gql_base.specs.Pairs.{HasDistinctNames}
+use Rattle.gql_form.specs.BenchForm.{form_in}
 use Rattle.gql_form.specs.declared.bench_form.BenchForm.{BenchForm}
+use Rattle.gql_form.specs.declared.command.Command.{Command as FormCommand}
 use Rattle.gql_resolve.specs.declared.record_entry.RecordEntry.{RecordEntry}
 use Rattle.gql_cli.specs.Answer.{IsAnswerOf, IsRefusalOf, answers_of}
 use Rattle.gql_cli.specs.Bench.{json_of, bench_request, first_request, BenchGives, Gives, JsonGives, QueryGives, WithRecord}
 use Rattle.gql_cli.specs.BenchAnswers.{IsBenchOf, IsSuited}
 use Rattle.gql_cli.specs.FirstBench.{AreTaken, IsFirstBench, IsNoFirstBench, constants, first_in}
-use Rattle.gql_cli.specs.Shape.{HasTables, IsNotBuilt, IsReadAs}
+use Rattle.gql_cli.specs.Shape.{HasTables, IsBadAt, IsFound, IsFoundOf, IsNotBuilt, IsReadAs, form_command}
 use Rattle.gql_cli.specs.Tables.{IsTableOf}
 use Rattle.gql_cli.specs.declared.bench.Command.{Command}
+use Rattle.gql_cli.specs.declared.bench.Found.{Found}
+use Rattle.gql_cli.specs.declared.bench.Found.TheVariants as found
 use Rattle.gql_cli.specs.declared.bench.Written.{Written}
 use Rattle.gql_cli.specs.declared.bench.Written.TheVariants.{Answered, Refused, NotJson, BadShape, NotBuilt}
 use Rattle.gql_cli.specs.declared.first_bench.FirstBench.{FirstBench}
@@ -112,3 +116,21 @@ none-made form none first (is, distinct) = let wrong : None ≡ Some first = sym
 pub suited : (command : Command) (json : Data) (bench : Bench) → HasTables command json bench → IsSuited bench
 suited command json bench (form, read, made) =
     record { first = made.first; tabled = made.tabled; taken = first-taken form made.first made.is.0 }
+
+-- a JSON value is read as a bench by the command that is a command's own
+pub read-by : (by : FormCommand) (command : Command) (json : Data) (form : BenchForm) → by ≡ form_command command → Ok form ≡ form_in by json
+    → IsReadAs command json form
+read-by by command json form same read = sym (read ∙ ap (λ b. form_in b json) same)
+
+-- the same of a bad place
+pub bad-by : (by : FormCommand) (command : Command) (json : Data) (place : List ℕ) → by ≡ form_command command → Err place ≡ form_in by json
+    → IsBadAt command json place
+bad-by by command json place same read = sym (read ∙ ap (λ b. form_in b json) same)
+
+-- what a bench is found to be, a JSON value is found to be that is read as it
+pub found-read : {E : Type 0} (command : Command) (json : Data) (form : BenchForm) → IsReadAs command json form → (made : Result Found E)
+    → IfOk made (IsFoundOf form) → IfOk made (IsFound command json)
+found-read command json form read (Ok (found.Bench bench)) is = (form, read, is)
+found-read command json form read (Ok (found.BadAt place)) is = absurd is
+found-read command json form read (Ok found.NotBuilt) is = (form, read, is)
+found-read command json form read (Err want) is = is
