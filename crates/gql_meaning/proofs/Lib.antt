@@ -1,4 +1,8 @@
 pub mod CompletionLemmas
 pub mod ExecutionLemmas
 pub mod LawProofs
+mod DocumentRows
+mod FragmentRows
+mod MutationRows
 mod Rows
+mod Written

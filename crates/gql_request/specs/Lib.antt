@@ -1,4 +1,6 @@
 pub mod Data
+pub mod ExtensionContext
+pub mod HookEvent
 pub mod KeyTree
 pub mod Path
 pub mod Parents

@@ -1,7 +1,8 @@
 ghost use Rattle.std.specs.Prelude.{◌≡◌, IsSome, Some, None, MatchResult, Option};
-ghost use Rattle.std.specs.Option.{option_copied};
+ghost use Rattle.std.specs.Option.{option_copied, option_or};
+ghost use Rattle.gql_request.specs.Data.{under_key};
 
-use crate::data::{DataKey, NoData};
+use crate::data::{Data, DataKey, NoData};
 use gql_base::Value;
 
 /// What tells the values of one or more layers by their keys.
@@ -25,4 +26,14 @@ pub trait DataContext<'a> {
     fn data_unchecked(&self, key: DataKey) -> &'a Value
         requires { IsSome (held self.now key.0) }
         ensures { held self.now key.0 ≡ Some result.now };
+}
+
+/// What was found in an earlier layer, else what this one has.
+pub fn found_or<'a>(earlier: Option<&'a Value>, layer: &'a Data, key: DataKey) -> Option<&'a Value>
+    ensures { option_copied result ≡ option_or (option_copied earlier.entry) (under_key key.0 layer.now) }
+{
+    match earlier {
+        Some(value) => Some(value),
+        None => layer.get(key),
+    }
 }

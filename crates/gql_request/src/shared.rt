@@ -1,7 +1,8 @@
 //! Requests, responses and what they hold can be moved to threads and shared between them.
 use crate::{
-    BatchRequest, BatchResponse, Data, DataKey, HeaderOp, Hooks, IntrospectionMode, NoData,
-    Parents, ParseRequestError, QueryEnv, QueryPathNode, Request, Response,
+    BatchRequest, BatchResponse, Data, DataKey, ExtensionContext, HeaderOp, HookEvent, HookStage,
+    Hooks, IntrospectionMode, NoData, Parents, ParseRequestError, QueryEnv, QueryPathNode, Request,
+    Response,
 };
 
 fn shared<T: Send + Sync>() {}
@@ -10,6 +11,8 @@ fn public_types<'a>() {
     shared::<Data>();
     shared::<DataKey>();
     shared::<HeaderOp>();
+    shared::<HookEvent>();
+    shared::<HookStage>();
     shared::<Hooks>();
     shared::<IntrospectionMode>();
     shared::<NoData>();
@@ -20,6 +23,10 @@ fn public_types<'a>() {
 
 fn of_query_env() {
     shared::<QueryEnv>();
+}
+
+fn of_extension_context<'a>() {
+    shared::<ExtensionContext<'a>>();
 }
 
 fn of_request() {

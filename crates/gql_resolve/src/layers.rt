@@ -1,9 +1,8 @@
 ghost use Rattle.std.specs.Prelude.{◌≡◌, IsSome, Some, None, MatchResult};
-ghost use Rattle.std.specs.Option.{option_copied, option_or};
-ghost use Rattle.gql_request.specs.Data.{under_key};
+ghost use Rattle.std.specs.Option.{option_copied};
 
 use gql_base::Value;
-use gql_request::{Data, DataContext, DataKey, NoData};
+use gql_request::{Data, DataContext, DataKey, NoData, found_or};
 
 /// The data that a resolver sees, in layers. A key is searched in the order in which they stand here.
 #[derive(Clone, Copy)]
@@ -19,7 +18,8 @@ pub struct Layers<'a> {
 }
 
 impl<'a> DataContext<'a> for Layers<'a> {
-    ghost use Rattle.gql_resolve.specs.Layers.{layers_of, found};
+    ghost use Rattle.gql_request.specs.Data.{found};
+    ghost use Rattle.gql_resolve.specs.Layers.{layers_of};
 
     ghost held = { λ layers key. found key (layers_of layers) };
 
@@ -47,15 +47,5 @@ impl<'a> DataContext<'a> for Layers<'a> {
             Some(value) => value,
             None => unreachable!(),
         }
-    }
-}
-
-/// What was found in an earlier layer, else what this one has.
-fn found_or<'a>(earlier: Option<&'a Value>, layer: &'a Data, key: DataKey) -> Option<&'a Value>
-    ensures { option_copied result ≡ option_or (option_copied earlier.entry) (under_key key.0 layer.now) }
-{
-    match earlier {
-        Some(value) => Some(value),
-        None => layer.get(key),
     }
 }

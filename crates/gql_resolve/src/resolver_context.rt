@@ -43,7 +43,8 @@ impl<'a, V> Clone for ResolverContext<'a, V> {
 }
 
 impl<'a, V> DataContext<'a> for ResolverContext<'a, V> {
-    ghost use Rattle.gql_resolve.specs.Layers.{layers_of, found};
+    ghost use Rattle.gql_request.specs.Data.{found};
+    ghost use Rattle.gql_resolve.specs.Layers.{layers_of};
 
     ghost held = { λ context key. found key (layers_of context.layers) };
 

@@ -1,0 +1,16 @@
+//! Schemas and requests can be moved to threads and shared between them.
+use crate::{Schema, SchemaBuilder, Settings};
+
+fn shared<T: Send + Sync>() {}
+
+fn of_settings() {
+    shared::<Settings>();
+}
+
+fn of_builder() {
+    shared::<SchemaBuilder>();
+}
+
+fn of_schema() {
+    shared::<Schema>();
+}

@@ -1,0 +1,106 @@
+-- A whole mutation, computed from a document to its response and its last world. The world is one number.
+use Rattle.std.proofs.Common.{rules, ◌≡◌, ℕ, pos, true, false, ◌+◌, ◌==◌, [], ◌∷◌, Some, None, unwrap_or, ap, ◌∙◌}
+use Rattle.std.specs.Prelude.{codes, if◌then◌else◌, option_and_then}
+use Rattle.gql_base.specs.Kinds.{unsigned_number_of}
+use Rattle.gql_base.specs.Pairs.{under}
+use Rattle.gql_base.specs.declared.type_ref.TypeRef.{TypeRef, the_lemmas as type_lemmas}
+use Rattle.gql_base.specs.declared.type_ref.TypeRef.TheVariants as ref
+use Rattle.gql_base.specs.declared.value.Value.{the_lemmas as value_lemmas}
+use Rattle.gql_base.specs.declared.value.Value.TheVariants as value
+use Rattle.gql_doc.specs.declared.document.DocValue.{the_lemmas as doc_lemmas}
+use Rattle.gql_doc.specs.declared.document.DocValue.TheVariants as doc
+use Rattle.gql_doc.specs.declared.document.Field.{out-Field, roll-Field}
+use Rattle.gql_doc.specs.declared.document.InlineFragment.{out-InlineFragment, roll-InlineFragment}
+use Rattle.gql_doc.specs.declared.document.Selection.{out-Selection}
+use Rattle.gql_doc.specs.declared.document.Selection.TheBlock.{shown-the_row-SelectionSet-items-2-0}
+use denote.Hole.Carrier.{out, roll, shown, hidden}
+use Rattle.gql_meaning.specs.Execution.{Execution, setting_in}
+use Rattle.gql_meaning.specs.Responses.{Asked, last_world, Members, mutation_merged, placed as place_of, Response, response, world_after}
+use Rattle.gql_place.specs.declared.place.Tree.{the_lemmas as tree_lemmas}
+use Rattle.gql_place.specs.declared.shape.Shape.{the_lemmas as shape_lemmas}
+use Rattle.gql_resolve.specs.Call.{Call}
+use Rattle.gql_resolve.specs.declared.answer.Answer.{Answer}
+use Rattle.gql_resolve.specs.declared.field_value.FieldValue.{the_lemmas as given_lemmas}
+use Rattle.gql_resolve.specs.declared.field_value.FieldValue.TheVariants as kind
+use Rattle.gql_schema.specs.TableReading.{TypeTable}
+use Rattle.gql_schema.specs.declared.scalar_rule.ScalarRule.TheVariants as rules_of
+use Rattle.gql_schema.specs.declared.schema_type.SchemaType.TheVariants as types
+use Rattle.gql_select.specs.Documents.{reading}
+use Rattle.gql_select.specs.Grouped.{serial_grouped, world_behind}
+use Rattle.gql_select.specs.Kept.{kept}
+use Rattle.gql_select.specs.Reading.{merged}
+use Rattle.gql_meaning.proofs.Written.{answered_by, argument, at, given_field, gives_number, keeps_field, leaf, object_of, over_table, placed, Selections, set}
+
+abbrev int_type : TypeRef
+int_type = ref.Named (codes "Int")
+
+-- `Mutation { bump(by: Int): Int, cell: Int }`
+abbrev cells_table : TypeTable
+cells_table =
+    (codes "Int", types.Scalar (record { name = codes "Int"; rule = rules_of.Int }))
+    ∷ object_of (codes "Mutation") []
+    ((codes "bump", record { name = codes "bump"; ty = int_type; resolver = 1; arguments = (codes "by", record { name = codes "by"; ty = int_type; default = None }) ∷ [] })
+    ∷ answered_by 2 (codes "cell") int_type ∷ [])
+    ∷ []
+
+abbrev cells : Execution
+cells = over_table cells_table []
+
+-- by how much the cell is raised
+abbrev by : Call ℕ → ℕ
+by call = unwrap_or (option_and_then unsigned_number_of (under (codes "by") call.arguments)) 1
+
+-- the cell behind a call: `bump` raises it
+abbrev effect : Call ℕ → ℕ → ℕ
+effect call cell = if call.resolver == 1 then cell + by call else cell
+
+-- `bump` answers the raised cell, and `cell` the cell
+abbrev answer : Call ℕ → ℕ → Answer ℕ
+answer call cell = gives_number (pos (effect call cell))
+
+-- mutation { bump(by:1) x:bump(by:2) bump(by:1) cell }
+abbrev bumps : Selections
+bumps =
+    given_field 12 None (codes "bump") (argument (codes "by") (doc.Number (pos 1)) ∷ []) (set 12 [])
+    ∷ given_field 23 (Some (placed 23 (codes "x"))) (codes "bump") (argument (codes "by") (doc.Number (pos 2)) ∷ []) (set 23 [])
+    ∷ given_field 36 None (codes "bump") (argument (codes "by") (doc.Number (pos 1)) ∷ []) (set 36 []) ∷ leaf 47 (codes "cell") ∷ []
+
+abbrev bumping : Asked ℕ
+bumping = record { object = codes "Mutation"; parent = kind.Own 0; selections = bumps }
+
+kept_bumps : kept cells.known bumps ≡ bumps
+kept_bumps = search (rules, keeps_field) depth 12
+
+-- the members, without looking for `@skip` and `@include`
+abbrev members : Members
+members =
+    serial_grouped (reading (setting_in cells)) (world_after cells effect bumping)
+    (λ cell. place_of cells true (λ call. answer call cell))
+    (λ cell. place_of cells false (λ call. answer call cell))
+    4 (codes "Mutation") (kind.Own 0) bumps 0
+
+members_are : mutation_merged cells effect answer 4 bumping 0 ≡ members
+members_are =
+    ap (λ left. serial_grouped (reading (setting_in cells)) (world_after cells effect bumping)
+    (λ cell. place_of cells true (λ call. answer call cell))
+    (λ cell. place_of cells false (λ call. answer call cell))
+    4 (codes "Mutation") (kind.Own 0) left 0) kept_bumps
+
+abbrev bumped : Response
+bumped = record {
+  value = value.Object ((codes "bump", value.Number (pos 1)) ∷ (codes "x", value.Number (pos 3)) ∷ (codes "cell", value.Number (pos 3)) ∷ []);
+  errors = [];
+  headers = [];
+}
+
+-- the doubled key is answered once, and each key sees the world behind those before it
+doubled_roots : response (at 1) (mutation_merged cells effect answer 4 bumping 0) ≡ bumped
+unfolding out-Selection out-Field out-InlineFragment roll-Field roll-InlineFragment out roll shown-the_row-SelectionSet-items-2-0 shown hidden
+doubled_roots = ap (response (at 1)) members_are
+    ∙ search (rules, doc_lemmas, type_lemmas, shape_lemmas, given_lemmas, value_lemmas, tree_lemmas)
+
+last_cell : last_world cells effect bumping 0 ≡ 3
+unfolding out-Selection out-Field out-InlineFragment roll-Field roll-InlineFragment out roll shown-the_row-SelectionSet-items-2-0 shown hidden
+last_cell =
+    ap (λ left. world_behind (world_after cells effect bumping) 0 (merged (reading (setting_in cells)) ((reading (setting_in cells)).fields (codes "Mutation") left))) kept_bumps
+    ∙ search (rules, doc_lemmas, value_lemmas)
