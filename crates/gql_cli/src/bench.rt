@@ -34,7 +34,7 @@ pub enum Written {
 }
 
 /// What is found in a JSON value.
-#[derive(Debug, Drop)]
+#[derive(Drop)]
 enum Found {
     /// A bench that is built.
     Bench(Bench),

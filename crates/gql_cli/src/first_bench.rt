@@ -205,7 +205,7 @@ fn object_fields(alloc: Global, root: &str, object: &ObjectForm) -> Made<Option<
     }
 }
 
-#[tactic(auto, using(crate::proofs::FirstLemmas::fields_more, crate::proofs::FirstLemmas::fields_none, crate::proofs::FirstLemmas::fields_done))]
+#[tactic(auto, using(crate::proofs::FirstLemmas::fields_done))]
 fn first_fields(alloc: Global, forms: &Pairs<FieldForm>) -> Made<Option<Items<FirstField>>>
     ensures { IfOk result (λ found. found ≡ first_fields [] forms.now) }
 {
