@@ -109,7 +109,10 @@ fn what_is_not_built_is_told(rt: HostRuntime) -> Result<(), Fail> {
         ("field", "\"type\":\"ID\",\"answer\":{\"const\":\"1\"}"),
         ("field", "\"type\":\"Int\",\"answer\":{\"const\":\"1\"}"),
         ("field", "\"type\":\"Int\",\"answer\":{\"fail\":\"no\"}"),
-        ("field", "\"type\":\"Int\",\"answer\":{\"const\":{\"$own\":1}}"),
+        (
+            "field",
+            "\"type\":\"Int\",\"answer\":{\"const\":{\"$own\":1}}",
+        ),
         (
             "field",
             "\"type\":\"Int\",\"answer\":{\"const\":1,\"added\":[\"x\"]}",
