@@ -1,19 +1,22 @@
 -- What the bytes of a bench give is one thing, with one record.
-use Rattle.std.proofs.Common.{◌≡◌, ℕ, List, [], ◌∷◌, ◌++◌, Option, Some, None, refl, ap, sym, ◌∙◌, subst}
+use Rattle.std.proofs.Common.{◌≡◌, ℕ, List, [], ◌∷◌, ◌++◌, Option, Some, None, Result, Ok, Err, refl, ap, sym, ◌∙◌, subst}
 use Rattle.std.specs.Str.{chars}
 use Rattle.serde_json.specs.Data.{Data}
 use Rattle.gql_base.specs.declared.value.Value.{Value}
 use Rattle.gql_doc.specs.declared.document.ExecutableDocument.{ExecutableDocument}
+use Rattle.gql_form.specs.BenchForm.{form_in}
+use Rattle.gql_form.specs.declared.bench_form.BenchForm.{BenchForm}
 use Rattle.gql_doc.proofs.ParseLaws.{one_document, one_document_fault, never_both}
 use Rattle.gql_resolve.specs.declared.record_entry.RecordEntry.{RecordEntry}
 use Rattle.gql_cli.specs.Answer.{Chooses, IsAnswerOf, IsRefusalOf, IsResponse, error_of, refusal_line, response_line}
-use Rattle.gql_cli.specs.Bench.{Gives, IfResponse, IsAnswered, JsonGives, first_request, json_of, lines_for}
+use Rattle.gql_cli.specs.Bench.{BenchGives, Gives, IfResponse, IsAnswered, JsonGives, first_request, json_of, lines_for}
 use Rattle.gql_cli.specs.BenchRecord.{AreAsked, BenchTask, IsDocumentRecord, IsQueryRecord, IsRecord}
+use Rattle.gql_cli.specs.Shape.{IsBadShape, IsReadAs, form_command, shape_line}
 use Rattle.gql_cli.specs.declared.bench.Command.{Command}
 use Rattle.gql_cli.specs.declared.bench.Written.{Written}
-use Rattle.gql_cli.specs.declared.bench.Written.TheVariants.{Answered, Refused, NotJson, NotBuilt}
+use Rattle.gql_cli.specs.declared.bench.Written.TheVariants.{Answered, Refused, NotJson, BadShape, NotBuilt}
 use Rattle.gql_cli.specs.declared.first_bench.FirstBench.{FirstBench}
-use Rattle.gql_cli.proofs.BenchLemmas.{shaped-same, some-same}
+use Rattle.gql_cli.proofs.BenchLemmas.{first-same, some-same}
 use Rattle.gql_cli.proofs.QueryLemmas.{asks-same}
 use Rattle.gql_cli.proofs.RecordLemmas.{one-record}
 
@@ -81,32 +84,76 @@ module _ (command : Command) where
       let response = answer-same request.answers request.query a.response b.response a.answers b.answers in
       (ap Answered (a.is ∙ (λ i. lines_for command (told i) ++ response i) ∙ sym b.is), told)
 
+  -- what a bench gives
+  bench-same : (form : BenchForm) (one other : Written) (entries others : List RecordEntry) → BenchGives command form one entries
+      → BenchGives command form other others → AreOne one other entries others
+  bench-same form (Answered s) (Answered t) entries others (f, shaped, a) (g, shaped', b) =
+      let same = first-same form f g shaped.0 shaped'.0 in
+      answered-same g s t entries others (subst (λ first. IsAnswered command (first_request first) s entries) same a) b
+  bench-same form (Answered s) (Refused t) entries others (f, shaped, a) ((g, shaped', refusal), none) =
+      let same = first-same form g f shaped'.0 shaped.0 in
+      let request = first_request f in
+      absurd (never-answered request.answers f.query a.response t a.answers (subst (λ (first : FirstBench). IsRefusalOf first.query t) same refusal))
+  bench-same form (Answered s) NotBuilt entries others (f, shaped, a) none = absurd (none.0 a.response (f, shaped, a.answers))
+  bench-same form (Answered s) NotJson entries others a b = absurd b
+  bench-same form (Refused s) (Answered t) entries others ((g, shaped', refusal), none) (f, shaped, a) =
+      let same = first-same form g f shaped'.0 shaped.0 in
+      let request = first_request f in
+      absurd (never-answered request.answers f.query a.response s a.answers (subst (λ (first : FirstBench). IsRefusalOf first.query s) same refusal))
+  bench-same form (Refused s) (Refused t) entries others ((f, shaped, a), none) ((g, shaped', b), none') =
+      let same = first-same form f g shaped.0 shaped'.0 in
+      (ap Refused (refusal-same g.query s t (subst (λ (first : FirstBench). IsRefusalOf first.query s) same a) b), none ∙ sym none')
+  bench-same form (Refused s) NotBuilt entries others (refusal, empty) none = absurd (none.1 s refusal)
+  bench-same form (Refused s) NotJson entries others a b = absurd b
+  bench-same form NotBuilt (Answered t) entries others none (f, shaped, b) = absurd (none.0 b.response (f, shaped, b.answers))
+  bench-same form NotBuilt (Refused t) entries others none (refusal, empty) = absurd (none.1 t refusal)
+  bench-same form NotBuilt NotBuilt entries others a b = (refl, tt)
+  bench-same form NotBuilt NotJson entries others a b = absurd b
+  bench-same form (Answered s) (BadShape t) entries others a b = absurd b
+  bench-same form (Refused s) (BadShape t) entries others a b = absurd b
+  bench-same form NotBuilt (BadShape t) entries others a b = absurd b
+  bench-same form NotJson other entries others a b = absurd a
+  bench-same form (BadShape s) other entries others a b = absurd a
+
+  never-both : (json : Data) (s : List ℕ) → IsBadShape command json s → (form : BenchForm) → IsReadAs command json form → ⊥
+  never-both json s (place, bad, is) form read = let wrong : Err place ≡ Ok form = sym bad ∙ read in cc
+
+  read-same : (json : Data) (form other : BenchForm) → IsReadAs command json form → IsReadAs command json other → form ≡ other
+  read-same json form other one two = let both : Ok form ≡ Ok other = sym one ∙ two in cc
+
+  -- what a JSON value gives as a bench, where it is read as one
+  read-gives : (json : Data) (form : BenchForm) → IsReadAs command json form → (written : Written) (entries : List RecordEntry)
+      → JsonGives command json written entries → BenchGives command form written entries
+  read-gives json form read (BadShape s) entries bad = absurd (never-both json s bad form read)
+  read-gives json form read (Answered s) entries (other, also, gives) =
+      subst (λ f. BenchGives command f (Answered s) entries) (read-same json other form also read) gives
+  read-gives json form read (Refused s) entries (other, also, gives) =
+      subst (λ f. BenchGives command f (Refused s) entries) (read-same json other form also read) gives
+  read-gives json form read NotBuilt entries (other, also, gives) =
+      subst (λ f. BenchGives command f NotBuilt entries) (read-same json other form also read) gives
+  read-gives json form read NotJson entries (other, also, gives) = gives
+
   -- what a JSON value gives
   json-same : (json : Data) (one other : Written) (entries others : List RecordEntry) → JsonGives command json one entries
       → JsonGives command json other others → AreOne one other entries others
-  json-same json (Answered s) (Answered t) entries others (f, shaped, a) (g, shaped', b) =
-      let same = shaped-same json f g shaped.0 shaped'.0 in
-      answered-same g s t entries others (subst (λ first. IsAnswered command (first_request first) s entries) same a) b
-  json-same json (Answered s) (Refused t) entries others (f, shaped, a) ((g, shaped', refusal), none) =
-      let same = shaped-same json g f shaped'.0 shaped.0 in
-      let request = first_request f in
-      absurd (never-answered request.answers f.query a.response t a.answers (subst (λ (first : FirstBench). IsRefusalOf first.query t) same refusal))
-  json-same json (Answered s) NotBuilt entries others (f, shaped, a) none = absurd (none.0 a.response (f, shaped, a.answers))
-  json-same json (Answered s) NotJson entries others a b = absurd b
-  json-same json (Refused s) (Answered t) entries others ((g, shaped', refusal), none) (f, shaped, a) =
-      let same = shaped-same json g f shaped'.0 shaped.0 in
-      let request = first_request f in
-      absurd (never-answered request.answers f.query a.response s a.answers (subst (λ (first : FirstBench). IsRefusalOf first.query s) same refusal))
-  json-same json (Refused s) (Refused t) entries others ((f, shaped, a), none) ((g, shaped', b), none') =
-      let same = shaped-same json f g shaped.0 shaped'.0 in
-      (ap Refused (refusal-same g.query s t (subst (λ (first : FirstBench). IsRefusalOf first.query s) same a) b), none ∙ sym none')
-  json-same json (Refused s) NotBuilt entries others (refusal, empty) none = absurd (none.1 s refusal)
-  json-same json (Refused s) NotJson entries others a b = absurd b
-  json-same json NotBuilt (Answered t) entries others none (f, shaped, b) = absurd (none.0 b.response (f, shaped, b.answers))
-  json-same json NotBuilt (Refused t) entries others none (refusal, empty) = absurd (none.1 t refusal)
-  json-same json NotBuilt NotBuilt entries others a b = (refl, tt)
-  json-same json NotBuilt NotJson entries others a b = absurd b
-  json-same json NotJson other entries others a b = absurd a
+  json-same json one other entries others a b = by (form_in (form_command command) json) refl
+    where
+      bad : (place : List ℕ) → form_in (form_command command) json ≡ Err place → (written : Written) (told : List RecordEntry)
+          → JsonGives command json written told → written ≡ BadShape (shape_line place)
+      bad place none (BadShape s) told (p, here, is) =
+          let places : Err p ≡ Err place = sym here ∙ none in
+          let same : p ≡ place = cc in
+          ap BadShape (is ∙ ap shape_line same)
+      bad place none (Answered s) told (form, read, gives) = let wrong : Err place ≡ Ok form = sym none ∙ read in cc
+      bad place none (Refused s) told (form, read, gives) = let wrong : Err place ≡ Ok form = sym none ∙ read in cc
+      bad place none NotBuilt told (form, read, gives) = let wrong : Err place ≡ Ok form = sym none ∙ read in cc
+      bad place none NotJson told (form, read, gives) = absurd gives
+
+      by : (read : Result BenchForm (List ℕ)) → form_in (form_command command) json ≡ read → AreOne one other entries others
+      by (Ok form) is = bench-same form one other entries others (read-gives json form is one entries a) (read-gives json form is other others b)
+      by (Err place) is =
+          let first = bad place is one entries a in
+          (first ∙ sym (bad place is other others b), subst (λ written. IfResponse written (entries ≡ others)) (sym first) tt)
 
   -- what bytes give, their JSON gives, where they have one
   given-json : (bytes : List ℕ) (json : Data) → json_of bytes ≡ Some json → (written : Written) (entries : List RecordEntry)
@@ -114,6 +161,7 @@ module _ (command : Command) where
   given-json bytes json is (Answered s) entries (j, is', gives) = subst (λ d. JsonGives command d (Answered s) entries) (some-same (sym is' ∙ is)) gives
   given-json bytes json is (Refused s) entries (j, is', gives) = subst (λ d. JsonGives command d (Refused s) entries) (some-same (sym is' ∙ is)) gives
   given-json bytes json is NotBuilt entries (j, is', gives) = subst (λ d. JsonGives command d NotBuilt entries) (some-same (sym is' ∙ is)) gives
+  given-json bytes json is (BadShape s) entries (j, is', gives) = subst (λ d. JsonGives command d (BadShape s) entries) (some-same (sym is' ∙ is)) gives
   given-json bytes json is NotJson entries none = let wrong : None ≡ Some json = sym none ∙ is in cc
 
   given-nothing : (bytes : List ℕ) → json_of bytes ≡ None → (written : Written) (entries : List RecordEntry)
@@ -121,6 +169,7 @@ module _ (command : Command) where
   given-nothing bytes none (Answered s) entries (j, is, gives) = let wrong : None ≡ Some j = sym none ∙ is in cc
   given-nothing bytes none (Refused s) entries (j, is, gives) = let wrong : None ≡ Some j = sym none ∙ is in cc
   given-nothing bytes none NotBuilt entries (j, is, gives) = let wrong : None ≡ Some j = sym none ∙ is in cc
+  given-nothing bytes none (BadShape s) entries (j, is, gives) = let wrong : None ≡ Some j = sym none ∙ is in cc
   given-nothing bytes none NotJson entries is = refl
 
   -- the bytes of a bench give one thing

@@ -3,7 +3,6 @@
 use Rattle.std.specs.Prelude.{◌≡◌, ℕ, List, [], ◌∷◌, ◌++◌, Option, Some, None, codes}
 use Rattle.std.specs.List.{AllZip}
 use Rattle.std.specs.Str.{chars}
-use Rattle.serde_json.specs.Data.{Data}
 use Rattle.gql_base.specs.ErrorJson.{list_json, error_json}
 use Rattle.gql_base.specs.Json.{quoted, json}
 use Rattle.gql_base.specs.Pairs.{under}
@@ -14,6 +13,7 @@ use Rattle.gql_doc.specs.Faults.{message_of}
 use Rattle.gql_doc.specs.Spelled.{SpellsDocument, IsDocumentFault}
 use Rattle.gql_doc.specs.declared.document.ExecutableDocument.{ExecutableDocument}
 use Rattle.gql_doc.specs.declared.fault.ParseFault.{ParseFault}
+use Rattle.gql_form.specs.declared.bench_form.BenchForm.{BenchForm}
 use Rattle.gql_cli.specs.FirstBench.{IsFirstBench, constants}
 use Rattle.gql_cli.specs.Query.{Selects}
 use Rattle.gql_cli.specs.declared.first_bench.FirstBench.{FirstBench}
@@ -65,10 +65,10 @@ IsRefusalOf query text = (fault : ParseFault) × IsDocumentFault (chars query) f
 abbrev pub answers_of : FirstBench → List ℕ → Option Value
 answers_of first name = under name (constants first.fields)
 
--- the text that a JSON value gives as a bench
-abbrev pub IsAnswer : Data → List ℕ → Type 0
+-- the text that a bench gives
+abbrev pub IsAnswer : BenchForm → List ℕ → Type 0
 IsAnswer bench text = (first : FirstBench) × IsFirstBench bench first × IsAnswerOf (answers_of first) first.query text
 
 -- the text that it gives where its query is no document
-abbrev pub IsRefusal : Data → List ℕ → Type 0
+abbrev pub IsRefusal : BenchForm → List ℕ → Type 0
 IsRefusal bench text = (first : FirstBench) × IsFirstBench bench first × IsRefusalOf first.query text

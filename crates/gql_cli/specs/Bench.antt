@@ -6,13 +6,15 @@ use Rattle.serde_json.specs.Read.{read}
 use Rattle.gql_base.specs.declared.value.Value.{Value}
 use Rattle.gql_resolve.specs.declared.record_entry.RecordEntry.{RecordEntry}
 use Rattle.gql_cli.specs.Answer.{IsAnswer, IsAnswerOf, IsRefusal, IsRefusalOf, answers_of}
+use Rattle.gql_form.specs.declared.bench_form.BenchForm.{BenchForm}
 use Rattle.gql_cli.specs.BenchAnswers.{bench_answers}
 use Rattle.gql_cli.specs.BenchRecord.{BenchTask, IsQueryRecord, bench_task, first_task, record_lines}
 use Rattle.gql_cli.specs.FirstBench.{IsFirstBench}
+use Rattle.gql_cli.specs.Shape.{IsBadShape, IsReadAs}
 use Rattle.gql_cli.specs.declared.bench.Command.{Command}
 use Rattle.gql_cli.specs.declared.bench.Command.TheVariants.{Execute, Record}
 use Rattle.gql_cli.specs.declared.bench.Written.{Written}
-use Rattle.gql_cli.specs.declared.bench.Written.TheVariants.{Answered, Refused, NotJson, NotBuilt}
+use Rattle.gql_cli.specs.declared.bench.Written.TheVariants.{Answered, Refused, NotJson, BadShape, NotBuilt}
 use Rattle.gql_cli.specs.declared.first_bench.FirstBench.{FirstBench}
 use Rattle.gql_cli.specs.declared.tables.Bench.{Bench}
 
@@ -52,17 +54,24 @@ QueryGives command request (Refused text) entries = IsRefusalOf request.query te
 QueryGives command request NotBuilt entries =
     ((text : List ℕ) → IsAnswerOf request.answers request.query text → ⊥) × ((text : List ℕ) → IsRefusalOf request.query text → ⊥)
 QueryGives command request NotJson entries = ⊥
+QueryGives command request (BadShape line) entries = ⊥
 
--- no text is the answer of a JSON value
-abbrev pub HasNoAnswer : Data → Type 0
-HasNoAnswer json = ((text : List ℕ) → IsAnswer json text → ⊥) × ((text : List ℕ) → IsRefusal json text → ⊥)
+-- no text is the answer of a bench
+abbrev pub HasNoAnswer : BenchForm → Type 0
+HasNoAnswer form = ((text : List ℕ) → IsAnswer form text → ⊥) × ((text : List ℕ) → IsRefusal form text → ⊥)
 
--- what a JSON value gives to a command as a bench
+-- what a bench gives to a command
+abbrev pub BenchGives : Command → BenchForm → Written → List RecordEntry → Type 0
+BenchGives command form (Answered text) entries = (first : FirstBench) × IsFirstBench form first × IsAnswered command (first_request first) text entries
+BenchGives command form (Refused text) entries = IsRefusal form text × (entries ≡ [])
+BenchGives command form NotBuilt entries = HasNoAnswer form
+BenchGives command form NotJson entries = ⊥
+BenchGives command form (BadShape line) entries = ⊥
+
+-- what a JSON value gives to a command: the line of its first bad place, or what it gives as a bench
 abbrev pub JsonGives : Command → Data → Written → List RecordEntry → Type 0
-JsonGives command json (Answered text) entries = (first : FirstBench) × IsFirstBench json first × IsAnswered command (first_request first) text entries
-JsonGives command json (Refused text) entries = IsRefusal json text × (entries ≡ [])
-JsonGives command json NotBuilt entries = HasNoAnswer json
-JsonGives command json NotJson entries = ⊥
+JsonGives command json (BadShape line) entries = IsBadShape command json line
+JsonGives command json written entries = (form : BenchForm) × IsReadAs command json form × BenchGives command form written entries
 
 -- what the bytes of a bench give to a command
 abbrev pub Gives : Command → List ℕ → Written → List RecordEntry → Type 0
@@ -74,6 +83,7 @@ abbrev pub IfResponse : Written → Type 0 → Type 0
 IfResponse (Answered text) P = P
 IfResponse (Refused text) P = P
 IfResponse NotJson P = Unit {0}
+IfResponse (BadShape line) P = Unit {0}
 IfResponse NotBuilt P = Unit {0}
 
 -- this text is given with some record, and where it is a response, that record was told
@@ -89,4 +99,5 @@ abbrev pub behind : List ℕ → Written → Written
 behind lines (Answered text) = Answered (lines ++ text)
 behind lines (Refused text) = Refused text
 behind lines NotJson = NotJson
+behind lines (BadShape line) = BadShape line
 behind lines NotBuilt = NotBuilt

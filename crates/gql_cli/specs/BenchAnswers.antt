@@ -1,8 +1,8 @@
--- What a bench's tables answer, and which JSON they are made of.
+-- What a bench's tables answer, and which bench they are made of.
 use Rattle.std.specs.Prelude.{◌≡◌, ℕ, ℤ, List, [], Option, Some, option_map, slice_get}
-use Rattle.serde_json.specs.Data.{Data}
 use Rattle.gql_base.specs.Pairs.{under}
 use Rattle.gql_base.specs.declared.value.Value.{Value}
+use Rattle.gql_form.specs.declared.bench_form.BenchForm.{BenchForm}
 use Rattle.gql_resolve.specs.Call.{Call}
 use Rattle.gql_resolve.specs.declared.answer.Answer.{Answer}
 use Rattle.gql_resolve.specs.declared.record_entry.RecordEntry.{RecordEntry}
@@ -19,11 +19,11 @@ use Rattle.gql_cli.specs.declared.tables.Bench.{Bench}
 abbrev pub bench_answers : Bench → List ℕ → Option Value
 bench_answers bench name = root_constant bench.types bench.query bench.rules name
 
--- the bench of a JSON value: its tables, its cells and its turns are those of a first bench, and its request is the first
+-- the bench with tables: its tables, its cells and its turns are those of a first bench, and its request is the first
 -- bench's query
-pub record IsBenchOf (json : Data) (bench : Bench) : Type 0 where
+pub record IsBenchOf (form : BenchForm) (bench : Bench) : Type 0 where
   pub first : FirstBench
-  pub shaped : IsFirstBench json first
+  pub is : IsFirstBench form first
   pub request : bench.request ≡ first.query
   pub tabled : IsTableOf first bench
 

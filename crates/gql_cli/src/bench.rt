@@ -1,17 +1,19 @@
 //! From the bytes of a bench to the text that is written.
-ghost use Rattle.std.specs.Prelude.{◌≡◌, Some, IfOk, IfErr, MatchOption, codes, option_map};
+ghost use Rattle.std.specs.Prelude.{◌≡◌, ◌⊎◌, Some, IfOk, MatchOption, MatchResult, codes, option_map};
 ghost use Rattle.serde_json.specs.View.{view};
 ghost use Rattle.gql_cli.specs.Bench.{json_of, bench_request, behind, lines_for, JsonGives, QueryGives, Gives, HoldsTold, WithRecord};
 ghost use Rattle.gql_cli.specs.BenchAnswers.{IsBenchOf, IsSuited, IsSetOf};
 ghost use Rattle.gql_cli.specs.FirstBench.{IsNoFirstBench};
+ghost use Rattle.gql_cli.specs.Shape.{form_command, shape_line, HasTables, IsBadAt, IsFound, IsFoundOf, IsNotBuilt};
 
 use crate::answer::{refusal_of, response_of};
-use crate::first_bench::read_first_bench;
+use crate::first_bench::first_of;
 use crate::record_text::text_behind;
 use crate::table_maker::Tables;
 use crate::tables::{Bench, bench_of_first};
 use gql_base::{Made, Text};
 use gql_doc::parse_query;
+use gql_form::{BenchForm, Command as FormCommand, form_of};
 use gql_resolve::{RecordEntry, ResolverSet};
 use serde_json::Value;
 use std::alloc::{AllocError, Global};
@@ -25,7 +27,20 @@ pub enum Written {
     Refused(Text),
     /// The bytes are no JSON.
     NotJson,
-    /// The JSON is no bench of the forms that are built.
+    /// The line that tells the first bad place of JSON that is no bench.
+    BadShape(Text),
+    /// The bench isn't of the forms that are built.
+    NotBuilt,
+}
+
+/// What is found in a JSON value.
+#[derive(Drop)]
+enum Found {
+    /// A bench that is built.
+    Bench(Bench),
+    /// The first bad place of JSON that is no bench.
+    BadAt(Text),
+    /// A bench of a form that isn't built.
     NotBuilt,
 }
 
@@ -36,6 +51,18 @@ pub enum Command {
     Execute,
     /// The record of the polls that were made for it, and then the response.
     Record,
+}
+
+impl Command {
+    /// The command by which its bench is read.
+    fn form(self) -> FormCommand
+        ensures { result ≡ form_command self }
+    {
+        match self {
+            Command::Execute => FormCommand::Execute,
+            Command::Record => FormCommand::Record,
+        }
+    }
 }
 
 /// What the bytes of a bench give to a command.
@@ -64,8 +91,7 @@ fn json_value(alloc: Global, bytes: &[u8]) -> Made<Option<Value>>
     }
 }
 
-/// What a JSON value gives to a command as a bench. The value is let go of once the bench is made of it, so that its room
-/// serves the run.
+/// What a JSON value gives to a command. The value is let go of once it is read, so that its room serves the run.
 fn bench_text<M: Tables>(
     alloc: Global,
     command: Command,
@@ -74,12 +100,24 @@ fn bench_text<M: Tables>(
 ) -> Made<Written>
     ensures { IfOk result (WithRecord (JsonGives command (view json)) (HoldsTold (M.held tables.new) M.Set.told)) }
 {
-    let made = bench_of(alloc, command, &json)?;
+    let read = find_bench(alloc, command, &json);
     drop(json);
-    match made {
-        Ok(bench) => query_text(alloc, command, &bench, tables),
-        Err(_) => Ok(Written::NotBuilt),
+    let found = read?;
+    match found {
+        Found::Bench(bench) => query_text(alloc, command, &bench, tables),
+        Found::BadAt(place) => Ok(Written::BadShape(bad_shape_line(alloc, &place)?)),
+        Found::NotBuilt => Ok(Written::NotBuilt),
     }
+}
+
+/// The line that tells a bad place.
+fn bad_shape_line(alloc: Global, place: &Text) -> Made<Text>
+    ensures { IfOk result (λ line. line ≡ shape_line place.now) }
+{
+    let mut out = String::from_str(alloc, "bench: bad shape at ")?;
+    out.push_str(place.as_str())?;
+    out.push_str("\n")?;
+    Ok(Text::from_string(out))
 }
 
 /// What a bench's request gives to a command. It is run over a set that `tables` makes, and that is given back to them
@@ -137,23 +175,54 @@ fn with_lines(
     }
 }
 
-/// The bench of a JSON value for a command, or `not built yet` where it is none of the forms that are built. It is the same
-/// for each command so far.
-pub fn bench_of(alloc: Global, _command: Command, json: &Value) -> Made<Result<Bench, Text>>
-    ensures built { IfOk result (λ made. IfOk made (IsBenchOf (view json.now))) }
-    ensures refused { IfOk result (λ made. IfErr made (λ text. (text ≡ codes "not built yet") × IsNoFirstBench (view json.now))) }
+/// The bench of a JSON value for a command, or the text of its first bad place, or `not built yet` where it is a bench of a form
+/// that isn't built.
+pub fn bench_of(alloc: Global, command: Command, json: &Value) -> Made<Result<Bench, Text>>
+    ensures { IfOk result (λ made. MatchResult made
+        (HasTables command (view json.now))
+        (λ text. IsBadAt command (view json.now) text
+        ⊎ (IsNotBuilt command (view json.now) × (text ≡ codes "not built yet")))) }
 {
-    match first_bench_of(alloc, json)? {
-        Some(bench) => Ok(Ok(bench)),
-        None => Ok(Err(Text::new(alloc, "not built yet")?)),
+    match find_bench(alloc, command, json)? {
+        Found::Bench(bench) => Ok(Ok(bench)),
+        Found::BadAt(place) => Ok(Err(place)),
+        Found::NotBuilt => Ok(Err(Text::new(alloc, "not built yet")?)),
     }
 }
 
-/// The bench of a first bench.
-fn first_bench_of(alloc: Global, json: &Value) -> Made<Option<Bench>>
-    ensures { IfOk result (λ made. MatchOption made (IsNoFirstBench (view json.now)) (IsBenchOf (view json.now))) }
+/// What is found in a JSON value: it is read as a whole first.
+fn find_bench(alloc: Global, command: Command, json: &Value) -> Made<Found>
+    ensures { IfOk result (IsFound command (view json.now)) }
 {
-    let Some(first) = read_first_bench(alloc, json)? else {
+    match form_of(alloc, command.form(), json)? {
+        Ok(form) => found_of(alloc, form),
+        Err(place) => Ok(Found::BadAt(place)),
+    }
+}
+
+/// What a bench is found to be. It is let go of once its tables are made.
+fn found_of(alloc: Global, form: BenchForm) -> Made<Found>
+    ensures { IfOk result (IsFoundOf form) }
+{
+    let found = found_in(alloc, &form);
+    drop(form);
+    found
+}
+
+fn found_in(alloc: Global, form: &BenchForm) -> Made<Found>
+    ensures { IfOk result (IsFoundOf form.now) }
+{
+    match tables_of_form(alloc, form)? {
+        Some(bench) => Ok(Found::Bench(bench)),
+        None => Ok(Found::NotBuilt),
+    }
+}
+
+/// The tables of a bench, where it is a first bench.
+fn tables_of_form(alloc: Global, form: &BenchForm) -> Made<Option<Bench>>
+    ensures { IfOk result (λ made. MatchOption made (IsNoFirstBench form.now) (IsBenchOf form.now)) }
+{
+    let Some(first) = first_of(alloc, form)? else {
         return Ok(None);
     };
     bench_of_first(alloc, first)

@@ -1,26 +1,19 @@
-//! First benches: one object type of constant fields with delays, a query for some of them, and the turns.
-ghost use Rattle.std.specs.Prelude.{◌≡◌, ◌↔◌, ℕ, List, [], ◌∷◌, Some, map, option_map, IfSome, IfNone, IsTrue, IfOk, MatchOption};
-ghost use Rattle.std.specs.List.{AllZip};
-ghost use Rattle.gql_base.specs.ReadJson.{value_of};
+//! What is built of a bench so far: one object type of constant fields with delays, a query for some of them, and the turns.
+ghost use Rattle.std.specs.Prelude.{◌≡◌, [], option_map, IfOk};
+ghost use Rattle.std.specs.Option.{option_copied};
 ghost use Rattle.gql_base.specs.Kinds.{is_null};
-ghost use Rattle.gql_base.specs.declared.value.Value.{Value};
-ghost use Rattle.gql_tokens.specs.Name.{IsName};
-ghost use Rattle.serde_json.specs.Data.{Data, string};
-ghost use Rattle.serde_json.specs.View.{view};
-ghost use Rattle.gql_cli.specs.FirstBench.{IsShaped, IsField, IsConstantAnswer, IsDelay, IsTurns, Takes, is_first_type, field_json, object_json, schema_json};
-ghost use Rattle.gql_cli.specs.JsonShape.{object_of, count};
+ghost use Rattle.gql_base.specs.declared.type_ref.TypeRef.{out-TypeRef};
+ghost use Rattle.gql_form.specs.Read.{the_only};
+ghost use Rattle.gql_cli.specs.FirstBench.{answer_constant, are_bare_settings, bare_name_here, first_field, first_fields, first_in, first_over, is_bare_schema, is_bare_setup, is_enabled, is_first_type, is_nothing, is_null_value, is_unlogged, object_fields, object_form, plain_value, query_alone, query_of, root_fields, rule_constant, takes_constant};
 
-use crate::json_shape::{
-    items_in, one_or_two_members, only_item, only_member, three_members, two_members,
-    two_or_three_members,
-};
-use gql_base::{Items, Made, Name, Text, Value, from_json, is_name};
+use gql_base::{Copied, Items, Made, Name, Pairs, Text, TypeRef, Value};
 use gql_engine::takes_value;
-use serde_json::Value as Json;
+use gql_form::{
+    AnswerForm, Answered, BenchForm, FieldForm, HooksForm, ObjectForm, RuleForm, SchemaForm,
+    Settings, SetupForm, TypeForm, WorkForm,
+};
+use gql_request::{IntrospectionMode, Request};
 use std::alloc::Global;
-
-/// The most pending polls that a bench may ask for before an answer.
-pub const LONGEST_DELAY: u32 = 1_000_000;
 
 /// A field of a first bench: its name, the name of its type, the constant that it answers, and the number of polls that are
 /// pending before.
@@ -29,7 +22,7 @@ pub struct FirstField {
     pub name: Name,
     pub type_name: Text,
     pub constant: Value,
-    pub delay: u32,
+    pub delay: u64,
 }
 
 /// A first bench: the name of its object type, that type's fields, the text of the query, and the turns.
@@ -41,106 +34,185 @@ pub struct FirstBench {
     pub turns: Items<u64>,
 }
 
-/// The first bench that a JSON value has the shape of, if any.
-pub(crate) fn read_first_bench(alloc: Global, json: &Json) -> Made<Option<FirstBench>>
-    ensures { IfOk result (λ found. MatchOption found ((bench : _) → IsShaped (view json.now) bench → ⊥) (IsShaped (view json.now))) }
+/// The first bench that a bench is, if it is one.
+pub(crate) fn first_of(alloc: Global, form: &BenchForm) -> Made<Option<FirstBench>>
+    ensures { IfOk result (λ found. found ≡ first_in form.now) }
 {
-    let Some((request, schema, turns)) = two_or_three_members(json, "request", "schema", "turns")
-    else {
+    if !is_bare_setup(&form.setup) {
         return Ok(None);
-    };
-    let Some(query) = only_text(request, "query") else {
-        return Ok(None);
-    };
-    let Some((root, items)) = read_schema(schema) else {
-        return Ok(None);
-    };
-    let Some(turns) = read_turns(alloc, turns)? else {
-        return Ok(None);
-    };
-    match read_fields(alloc, items)? {
+    }
+    match query_alone(&form.work) {
+        Some(query) => first_over(alloc, &form.setup, query),
         None => Ok(None),
+    }
+}
+
+/// The first bench of this query, if the schema is that of one.
+fn first_over(alloc: Global, setup: &SetupForm, query: &str) -> Made<Option<FirstBench>>
+    ensures { IfOk result (λ found. found ≡ first_over setup.now query.now) }
+{
+    let root = Name::new(alloc, setup.schema.query.as_str())?;
+    let query = Text::new(alloc, query)?;
+    let turns = Items::from_slice(alloc, setup.turns.as_slice())?;
+    match root_fields(alloc, &setup.schema)? {
         Some(fields) => Ok(Some(FirstBench {
-            root: Name::new(alloc, root)?,
+            root,
             fields,
-            query: Text::new(alloc, query)?,
+            query,
             turns,
         })),
-    }
-}
-
-/// The turns that a JSON value tells, and none where it is missing.
-fn read_turns(alloc: Global, json: Option<&Json>) -> Made<Option<Items<u64>>>
-    ensures { IfOk result (λ found. MatchOption found
-        ((turns : List ℕ) → IsTurns (option_map (λ d. view d.now) json.entry) turns → ⊥) (IsTurns (option_map (λ d. view d.now) json.entry))) }
-{
-    let Some(json) = json else {
-        return Ok(Some(Items::new(alloc)));
-    };
-    let Some(items) = items_in(json) else {
-        return Ok(None);
-    };
-    match read_counts(alloc, items)? {
         None => Ok(None),
-        Some(turns) => Ok(Some(turns)),
     }
 }
 
-/// The whole numbers from 0 that JSON values are the JSON of, if all are.
-fn read_counts(alloc: Global, items: &[Json]) -> Made<Option<Items<u64>>>
-    ensures { IfOk result (λ found. MatchOption found
-        ((counts : List ℕ) → map view items.now ≡ map count counts → ⊥) (λ counts. map view items.now ≡ map count counts)) }
+/// Whether nothing stands beside the schema that isn't built.
+fn is_bare_setup(setup: &SetupForm) -> bool
+    ensures { result ≡ is_bare_setup setup.now }
 {
-    let mut counts = Items::new(alloc);
-    for json in items {
-        match json.as_u64() {
-            Some(number) => counts.push(number)?,
-            None => return Ok(None),
-        }
+    is_nothing(&setup.cells)
+        && is_null_value(plain_value(&setup.root))
+        && is_unlogged(setup.hooks)
+        && is_bare_schema(&setup.schema)
+}
+
+fn is_nothing<T>(items: &Items<T>) -> bool
+    ensures { result ≡ is_nothing items.now }
+{
+    items.is_empty()
+}
+
+fn is_null_value(value: Option<&Value>) -> bool
+    ensures { result ≡ is_null_value (option_copied value.entry) }
+{
+    match value {
+        Some(value) => is_null(value),
+        None => false,
     }
-    Ok(Some(counts))
 }
 
-/// The text of the only member of an object, where it has this name.
-fn only_text<'a>(json: &'a Json, name: &str) -> Option<&'a str>
-    ensures found { IfSome result (λ text. view json.now ≡ object_of ((name.now, string text.now) ∷ [])) }
-    ensures other { IfNone result ((text : List ℕ) → view json.now ≡ object_of ((name.now, string text) ∷ []) → ⊥) }
+fn is_null(value: &Value) -> bool
+    ensures { result ≡ is_null value.now }
 {
-    only_member(json, name)?.as_str()
+    matches!(value, Value::Null)
 }
 
-/// The name of the query root and the items of its fields, where a schema has just this one object type.
-fn read_schema(json: &Json) -> Option<(&str, &[Json])>
-    ensures found { IfSome result (λ p. IsName p.0.now × (view json.now ≡ schema_json p.0.now (map view p.1.now))) }
-    ensures other { IfNone result ((root : List ℕ) (fields : List Data) → IsName root → view json.now ≡ schema_json root fields → ⊥) }
+fn is_unlogged(hooks: HooksForm) -> bool
+    ensures { result ≡ is_unlogged hooks }
 {
-    let (query, types) = two_members(json, "query", "types")?;
-    let root = query.as_str()?;
-    let fields = read_object(only_item(types)?, root)?;
-    Some((root, fields))
+    match hooks {
+        HooksForm::None => true,
+        HooksForm::Log => false,
+    }
 }
 
-/// The items of the fields of an object type of this name.
-fn read_object<'a>(json: &'a Json, root: &str) -> Option<&'a [Json]>
-    ensures found { IfSome result (λ items. IsName root.now × (view json.now ≡ object_json root.now (map view items.now))) }
-    ensures other { IfNone result ((fields : List Data) → IsName root.now → view json.now ≡ object_json root.now fields → ⊥) }
+/// Whether a schema has no root but that of queries, and no settings.
+fn is_bare_schema(schema: &SchemaForm) -> bool
+    ensures { result ≡ is_bare_schema schema.now }
 {
-    let (fields, kind, name) = three_members(json, "fields", "kind", "name")?;
-    if kind.as_str()? == "object" && name.as_str()? == root && is_name(root) {
-        items_in(fields)
+    schema.mutation.is_none() && schema.subscription.is_none() && are_bare_settings(schema.settings)
+}
+
+fn are_bare_settings(settings: Settings) -> bool
+    ensures { result ≡ are_bare_settings settings }
+{
+    settings.depth.is_none()
+        && settings.directives.is_none()
+        && is_enabled(settings.introspection)
+        && !settings.federation
+        && !settings.entities
+}
+
+fn is_enabled(introspection: IntrospectionMode) -> bool
+    ensures { result ≡ is_enabled introspection }
+{
+    match introspection {
+        IntrospectionMode::Enabled => true,
+        IntrospectionMode::IntrospectionOnly | IntrospectionMode::Disabled => false,
+    }
+}
+
+/// The query of a bench's one request, where nothing stands beside it.
+fn query_alone(work: &WorkForm) -> Option<&str>
+    ensures { option_map (λ query. query.now) result ≡ query_alone work.now }
+{
+    match work {
+        WorkForm::One(request) => query_of(request),
+        WorkForm::Batch(_) | WorkForm::Session(_) => None,
+    }
+}
+
+fn query_of(request: &Request) -> Option<&str>
+    ensures { option_map (λ query. query.now) result ≡ query_of request.now }
+{
+    if request.operation_name.is_none()
+        && has_no_pair(request.variables.as_pairs())
+        && has_no_pair(&request.extensions)
+    {
+        Some(request.query.as_str())
     } else {
         None
     }
 }
 
-/// The fields that JSON values are the JSON of, if all are.
-fn read_fields(alloc: Global, items: &[Json]) -> Made<Option<Items<FirstField>>>
-    ensures { IfOk result (λ found. MatchOption found
-        ((fields : _) → AllZip IsField (map view items.now) fields → ⊥) (AllZip IsField (map view items.now))) }
+fn has_no_pair(pairs: &Pairs<Value>) -> bool
+    ensures { result ≡ is_nothing pairs.now }
+{
+    pairs.is_empty()
+}
+
+/// The fields of the query root, where it is the only type.
+fn root_fields(alloc: Global, schema: &SchemaForm) -> Made<Option<Items<FirstField>>>
+    ensures { IfOk result (λ found. found ≡ root_fields schema.now) }
+{
+    let Some(ty) = only_type(&schema.types) else {
+        return Ok(None);
+    };
+    let Some(object) = object_form(ty) else {
+        return Ok(None);
+    };
+    object_fields(alloc, schema.query.as_str(), object)
+}
+
+#[tactic(auto, using(crate::proofs::FirstLemmas::the_only_one, crate::proofs::FirstLemmas::no_only_one))]
+fn only_type(types: &Items<TypeForm>) -> Option<&TypeForm>
+    ensures { option_copied result ≡ the_only types.now }
+{
+    if types.len() == 1 { types.get(0) } else { None }
+}
+
+fn object_form(ty: &TypeForm) -> Option<&ObjectForm>
+    ensures { option_copied result ≡ object_form ty.now }
+{
+    match ty {
+        TypeForm::Object(object) => Some(object),
+        TypeForm::Interface(_)
+        | TypeForm::Union(_)
+        | TypeForm::Enum(_)
+        | TypeForm::Input(_)
+        | TypeForm::Scalar(_)
+        | TypeForm::Subscription(_) => None,
+    }
+}
+
+/// The fields of an object of this name, without interfaces and key.
+fn object_fields(alloc: Global, root: &str, object: &ObjectForm) -> Made<Option<Items<FirstField>>>
+    ensures { IfOk result (λ found. found ≡ object_fields root.now object.now) }
+{
+    if object.name.as_str() == root && is_nothing(&object.interfaces) && object.key.is_none() {
+        first_fields(alloc, &object.fields)
+    } else {
+        Ok(None)
+    }
+}
+
+#[tactic(auto, using(crate::proofs::FirstLemmas::fields_done))]
+fn first_fields(alloc: Global, forms: &Pairs<FieldForm>) -> Made<Option<Items<FirstField>>>
+    ensures { IfOk result (λ found. found ≡ first_fields [] forms.now) }
 {
     let mut fields = Items::new(alloc);
-    for json in items {
-        match read_field(alloc, json)? {
+    for place in 0..forms.len() {
+        let (name, form) = forms.at(place);
+        match first_field(alloc, name, form)? {
             Some(field) => fields.push(field)?,
             None => return Ok(None),
         }
@@ -148,92 +220,79 @@ fn read_fields(alloc: Global, items: &[Json]) -> Made<Option<Items<FirstField>>>
     Ok(Some(fields))
 }
 
-/// The field that a JSON value is the JSON of, if any.
-fn read_field(alloc: Global, json: &Json) -> Made<Option<FirstField>>
-    ensures { IfOk result (λ found. MatchOption found ((field : _) → IsField (view json.now) field → ⊥) (IsField (view json.now))) }
+/// The field of a constant that a field is, if it is one.
+fn first_field(alloc: Global, name: &str, form: &FieldForm) -> Made<Option<FirstField>>
+    ensures { IfOk result (λ found. found ≡ first_field name.now form.now) }
 {
-    let Some((answer, name, ty)) = read_head(json) else {
+    if !is_nothing(&form.args) {
+        return Ok(None);
+    }
+    let Some(type_name) = bare_name(&form.ty) else {
         return Ok(None);
     };
-    let Some((constant, delay)) = read_answer(answer) else {
+    let Some(constant) = answer_constant(&form.answer) else {
         return Ok(None);
     };
-    match read_constant(alloc, ty, constant)? {
-        None => Ok(None),
-        Some(constant) => Ok(Some(FirstField {
-            name: Name::new(alloc, name)?,
-            type_name: Text::new(alloc, ty)?,
-            constant,
-            delay,
-        })),
+    if !takes_constant(type_name, constant) {
+        return Ok(None);
+    }
+    Ok(Some(FirstField {
+        name: Name::new(alloc, name)?,
+        type_name: Text::new(alloc, type_name)?,
+        constant: constant.try_clone(alloc)?,
+        delay: form.answer.delay.polls,
+    }))
+}
+
+/// The name of a type that is no list and may be null.
+fn bare_name(ty: &TypeRef) -> Option<&str>
+    ensures { option_map (λ name. name.now) result ≡ bare_name_here (out-TypeRef ty.now) }
+{
+    match ty {
+        TypeRef::Named(name) => Some(name.as_str()),
+        TypeRef::NonNull(_) | TypeRef::List(_) => None,
     }
 }
 
-/// The JSON of a field's answer, the field's name and the name of its type.
-fn read_head(json: &Json) -> Option<(&Json, &str, &str)>
-    ensures found { IfSome result (λ p. (view json.now ≡ field_json (view p.0.now) p.1.now p.2.now) × IsName p.1.now) }
-    ensures other { IfNone result ((answer : Data) (name type_name : List ℕ) → IsName name
-        → view json.now ≡ field_json answer name type_name → ⊥) }
+/// The constant of an answer that has no errors and no headers beside it.
+fn answer_constant(answer: &AnswerForm) -> Option<&Value>
+    ensures { option_copied result ≡ answer_constant answer.now }
 {
-    let (answer, name, ty) = three_members(json, "answer", "name", "type")?;
-    let name = name.as_str()?;
-    let ty = ty.as_str()?;
-    if is_name(name) {
-        Some((answer, name, ty))
+    if is_nothing(&answer.added) && is_nothing(&answer.headers) {
+        rule_constant(&answer.rule)
     } else {
         None
     }
 }
 
-/// The JSON of an answer's constant, and the number of polls that are pending before.
-fn read_answer(json: &Json) -> Option<(&Json, u32)>
-    ensures found { IfSome result (λ p. IsConstantAnswer (view json.now) (view p.0.now) p.1) }
-    ensures other { IfNone result ((constant : Data) (delay : ℕ) → IsConstantAnswer (view json.now) constant delay → ⊥) }
+fn rule_constant(rule: &RuleForm) -> Option<&Value>
+    ensures { option_copied result ≡ rule_constant rule.now }
 {
-    let (constant, delay) = one_or_two_members(json, "const", "delay")?;
-    let delay = read_delay(delay)?;
-    Some((constant, delay))
-}
-
-/// The delay that a JSON value tells, and 0 where it is missing.
-fn read_delay(json: Option<&Json>) -> Option<u32>
-    ensures found { IfSome result (IsDelay (option_map (λ d. view d.now) json.entry)) }
-    ensures other { IfNone result ((delay : ℕ) → IsDelay (option_map (λ d. view d.now) json.entry) delay → ⊥) }
-{
-    match json {
-        None => Some(0),
-        Some(json) => {
-            let polls = u32::try_from(json.as_u64()?).ok()?;
-            if polls <= LONGEST_DELAY {
-                Some(polls)
-            } else {
-                None
-            }
-        }
+    match rule {
+        RuleForm::Const(answered) => plain_value(answered),
+        RuleForm::None
+        | RuleForm::Fail(_)
+        | RuleForm::Member(_)
+        | RuleForm::Arg(_)
+        | RuleForm::Sum(_)
+        | RuleForm::Read(_)
+        | RuleForm::Bump(_) => None,
     }
 }
 
-/// The value of a JSON value, where the type of this name takes it.
-fn read_constant(alloc: Global, type_name: &str, json: &Json) -> Made<Option<Value>>
-    ensures { IfOk result (λ found. MatchOption found
-        ((value : Value) → value_of (view json.now) ≡ Some value → Takes type_name.now value → ⊥)
-        (λ value. (value_of (view json.now) ≡ Some value) × Takes type_name.now value)) }
+/// The plain value of what is answered.
+fn plain_value(answered: &Answered) -> Option<&Value>
+    ensures { option_copied result ≡ plain_value answered.now }
 {
-    match from_json(alloc, json)? {
-        Ok(value) => {
-            if takes(type_name, &value) {
-                Ok(Some(value))
-            } else {
-                Ok(None)
-            }
-        }
-        Err(_) => Ok(None),
+    match answered {
+        Answered::Value(value) => Some(value),
+        Answered::Own(_) | Answered::List(_) | Answered::Typed(_, _) => None,
     }
 }
 
-/// True exactly where the type of this name takes a value. Null is taken by each that a field may have.
-fn takes(type_name: &str, value: &Value) -> bool
-    ensures { IsTrue result ↔ Takes type_name.now value.now }
+/// Whether a field may have this type and take this value. Null is taken by each type that it may have.
+fn takes_constant(type_name: &str, value: &Value) -> bool
+    ensures { result ≡ takes_constant type_name.now value.now }
 {
     is_first_type(type_name) && (is_null(value) || takes_value(type_name, value))
 }
@@ -242,10 +301,4 @@ fn is_first_type(name: &str) -> bool
     ensures { result ≡ is_first_type name.now }
 {
     name == "Int" || name == "String" || name == "Boolean"
-}
-
-fn is_null(value: &Value) -> bool
-    ensures { result ≡ is_null value.now }
-{
-    matches!(value, Value::Null)
 }

@@ -3,18 +3,15 @@ ghost use Rattle.std.specs.Prelude.{◌≡◌, ℕ, List, Option};
 ghost use Rattle.gql_resolve.specs.declared.record_entry.RecordEntry.{RecordEntry as OneEntry};
 ghost use Rattle.gql_cli.specs.Bench.{Gives, IfResponse};
 ghost use Rattle.gql_cli.specs.BenchRecord.{BenchTask, IsQueryRecord};
-ghost use Rattle.gql_cli.specs.Limits.{delay_limit};
 ghost use Rattle.gql_io.specs.Limits.{input_limit};
 ghost use Rattle.gql_cli.specs.declared.bench.Command.{Command as OneCommand};
 ghost use Rattle.gql_cli.specs.declared.bench.Written.{Written as OneWritten};
 
-use crate::first_bench::LONGEST_DELAY;
 use gql_io::INPUT_LIMIT;
 
-/// The limits that the code keeps to are those that contracts cite.
-pub fn limits_of_a_bench()
-    ensures input { INPUT_LIMIT ≡ input_limit }
-    ensures delay { LONGEST_DELAY ≡ delay_limit }
+/// The limit that the code keeps to is the one that contracts cite.
+pub fn limit_of_the_input()
+    ensures { INPUT_LIMIT ≡ input_limit }
 {}
 
 /// A query has one record at most, whatever its fields are and whatever the turns.

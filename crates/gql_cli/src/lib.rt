@@ -5,7 +5,6 @@ mod answer;
 mod bench;
 mod execution;
 mod first_bench;
-mod json_shape;
 mod laws;
 mod list_turns;
 mod outcome;
@@ -20,12 +19,11 @@ mod table_maker;
 mod tables;
 
 pub use bench::{Command, Written, bench_of};
-pub use first_bench::LONGEST_DELAY;
 pub use gql_io::{
     Failed, INPUT_LIMIT, MemorySink, MemorySource, Sink, SinkFault, Source, StdSink, StdSource,
     SureSink, SureSource,
 };
-pub use laws::{limits_of_a_bench, one_record_of_a_query, one_result_of_a_bench};
+pub use laws::{limit_of_the_input, one_record_of_a_query, one_result_of_a_bench};
 pub use list_turns::ListTurns;
 pub use outcome::Outcome;
 pub use program::{run, run_alone};

@@ -5,7 +5,7 @@ use std::alloc::Global;
 #[derive(Debug, Drop)]
 pub struct Rule {
     /// The number of polls that are pending before the answer.
-    pub delay: u32,
+    pub delay: u64,
     /// The answer.
     pub kind: RuleKind,
 }

@@ -21,7 +21,7 @@ pub struct Table {
 #[derive(Debug, Drop)]
 pub struct TableFuture {
     resolver: u32,
-    left: u32,
+    left: u64,
 }
 
 impl Table {
@@ -55,7 +55,7 @@ impl Table {
     }
 
     /// The number of polls of a resolver that are pending before its answer.
-    fn delay_of(&self, resolver: u32) -> u32
+    fn delay_of(&self, resolver: u32) -> u64
         ensures { result ≡ rule_delay (slice_get self.now.rules resolver) }
     {
         match self.rules.get(resolver as usize) {

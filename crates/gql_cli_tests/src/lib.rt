@@ -6,6 +6,8 @@ mod record_tests;
 #[cfg(test)]
 mod runs;
 #[cfg(test)]
+mod shape_tests;
+#[cfg(test)]
 mod table_tests;
 #[cfg(test)]
 mod tests;

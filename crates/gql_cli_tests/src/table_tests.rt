@@ -57,7 +57,7 @@ fn refusal_of_null(alloc: Global) -> Made<Option<String>> {
 #[test]
 fn null_is_no_bench(rt: HostRuntime) -> Result<(), Fail> {
     let text = refusal_of_null(rt.alloc())?.ok_or("a bench")?;
-    assert_eq!(rt; text.as_str(), "not built yet");
+    assert_eq!(rt; text.as_str(), "bench");
     Ok(())
 }
 

@@ -50,7 +50,7 @@ fn faults_end_with(
 #[test]
 fn faults_in_mid_stream(rt: HostRuntime) -> Result<(), Fail> {
     for (read, write, status, held) in [
-        (99, 99, 3, "bench: not built yet\n"),
+        (99, 99, 3, "bench: bad shape at schema\n"),
         (2, 99, 4, "input: read fault\n"),
         (99, 2, 5, "bench:"),
         (2, 1, 5, "inp"),
@@ -85,7 +85,7 @@ fn through_pipes(rt: HostRuntime) -> Result<(), Fail> {
     let mut text = Vec::new(rt.alloc());
     written.read_to_end(&mut text)?;
     assert_eq!(rt; status, 3);
-    assert_eq!(rt; text.as_slice(), b"bench: not built yet\n".as_slice());
+    assert_eq!(rt; text.as_slice(), b"bench: bad shape at schema\n".as_slice());
     Ok(())
 }
 
@@ -154,43 +154,59 @@ fn queries_that_are_no_documents(rt: HostRuntime) -> Result<(), Fail> {
     Ok(())
 }
 
-/// Whether a bench is built whose one field has this answer, and that has these members more.
-fn is_built(alloc: Global, answer: &str, more: &str, built: bool) -> Made<bool> {
+/// Whether a bench ends so whose one field has this answer, and that has these members more.
+fn answer_ends_with(alloc: Global, answer: &str, more: &str, status: u8, line: &str) -> Made<bool> {
     let field = format!(in alloc; "{{\"name\":\"value\",\"type\":\"Int\",\"answer\":{answer}}}")?;
     let input = bench_text(alloc, field.as_str(), "{ value }", more)?;
-    if built {
-        text_ends_with(
-            alloc,
-            "execute",
-            input.as_str(),
-            0,
-            "{\"data\":{\"value\":1}}\n",
-        )
-    } else {
-        text_ends_with(alloc, "execute", input.as_str(), 3, NOT_BUILT)
-    }
+    text_ends_with(alloc, "execute", input.as_str(), status, line)
 }
+
+const VALUE: &str = "{\"data\":{\"value\":1}}\n";
+
+const BAD_DELAY: &str = "bench: bad shape at schema.types[0].fields[0].answer.delay\n";
 
 #[test]
 fn delays_and_turns(rt: HostRuntime) -> Result<(), Fail> {
-    for (answer, more, built) in [
-        ("{\"const\":1,\"delay\":0}", "", true),
+    for (answer, more, status, line) in [
+        ("{\"const\":1,\"delay\":0}", "", 0, VALUE),
         (
             "{\"delay\":1000000,\"const\":1}",
             ",\"turns\":[1,0,18446744073709551615]",
-            true,
+            0,
+            VALUE,
         ),
-        ("{\"const\":1}", ",\"turns\":[]", true),
-        ("{\"const\":1,\"delay\":1000001}", "", false),
-        ("{\"const\":1,\"delay\":-1}", "", false),
-        ("{\"const\":1,\"delay\":null}", "", false),
-        ("{\"const\":1}", ",\"turns\":[-1]", false),
-        ("{\"const\":1}", ",\"turns\":[18446744073709551616]", false),
-        ("{\"const\":1}", ",\"turns\":1", false),
-        ("{\"const\":1}", ",\"later\":[]", false),
+        ("{\"const\":1}", ",\"turns\":[]", 0, VALUE),
+        ("{\"const\":1,\"delay\":1000001}", "", 3, BAD_DELAY),
+        ("{\"const\":1,\"delay\":-1}", "", 3, BAD_DELAY),
+        ("{\"const\":1,\"delay\":null}", "", 3, BAD_DELAY),
+        (
+            "{\"const\":1}",
+            ",\"turns\":[0,-1]",
+            3,
+            "bench: bad shape at turns[1]\n",
+        ),
+        (
+            "{\"const\":1}",
+            ",\"turns\":[18446744073709551616]",
+            3,
+            "bench: bad shape at turns[0]\n",
+        ),
+        (
+            "{\"const\":1}",
+            ",\"turns\":1",
+            3,
+            "bench: bad shape at turns\n",
+        ),
+        (
+            "{\"const\":1}",
+            ",\"later\":[]",
+            3,
+            "bench: bad shape at later\n",
+        ),
+        ("{\"none\":true}", "", 3, NOT_BUILT),
     ] {
         assert!(rt;
-            is_built(rt.alloc(), answer, more, built)?,
+            answer_ends_with(rt.alloc(), answer, more, status, line)?,
             "at {answer}{more}"
         );
     }

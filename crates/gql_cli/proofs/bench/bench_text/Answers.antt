@@ -1,13 +1,18 @@
+use Rattle.std.proofs.Common.{[]}
 use Rattle.serde_json.specs.View.{view}
 use Rattle.gql_cli.proofs.BenchLemmas.{made-gives, no-bench, suited}
 use Rattle.gql_cli.proofs.bench.bench_text.Goals as goal
 
-pub returns-in-Ok : goal.returns-in-Ok
-returns-in-Ok g c =
-    made-gives _ c.args.command (view c.args.json) c.in-Ok.bench (rw c.in-Ok.is at c.in_ok-made.ensures.built) c.query_text.result c.query_text.ensures
+pub returns-in-Bench : goal.returns-in-Bench
+returns-in-Bench g c =
+    made-gives _ c.args.command (view c.args.json) c.in-Bench.bench (rw c.in-Bench.is at c.in_ok-found.ensures) c.query_text.result c.query_text.ensures
 
 pub query_text-requires : goal.query_text-requires
-query_text-requires g c = suited (view c.args.json) c.in-Ok.bench (rw c.in-Ok.is at c.in_ok-made.ensures.built)
+query_text-requires g c = suited c.args.command (view c.args.json) c.in-Bench.bench (rw c.in-Bench.is at c.in_ok-found.ensures)
 
-pub returns : goal.returns
-returns g c = no-bench c.args.command (view c.args.json) (rw c.in-Err.is at c.in_ok-made.ensures.refused).1
+pub returns-in-NotBuilt : goal.returns-in-NotBuilt
+returns-in-NotBuilt g c = ([], no-bench c.args.command (view c.args.json) (rw c.in-NotBuilt.is at c.in_ok-found.ensures), tt)
+
+pub returns-in_ok-bad_shape_line-in-BadAt : goal.returns-in_ok-bad_shape_line-in-BadAt
+returns-in_ok-bad_shape_line-in-BadAt g c =
+    ([], (c.in-BadAt.place, rw c.in-BadAt.is at c.in_ok-found.ensures, c.in_ok-bad_shape_line-in-BadAt.ensures), tt)
