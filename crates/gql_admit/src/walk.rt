@@ -9,7 +9,9 @@ ghost use Rattle.gql_admit.specs.Places.{field_places, inline_places, on_named, 
 ghost use Rattle.gql_admit.specs.Walking.{field_place, tells};
 
 use crate::breach::Breach;
-use crate::breach_texts::{no_set, set_on_leaf, unknown_condition, unknown_field, unknown_fragment};
+use crate::breach_texts::{
+    no_set, set_on_leaf, unknown_condition, unknown_field, unknown_fragment,
+};
 use crate::field_type::{FieldType, is_composite_type, is_leaf_type};
 use crate::site::Site;
 use gql_base::{Items, Made, Name, Pairs, Pos};

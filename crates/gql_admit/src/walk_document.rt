@@ -62,7 +62,13 @@ fn walk_operation(
 {
     match against.site.root(operation.node.ty) {
         None => Ok(()),
-        Some(ty) => walk_set(alloc, &operation.node.selection_set.node, ty, against, found),
+        Some(ty) => walk_set(
+            alloc,
+            &operation.node.selection_set.node,
+            ty,
+            against,
+            found,
+        ),
     }
 }
 
