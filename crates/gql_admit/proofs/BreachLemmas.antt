@@ -39,8 +39,8 @@ module _ {A B : Type 0} (f : A → List B) where
       elim (Contains-append_cases (f x) (flat_map f xs) b at) [
         | inl h ↦ record { item = x; there = first_in x xs; gives = h }
         | inr h ↦
-        let rest = given_from xs b h in
-        record { item = rest.item; there = later_in x rest.item xs rest.there; gives = rest.gives }
+            let rest = given_from xs b h in
+            record { item = rest.item; there = later_in x rest.item xs rest.there; gives = rest.gives }
       ]
 
   given_at : (xs : List A) (x : A) (b : B) → Contains xs x → Contains (f x) b → Contains (flat_map f xs) b
@@ -64,12 +64,12 @@ all_listed against document told_first found list lists is fragments adds =
       in_order = lists.in_order;
       exact = λ e. (
         λ h.
-        elim (adds.only e ((lists.exact e).0 h)) [
-          | inl at ↦
-          let from = given_from (told_at site document.fragments) places e (subst (λ xs. Contains xs e) first at) in
-          at_place from.item from.there from.gives
-          | inr is_circular ↦ circular is_circular
-        ],
+            elim (adds.only e ((lists.exact e).0 h)) [
+              | inl at ↦
+                  let from = given_from (told_at site document.fragments) places e (subst (λ xs. Contains xs e) first at) in
+                  at_place from.item from.there from.gives
+              | inr is_circular ↦ circular is_circular
+            ],
         λ breach. (lists.exact e).1 (among e breach),
       );
     }

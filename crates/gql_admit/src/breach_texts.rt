@@ -2,7 +2,8 @@
 ghost use Rattle.std.specs.Prelude.{◌≡◌, IfOk, string_bytes};
 ghost use Rattle.gql_base.specs.TypeRef.{type_text};
 ghost use Rattle.gql_admit.specs.Breaches.{breach};
-ghost use Rattle.gql_admit.specs.BreachTexts.{circular_text, composite_text, condition_text, leaf_text, unknown_field_text, unknown_fragment_text};
+ghost use Rattle.gql_admit.specs.BreachTexts.{circular_text, composite_text, condition_text};
+ghost use Rattle.gql_admit.specs.BreachTexts.{leaf_text, unknown_field_text, unknown_fragment_text};
 
 use crate::breach::{Breach, BreachKind};
 use gql_base::{Made, Pos, Text};
@@ -10,7 +11,8 @@ use std::alloc::Global;
 
 /// A condition on no object, interface or union.
 pub fn unknown_condition(alloc: Global, pos: Pos, name: &str) -> Made<Breach>
-    ensures { IfOk result (λ made. made ≡ breach pos BreachKind.Condition name.now (condition_text name.now)) }
+    ensures { IfOk result (λ made. made
+        ≡ breach pos BreachKind.Condition name.now (condition_text name.now)) }
 {
     let text = condition_message(alloc, name)?;
     breach_of(alloc, pos, BreachKind::Condition, name, text)
@@ -18,7 +20,8 @@ pub fn unknown_condition(alloc: Global, pos: Pos, name: &str) -> Made<Breach>
 
 /// A field that its type hasn't.
 pub fn unknown_field(alloc: Global, pos: Pos, name: &str, parent: &str) -> Made<Breach>
-    ensures { IfOk result (λ made. made ≡ breach pos BreachKind.UnknownField name.now (unknown_field_text name.now parent.now)) }
+    ensures { IfOk result (λ made. made
+        ≡ breach pos BreachKind.UnknownField name.now (unknown_field_text name.now parent.now)) }
 {
     let text = unknown_field_message(alloc, name, parent)?;
     breach_of(alloc, pos, BreachKind::UnknownField, name, text)
@@ -26,7 +29,8 @@ pub fn unknown_field(alloc: Global, pos: Pos, name: &str, parent: &str) -> Made<
 
 /// A leaf with a set, by the text of its type.
 pub fn set_on_leaf(alloc: Global, pos: Pos, name: &str, ty: &str) -> Made<Breach>
-    ensures { IfOk result (λ made. made ≡ breach pos BreachKind.Selection name.now (leaf_text name.now ty.now)) }
+    ensures { IfOk result (λ made. made
+        ≡ breach pos BreachKind.Selection name.now (leaf_text name.now ty.now)) }
 {
     let text = leaf_message(alloc, name, ty)?;
     breach_of(alloc, pos, BreachKind::Selection, name, text)
@@ -34,7 +38,8 @@ pub fn set_on_leaf(alloc: Global, pos: Pos, name: &str, ty: &str) -> Made<Breach
 
 /// Another type without a set.
 pub fn no_set(alloc: Global, pos: Pos, name: &str, ty: &str) -> Made<Breach>
-    ensures { IfOk result (λ made. made ≡ breach pos BreachKind.Selection name.now (composite_text name.now ty.now)) }
+    ensures { IfOk result (λ made. made
+        ≡ breach pos BreachKind.Selection name.now (composite_text name.now ty.now)) }
 {
     let text = composite_message(alloc, name, ty)?;
     breach_of(alloc, pos, BreachKind::Selection, name, text)
@@ -42,7 +47,8 @@ pub fn no_set(alloc: Global, pos: Pos, name: &str, ty: &str) -> Made<Breach>
 
 /// A spread of a fragment that isn't there.
 pub fn unknown_fragment(alloc: Global, pos: Pos, name: &str) -> Made<Breach>
-    ensures { IfOk result (λ made. made ≡ breach pos BreachKind.UnknownFragment name.now (unknown_fragment_text name.now)) }
+    ensures { IfOk result (λ made. made
+        ≡ breach pos BreachKind.UnknownFragment name.now (unknown_fragment_text name.now)) }
 {
     let text = unknown_fragment_message(alloc, name)?;
     breach_of(alloc, pos, BreachKind::UnknownFragment, name, text)
@@ -50,7 +56,8 @@ pub fn unknown_fragment(alloc: Global, pos: Pos, name: &str) -> Made<Breach>
 
 /// A fragment that reaches itself.
 pub fn circular_fragment(alloc: Global, pos: Pos, name: &str) -> Made<Breach>
-    ensures { IfOk result (λ made. made ≡ breach pos BreachKind.CircularFragment name.now (circular_text name.now)) }
+    ensures { IfOk result (λ made. made
+        ≡ breach pos BreachKind.CircularFragment name.now (circular_text name.now)) }
 {
     let text = circular_message(alloc, name)?;
     breach_of(alloc, pos, BreachKind::CircularFragment, name, text)

@@ -17,12 +17,7 @@ pub fn reaches_itself(alloc: Global, graph: &[Items<usize>], start: usize) -> Ma
 }
 
 /// The same, where no place is marked yet.
-fn walk_from(
-    alloc: Global,
-    graph: &[Items<usize>],
-    start: usize,
-    marks: &mut [bool],
-) -> Made<bool>
+fn walk_from(alloc: Global, graph: &[Items<usize>], start: usize, marks: &mut [bool]) -> Made<bool>
     requires inside { start < length graph.now }
     requires within { AreWithin graph.now }
     requires long { length marks.old ≡ length graph.now }

@@ -40,11 +40,7 @@ fn against<'a>(site: &'a Site<'a>, doc: &'a ExecutableDocument) -> Against<'a>
 
 /// All breaches of a document in their order, each once.
 #[tactic(auto, using(crate::proofs::BreachLemmas::all_listed))]
-fn breaches_of(
-    alloc: Global,
-    against: Against<'_>,
-    doc: &ExecutableDocument,
-) -> Made<Items<Breach>>
+fn breaches_of(alloc: Global, against: Against<'_>, doc: &ExecutableDocument) -> Made<Items<Breach>>
     requires { against.fragments.now ≡ doc.now.fragments }
     ensures { IfOk result (λ breaches. Lists (IsBreach against.entry.site.now doc.now) breaches) }
 {

@@ -50,7 +50,8 @@ fn spread_in_set(
     places: &mut Items<usize>,
 ) -> Made<()>
     requires below { AreBelow (length fragments.now) places.old }
-    ensures places { OnOk result (places.new ≡ places.old ++ set_spreads (names_of fragments.now) set.now) }
+    ensures places { OnOk result (places.new ≡ places.old
+        ++ set_spreads (names_of fragments.now) set.now) }
     ensures below { OnOk result (AreBelow (length fragments.now) places.new) }
 {
     spread_in_selections(set.items.as_slice(), fragments, places)
@@ -80,7 +81,8 @@ fn spread_in_selection(
     places: &mut Items<usize>,
 ) -> Made<()>
     requires below { AreBelow (length fragments.now) places.old }
-    ensures places { OnOk result (places.new ≡ places.old ++ selection_spreads (names_of fragments.now) selection.now) }
+    ensures places { OnOk result (places.new ≡ places.old
+        ++ selection_spreads (names_of fragments.now) selection.now) }
     ensures below { OnOk result (AreBelow (length fragments.now) places.new) }
 {
     match selection {
@@ -97,7 +99,8 @@ fn spread_in_field(
     places: &mut Items<usize>,
 ) -> Made<()>
     requires below { AreBelow (length fragments.now) places.old }
-    ensures places { OnOk result (places.new ≡ places.old ++ field_spreads (names_of fragments.now) field.now) }
+    ensures places { OnOk result (places.new ≡ places.old
+        ++ field_spreads (names_of fragments.now) field.now) }
     ensures below { OnOk result (AreBelow (length fragments.now) places.new) }
 {
     spread_in_set(&field.selection_set.node, fragments, places)
@@ -110,7 +113,8 @@ fn spread_in_inline(
     places: &mut Items<usize>,
 ) -> Made<()>
     requires below { AreBelow (length fragments.now) places.old }
-    ensures places { OnOk result (places.new ≡ places.old ++ inline_spreads (names_of fragments.now) inline.now) }
+    ensures places { OnOk result (places.new ≡ places.old
+        ++ inline_spreads (names_of fragments.now) inline.now) }
     ensures below { OnOk result (AreBelow (length fragments.now) places.new) }
 {
     spread_in_set(&inline.selection_set.node, fragments, places)

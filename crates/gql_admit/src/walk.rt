@@ -9,7 +9,9 @@ ghost use Rattle.gql_admit.specs.Places.{field_places, inline_places, on_named, 
 ghost use Rattle.gql_admit.specs.Walking.{field_place, tells};
 
 use crate::breach::Breach;
-use crate::breach_texts::{no_set, set_on_leaf, unknown_condition, unknown_field, unknown_fragment};
+use crate::breach_texts::{
+    no_set, set_on_leaf, unknown_condition, unknown_field, unknown_fragment,
+};
 use crate::field_type::{FieldType, is_composite_type, is_leaf_type};
 use crate::site::Site;
 use gql_base::{Items, Made, Name, Pairs, Pos};
@@ -35,7 +37,8 @@ pub fn walk_set(
     against: &Against<'_>,
     found: &mut Items<Breach>,
 ) -> Made<()>
-    ensures { OnOk result (found.new ≡ found.old ++ tells against.now (set_places against.now.site.now set.now ty.now)) }
+    ensures { OnOk result (found.new ≡ found.old
+        ++ tells against.now (set_places against.now.site.now set.now ty.now)) }
 {
     walk_selections(alloc, set.items.as_slice(), ty, against, found)
 }
@@ -65,7 +68,8 @@ fn walk_selection(
     against: &Against<'_>,
     found: &mut Items<Breach>,
 ) -> Made<()>
-    ensures { OnOk result (found.new ≡ found.old ++ tells against.now (selection_places against.now.site.now selection.now ty.now)) }
+    ensures { OnOk result (found.new ≡ found.old
+        ++ tells against.now (selection_places against.now.site.now selection.now ty.now)) }
 {
     match selection {
         Selection::Field(field) => walk_field(alloc, field, ty, against, found),
@@ -82,7 +86,8 @@ fn walk_field(
     against: &Against<'_>,
     found: &mut Items<Breach>,
 ) -> Made<()>
-    ensures { OnOk result (found.new ≡ found.old ++ tells against.now (field_places against.now.site.now field.now.node field.now.pos ty.now)) }
+    ensures { OnOk result (found.new ≡ found.old
+        ++ tells against.now (field_places against.now.site.now field.now.node field.now.pos ty.now)) }
 {
     let name = field.node.name.node.as_str();
     match against.site.field_type(ty, name) {
@@ -108,7 +113,8 @@ fn walk_inline(
     against: &Against<'_>,
     found: &mut Items<Breach>,
 ) -> Made<()>
-    ensures { OnOk result (found.new ≡ found.old ++ tells against.now (inline_places against.now.site.now inline.now ty.now)) }
+    ensures { OnOk result (found.new ≡ found.old
+        ++ tells against.now (inline_places against.now.site.now inline.now ty.now)) }
 {
     let set = &inline.selection_set.node;
     match &inline.type_condition {
@@ -153,7 +159,8 @@ fn tell_set(
     against: &Against<'_>,
     found: &mut Items<Breach>,
 ) -> Made<()>
-    ensures { OnOk result (found.new ≡ found.old ++ told_of_set (field_place ty.now field.now) (type_behind known.now)
+    ensures { OnOk result (found.new ≡ found.old
+        ++ told_of_set (field_place ty.now field.now) (type_behind known.now)
         (is_leaf_named against.now.site.now (innermost (type_behind known.now))) (field_place ty.now field.now).has_set) }
 {
     let name = field.node.name.node.as_str();
@@ -187,7 +194,8 @@ pub fn tell_condition(
     against: &Against<'_>,
     found: &mut Items<Breach>,
 ) -> Made<()>
-    ensures { OnOk result (found.new ≡ found.old ++ told_of_condition against.now.site.now condition.now.pos condition.now.node) }
+    ensures { OnOk result (found.new ≡ found.old
+        ++ told_of_condition against.now.site.now condition.now.pos condition.now.node) }
 {
     let name = condition.node.as_str();
     if is_composite_name(against, name) {
@@ -214,7 +222,8 @@ fn tell_spread(
     against: &Against<'_>,
     found: &mut Items<Breach>,
 ) -> Made<()>
-    ensures { OnOk result (found.new ≡ found.old ++ told_of_spread spread.now.pos spread.now.node.fragment_name.node
+    ensures { OnOk result (found.new ≡ found.old
+        ++ told_of_spread spread.now.pos spread.now.node.fragment_name.node
         (under spread.now.node.fragment_name.node against.now.fragments.now)) }
 {
     let name = spread.node.fragment_name.node.as_str();

@@ -3,7 +3,8 @@ ghost use Rattle.std.specs.Prelude.{◌≡◌, ◌++◌, OnOk};
 ghost use Rattle.std.specs.List.{flat_map};
 ghost use Rattle.std.specs.Option.{option_copied};
 ghost use Rattle.gql_base.specs.Pairs.{values_of};
-ghost use Rattle.gql_admit.specs.Places.{as_object, as_subscription, document_places, fragment_places, operation_places, root_of, type_named};
+ghost use Rattle.gql_admit.specs.Places.{as_object, as_subscription, document_places};
+ghost use Rattle.gql_admit.specs.Places.{fragment_places, operation_places, root_of, type_named};
 ghost use Rattle.gql_admit.specs.Walking.{tells};
 
 use crate::breach::Breach;
@@ -25,7 +26,8 @@ pub fn walk_document(
     against: &Against<'_>,
     found: &mut Items<Breach>,
 ) -> Made<()>
-    ensures { OnOk result (found.new ≡ found.old ++ tells against.now (document_places against.now.site.now doc.now)) }
+    ensures { OnOk result (found.new ≡ found.old
+        ++ tells against.now (document_places against.now.site.now doc.now)) }
 {
     match &doc.operations {
         DocumentOperations::Single(operation) => walk_operation(alloc, operation, against, found)?,
@@ -58,11 +60,18 @@ fn walk_operation(
     against: &Against<'_>,
     found: &mut Items<Breach>,
 ) -> Made<()>
-    ensures { OnOk result (found.new ≡ found.old ++ tells against.now (operation_places against.now.site.now operation.now)) }
+    ensures { OnOk result (found.new ≡ found.old
+        ++ tells against.now (operation_places against.now.site.now operation.now)) }
 {
     match against.site.root(operation.node.ty) {
         None => Ok(()),
-        Some(ty) => walk_set(alloc, &operation.node.selection_set.node, ty, against, found),
+        Some(ty) => walk_set(
+            alloc,
+            &operation.node.selection_set.node,
+            ty,
+            against,
+            found,
+        ),
     }
 }
 
@@ -88,7 +97,8 @@ fn walk_fragment(
     against: &Against<'_>,
     found: &mut Items<Breach>,
 ) -> Made<()>
-    ensures { OnOk result (found.new ≡ found.old ++ tells against.now (fragment_places against.now.site.now fragment.now)) }
+    ensures { OnOk result (found.new ≡ found.old
+        ++ tells against.now (fragment_places against.now.site.now fragment.now)) }
 {
     let condition = &fragment.node.type_condition;
     tell_condition(alloc, condition, against, found)?;

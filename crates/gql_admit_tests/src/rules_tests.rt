@@ -11,13 +11,19 @@ use std::test::Fail;
 /// interface `I`, and what is told of them.
 const RULES: [(&str, &str); 17] = [
     ("{ value o { a } }", ""),
-    ("{ value1 }", "Unknown field \"value1\" on type \"Query\". 1:3; "),
+    (
+        "{ value1 }",
+        "Unknown field \"value1\" on type \"Query\". 1:3; ",
+    ),
     ("{ ...X }", "Unknown fragment \"X\". 1:3; "),
     (
         "{ value { a } }",
         "Field \"value\" of type \"Int\" must not have a selection. 1:3; ",
     ),
-    ("{ o }", "Field \"o\" of type \"A!\" must have a selection. 1:3; "),
+    (
+        "{ o }",
+        "Field \"o\" of type \"A!\" must have a selection. 1:3; ",
+    ),
     (
         "{ ... on Int { a } }",
         "Fragment condition \"Int\" is no object, interface or union. 1:10; ",
@@ -39,9 +45,15 @@ const RULES: [(&str, &str); 17] = [
         "{ u { a ... on A { a } __typename } }",
         "Unknown field \"a\" on type \"U\". 1:7; ",
     ),
-    ("{ on { a ... on A { b } } }", "Unknown field \"a\" on type \"I\". 1:8; Unknown field \"b\" on type \"A\". 1:21; "),
+    (
+        "{ on { a ... on A { b } } }",
+        "Unknown field \"a\" on type \"I\". 1:8; Unknown field \"b\" on type \"A\". 1:21; ",
+    ),
     ("mutation { lost }", ""),
-    ("query A { x } query B { y }", "Unknown field \"x\" on type \"Query\". 1:11; Unknown field \"y\" on type \"Query\". 1:25; "),
+    (
+        "query A { x } query B { y }",
+        "Unknown field \"x\" on type \"Query\". 1:11; Unknown field \"y\" on type \"Query\". 1:25; ",
+    ),
     (
         "{ value } fragment A on Query { ...A }",
         "Fragment \"A\" contains itself. 1:11; ",
@@ -51,22 +63,43 @@ const RULES: [(&str, &str); 17] = [
         "Fragment \"A\" contains itself. 1:11; Unknown field \"lost\" on type \"A\". 1:29; \
         Fragment \"B\" contains itself. 1:45; Fragment condition \"Lost\" is no object, interface or union. 1:59; ",
     ),
-    ("{ ...A } fragment A on Query { ...B ...B } fragment B on Query { value }", ""),
-    ("{ __typename { a } }", "Field \"__typename\" of type \"String!\" must not have a selection. 1:3; "),
+    (
+        "{ ...A } fragment A on Query { ...B ...B } fragment B on Query { value }",
+        "",
+    ),
+    (
+        "{ __typename { a } }",
+        "Field \"__typename\" of type \"String!\" must not have a selection. 1:3; ",
+    ),
 ];
 
 fn query_type(alloc: Global) -> Made<SchemaType> {
     let object = Object::new(alloc, "Query")?
-        .field(alloc, Field::new(alloc, "value", TypeRef::named(alloc, "Int")?, 0)?)?
-        .field(alloc, Field::new(alloc, "o", TypeRef::named_nn(alloc, "A")?, 1)?)?
-        .field(alloc, Field::new(alloc, "u", TypeRef::named(alloc, "U")?, 2)?)?
-        .field(alloc, Field::new(alloc, "on", TypeRef::named(alloc, "I")?, 3)?)?;
+        .field(
+            alloc,
+            Field::new(alloc, "value", TypeRef::named(alloc, "Int")?, 0)?,
+        )?
+        .field(
+            alloc,
+            Field::new(alloc, "o", TypeRef::named_nn(alloc, "A")?, 1)?,
+        )?
+        .field(
+            alloc,
+            Field::new(alloc, "u", TypeRef::named(alloc, "U")?, 2)?,
+        )?
+        .field(
+            alloc,
+            Field::new(alloc, "on", TypeRef::named(alloc, "I")?, 3)?,
+        )?;
     Ok(SchemaType::Object(object))
 }
 
 fn a_type(alloc: Global) -> Made<SchemaType> {
     let object = Object::new(alloc, "A")?
-        .field(alloc, Field::new(alloc, "a", TypeRef::named(alloc, "Int")?, 4)?)?
+        .field(
+            alloc,
+            Field::new(alloc, "a", TypeRef::named(alloc, "Int")?, 4)?,
+        )?
         .implement(alloc, "I")?;
     Ok(SchemaType::Object(object))
 }
@@ -83,10 +116,7 @@ fn types(alloc: Global) -> Made<Types> {
     types.register(alloc, query_type(alloc)?)?;
     types.register(alloc, a_type(alloc)?)?;
     types.register(alloc, union_type(alloc)?)?;
-    types.register(
-        alloc,
-        SchemaType::Interface(Interface::new(alloc, "I")?),
-    )?;
+    types.register(alloc, SchemaType::Interface(Interface::new(alloc, "I")?))?;
     Ok(types)
 }
 

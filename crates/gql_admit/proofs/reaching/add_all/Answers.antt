@@ -17,8 +17,7 @@ pub loop-place-preserved : goal.loop-place-preserved
 loop-place-preserved c =
     let places = c.args.places.now in
     let index = c.loop-place.place-index in
-    let at : slice_get places index ≡ Some (get_or places index 0) = slice_get-get_or places index 0 (omega arith) in
-    (
+    let at : slice_get places index ≡ Some (get_or places index 0) = slice_get-get_or places index 0 (omega arith) in (
       c.in_ok-add_one.ensures.reached ∙ ap (λ ns. with_number ns (get_or places index 0)) c.loop-place.invariant.0
           ∙ sym (numbers_more c.args.reached.now places index (get_or places index 0) at),
       c.in_ok-add_one.ensures.marks,

@@ -20,8 +20,7 @@ walk-init c =
     let graph = c.args.graph.now in
     let read : c.as_slice.result.now ≡ c.index-graph-start.result = cc in
     let led : c.as_slice.result.now ≡ led_to graph c.args.start
-    = led_is graph c.args.start c.index-graph-start.result c.as_slice.result.now c.requires.inside c.index-graph-start.is read in
-    (
+    = led_is graph c.args.start c.index-graph-start.result c.as_slice.result.now c.requires.inside c.index-graph-start.is read in (
       walk_starts graph c.args.start c.add_all.new.reached
           (c.in_ok-add_all.ensures.reached ∙ (λ i. with_numbers (c.new-reached.ensures i) (led i))),
       c.in_ok-add_all.ensures.marks,
@@ -83,8 +82,7 @@ walk-preserved c =
     let at : slice_get c.walk.reached c.walk.next ≡ Some place = place_read c.as_slice-in-walk.result.now c.walk.reached c.walk.next list next in
     let inside : place < length graph = reached_within graph c.args.start place c.requires.within (c.walk.invariant.0.sound place (among-take c.walk.reached c.walk.next place at)) in
     let read : c.as_slice-in-walk-2.result.now ≡ c.index-graph-place.result = cc in
-    let led : c.as_slice-in-walk-2.result.now ≡ led_to graph place = led_is graph place c.index-graph-place.result c.as_slice-in-walk-2.result.now inside c.index-graph-place.is read in
-    (
+    let led : c.as_slice-in-walk-2.result.now ≡ led_to graph place = led_is graph place c.index-graph-place.result c.as_slice-in-walk-2.result.now inside c.index-graph-place.is read in (
       walk_goes graph c.args.start c.walk.reached c.add_all-in-walk.new.reached c.walk.next place c.walk.invariant.0 at
           (c.in_ok-add_all-2.ensures.reached ∙ ap (with_numbers c.walk.reached) led) next,
       c.in_ok-add_all-2.ensures.marks,
