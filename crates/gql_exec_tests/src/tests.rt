@@ -1,4 +1,4 @@
-use gql_base::{Copied, Made, Number, Text, TypeRef, Value};
+use gql_base::{Copied, Made, Number, TypeRef, Value};
 use gql_doc::OperationType;
 use gql_exec::{DynamicRequest, DynamicRequestExt, Schema, SchemaBuilder};
 use gql_request::{DataKey, IntrospectionMode, Request};
@@ -16,43 +16,66 @@ fn builder(alloc: Global, field_type: &str) -> Made<SchemaBuilder> {
         .data(DataKey(1), Value::Number(Number::from_i64(7)))
 }
 
-/// A builder with all that a schema can be told.
-fn full_builder(alloc: Global) -> Made<SchemaBuilder> {
-    Ok(builder(alloc, "Int")?
-        .limit_recursive_depth(5)
-        .limit_directives(3)
-        .disable_introspection()
-        .enable_federation()
-        .entity_resolver(9))
+/// A builder of a sound schema.
+fn sound(alloc: Global) -> Made<SchemaBuilder> {
+    builder(alloc, "Int")
+}
+
+/// A builder whose field has a type that isn't registered.
+fn unsound(alloc: Global) -> Made<SchemaBuilder> {
+    builder(alloc, "Nothing")
 }
 
 /// A builder whose `Query` was registered twice: the second one stands.
 fn replaced(alloc: Global) -> Made<SchemaBuilder> {
-    let field = Field::new(alloc, "f", TypeRef::named(alloc, "String")?, 0)?;
+    let field = Field::new(alloc, "f", TypeRef::named(alloc, "Nothing")?, 0)?;
     let query = Object::new(alloc, "Query")?.field(alloc, field)?;
-    builder(alloc, "Int")?.register(alloc, SchemaType::Object(query))
+    sound(alloc)?.register(alloc, SchemaType::Object(query))
+}
+
+/// A builder with all that a schema can be told.
+fn full(alloc: Global) -> Made<SchemaBuilder> {
+    Ok(
+        sound(alloc)?
+            .limit_recursive_depth(5)
+            .limit_directives(3)
+            .disable_introspection()
+            .enable_federation()
+            .entity_resolver(9),
+    )
+}
+
+/// An object type with a key.
+fn entity(alloc: Global) -> Made<SchemaType> {
+    let field = Field::new(alloc, "id", TypeRef::named(alloc, "ID")?, 0)?;
+    let object = Object::new(alloc, "Keyed")?.field(alloc, field)?;
+    Ok(SchemaType::Object(object.key(alloc, "id")?))
 }
 
 /// A builder whose object has a key.
 fn keyed(alloc: Global) -> Made<SchemaBuilder> {
-    let query = Object::new(alloc, "Keyed")?;
-    let field = Field::new(alloc, "id", TypeRef::named(alloc, "ID")?, 0)?;
-    let keyed = query.field(alloc, field)?.key(alloc, "id")?;
-    Ok(builder(alloc, "Int")?
-        .register(alloc, SchemaType::Object(keyed))?
-        .entity_resolver(4))
+    let entity = entity(alloc)?;
+    Ok(sound(alloc)?.register(alloc, entity)?.entity_resolver(4))
 }
+
+/// A copy of a builder whose requests may ask for the schema alone.
+fn copied(alloc: Global) -> Made<SchemaBuilder> {
+    sound(alloc)?.introspection_only().try_clone(alloc)
+}
+
+/// What makes a builder.
+type Building = fn(Global) -> Made<SchemaBuilder>;
 
 /// What is asked of a schema.
 type Test = fn(&Schema) -> bool;
 
-/// Whether a builder gives a schema of which a test holds.
-fn gives(alloc: Global, builder: SchemaBuilder, holds: Test) -> Made<bool> {
-    match builder.finish(alloc)? {
-        Ok(schema) => Ok(holds(&schema)),
-        Err(_) => Ok(false),
-    }
-}
+/// Builders, and what holds of their schemas.
+const SCHEMAS: [(Building, Test); 4] = [
+    (sound, is_plain),
+    (full, is_full),
+    (keyed, has_entities),
+    (copied, is_introspection_only),
+];
 
 fn limits_are(schema: &Schema, depth: usize, directives: Option<usize>) -> bool {
     let settings = schema.settings();
@@ -107,47 +130,65 @@ fn is_introspection_only(schema: &Schema) -> bool {
     schema.mode(IntrospectionMode::Disabled) == IntrospectionMode::IntrospectionOnly
 }
 
-#[test]
-fn schemas_have_what_their_builders_were_told(rt: HostRuntime) -> Result<(), Fail> {
-    let alloc = rt.alloc();
-    assert!(rt; gives(alloc, builder(alloc, "Int")?, is_plain)?);
-    assert!(rt; gives(alloc, replaced(alloc)?, is_plain)?);
-    assert!(rt; gives(alloc, full_builder(alloc)?, is_full)?);
-    assert!(rt; gives(alloc, keyed(alloc)?, has_entities)?);
-    let only = builder(alloc, "Int")?.introspection_only();
-    assert!(rt; gives(alloc, only.try_clone(alloc)?, is_introspection_only)?);
-    Ok(())
+/// Whether a test holds of a copy.
+fn holds_of_copy(alloc: Global, schema: &Schema, holds: Test) -> Made<bool> {
+    let copy = schema.try_clone(alloc)?;
+    Ok(holds(&copy))
 }
 
-/// The refusal of a builder whose field has a type of this name, or nothing.
-fn refusal(alloc: Global, field_type: &str) -> Made<Option<(u8, Text)>> {
-    match builder(alloc, field_type)?.finish(alloc)? {
-        Ok(schema) => {
-            let _ = schema.try_clone(alloc)?;
-            Ok(None)
-        }
-        Err(error) => Ok(Some((error.rule, error.text))),
+/// Whether a builder gives a schema of which a test holds.
+fn gives(alloc: Global, builder: SchemaBuilder, holds: Test) -> Made<bool> {
+    match builder.finish(alloc)? {
+        Ok(schema) => holds_of_copy(alloc, &schema, holds),
+        Err(_) => Ok(false),
     }
 }
 
-fn is_refused(alloc: Global, field_type: &str, rule: u8, text: &str) -> Made<bool> {
-    Ok(match refusal(alloc, field_type)? {
-        Some((broken, told)) => broken == rule && told.as_str() == text,
-        None => false,
-    })
+/// The place of the first of these builders of whose schema its test doesn't hold.
+fn first_wrong(alloc: Global, table: &[(Building, Test)]) -> Made<Option<usize>> {
+    for (place, (build, holds)) in table.iter().enumerate() {
+        if !gives(alloc, build(alloc)?, *holds)? {
+            return Ok(Some(place));
+        }
+    }
+    Ok(None)
+}
+
+#[test]
+fn schemas_have_what_their_builders_were_told(rt: HostRuntime) -> Result<(), Fail> {
+    assert_eq!(rt; first_wrong(rt.alloc(), &SCHEMAS)?, None);
+    Ok(())
+}
+
+/// Whether a builder is refused for its field's type, which isn't registered.
+fn is_refused(alloc: Global, builder: SchemaBuilder) -> Made<bool> {
+    match builder.finish(alloc)? {
+        Ok(_) => Ok(false),
+        Err(error) => Ok(error.rule == 1 && error.text.as_str() == "Type \"Nothing\" not found"),
+    }
 }
 
 #[test]
 fn unsound_tables_are_refused(rt: HostRuntime) -> Result<(), Fail> {
     let alloc = rt.alloc();
-    assert!(rt; refusal(alloc, "Int")?.is_none());
-    assert!(rt; is_refused(alloc, "Nothing", 1, "Type \"Nothing\" not found")?);
+    assert!(rt; is_refused(alloc, unsound(alloc)?)?);
+    assert!(rt; is_refused(alloc, replaced(alloc)?)?);
     Ok(())
 }
 
-/// Whether the root's value is the number 5.
+/// A copy of a request whose root has the number 5.
+fn rooted(alloc: Global) -> Made<DynamicRequest<i64>> {
+    let request = Request::new(alloc, "{ f }")?.root_value(FieldValue::own(5));
+    request.try_clone(alloc)
+}
+
 fn is_rooted(request: &DynamicRequest<i64>) -> bool {
     request.inner.query.as_str() == "{ f }" && request.root_value.as_own() == Some(&5)
+}
+
+/// A request that says nothing of its root.
+fn bare(alloc: Global) -> Made<DynamicRequest<i64>> {
+    Ok(DynamicRequest::from(Request::new(alloc, "{ f }")?))
 }
 
 /// Whether the root's value is null.
@@ -159,10 +200,15 @@ fn is_bare(request: &DynamicRequest<i64>) -> bool {
 }
 
 #[test]
-fn requests_have_a_root(rt: HostRuntime) -> Result<(), Fail> {
-    let alloc = rt.alloc();
-    let rooted = Request::new(alloc, "{ f }")?.root_value(FieldValue::own(5));
-    assert!(rt; is_rooted(&rooted.try_clone(alloc)?));
-    assert!(rt; is_bare(&DynamicRequest::from(Request::new(alloc, "{ f }")?)));
+fn a_request_has_the_value_of_its_root(rt: HostRuntime) -> Result<(), Fail> {
+    let request = rooted(rt.alloc())?;
+    assert!(rt; is_rooted(&request));
+    Ok(())
+}
+
+#[test]
+fn without_a_value_the_root_is_null(rt: HostRuntime) -> Result<(), Fail> {
+    let request = bare(rt.alloc())?;
+    assert!(rt; is_bare(&request));
     Ok(())
 }
