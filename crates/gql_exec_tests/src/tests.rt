@@ -63,19 +63,35 @@ fn copied(alloc: Global) -> Made<SchemaBuilder> {
     sound(alloc)?.introspection_only().try_clone(alloc)
 }
 
-/// What makes a builder.
-type Building = fn(Global) -> Made<SchemaBuilder>;
+/// A builder that is tried.
+#[derive(Clone, Copy)]
+enum Case {
+    Sound,
+    Full,
+    Keyed,
+    Copied,
+}
 
-/// What is asked of a schema.
-type Test = fn(&Schema) -> bool;
+const CASES: [Case; 4] = [Case::Sound, Case::Full, Case::Keyed, Case::Copied];
 
-/// Builders, and what holds of their schemas.
-const SCHEMAS: [(Building, Test); 4] = [
-    (sound, is_plain),
-    (full, is_full),
-    (keyed, has_entities),
-    (copied, is_introspection_only),
-];
+fn build(alloc: Global, case: Case) -> Made<SchemaBuilder> {
+    match case {
+        Case::Sound => sound(alloc),
+        Case::Full => full(alloc),
+        Case::Keyed => keyed(alloc),
+        Case::Copied => copied(alloc),
+    }
+}
+
+/// Whether a schema has what the builder of a case was told.
+fn is_of(case: Case, schema: &Schema) -> bool {
+    match case {
+        Case::Sound => is_plain(schema),
+        Case::Full => is_full(schema),
+        Case::Keyed => has_entities(schema),
+        Case::Copied => is_introspection_only(schema),
+    }
+}
 
 fn limits_are(schema: &Schema, depth: usize, directives: Option<usize>) -> bool {
     let settings = schema.settings();
@@ -130,33 +146,31 @@ fn is_introspection_only(schema: &Schema) -> bool {
     schema.mode(IntrospectionMode::Disabled) == IntrospectionMode::IntrospectionOnly
 }
 
-/// Whether a test holds of a copy.
-fn holds_of_copy(alloc: Global, schema: &Schema, holds: Test) -> Made<bool> {
+fn is_copied_of(alloc: Global, case: Case, schema: &Schema) -> Made<bool> {
     let copy = schema.try_clone(alloc)?;
-    Ok(holds(&copy))
+    Ok(is_of(case, &copy))
 }
 
-/// Whether a builder gives a schema of which a test holds.
-fn gives(alloc: Global, builder: SchemaBuilder, holds: Test) -> Made<bool> {
+/// Whether a builder gives the schema of a case.
+fn gives(alloc: Global, builder: SchemaBuilder, case: Case) -> Made<bool> {
     match builder.finish(alloc)? {
-        Ok(schema) => holds_of_copy(alloc, &schema, holds),
+        Ok(schema) => is_copied_of(alloc, case, &schema),
         Err(_) => Ok(false),
     }
 }
 
-/// The place of the first of these builders of whose schema its test doesn't hold.
-fn first_wrong(alloc: Global, table: &[(Building, Test)]) -> Made<Option<usize>> {
-    for (place, (build, holds)) in table.iter().enumerate() {
-        if !gives(alloc, build(alloc)?, *holds)? {
-            return Ok(Some(place));
+fn are_built(alloc: Global, cases: &[Case]) -> Made<bool> {
+    for case in cases {
+        if !gives(alloc, build(alloc, *case)?, *case)? {
+            return Ok(false);
         }
     }
-    Ok(None)
+    Ok(true)
 }
 
 #[test]
 fn schemas_have_what_their_builders_were_told(rt: HostRuntime) -> Result<(), Fail> {
-    assert_eq!(rt; first_wrong(rt.alloc(), &SCHEMAS)?, None);
+    assert!(rt; are_built(rt.alloc(), &CASES)?);
     Ok(())
 }
 
