@@ -48,3 +48,6 @@ returns-in-Ok-clause-complete g c =
     (HasRisen (g.O.Sink.faults c.args.sink.now) (g.O.Sink.faults c.deliver.new.sink))
     (Appends (g.O.Sink.held c.args.sink.now) (g.O.Sink.held c.deliver.new.sink)) command c.in-Ok.ensures.due
     c.deliver.ensures.whole c.deliver.ensures.cause listed)
+
+pub returns-in-Ok-clause-write_fault : goal.returns-in-Ok-clause-write_fault
+returns-in-Ok-clause-write_fault g c = rw c.code.ensures (λ five. c.deliver.ensures.cause five)
