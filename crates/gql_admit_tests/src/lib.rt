@@ -2,6 +2,8 @@
 //! without proving that crate again.
 #![tactic(auto)]
 
+mod shared;
+
 #[cfg(test)]
 mod rules_tests;
 #[cfg(test)]

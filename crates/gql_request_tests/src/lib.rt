@@ -1,6 +1,8 @@
 //! Tests of `gql_request`: requests and responses.
 #![tactic(auto)]
 
+mod shared;
+
 #[cfg(test)]
 mod request_tests;
 #[cfg(test)]
