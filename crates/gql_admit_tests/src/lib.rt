@@ -2,10 +2,9 @@
 //! without proving that crate again.
 #![tactic(auto)]
 
-mod shared;
-
 #[cfg(test)]
 mod rules_tests;
+mod shared;
 #[cfg(test)]
 mod short_form;
 #[cfg(test)]

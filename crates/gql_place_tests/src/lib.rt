@@ -2,6 +2,5 @@
 #![tactic(auto)]
 
 mod shared;
-
 #[cfg(test)]
 mod tests;
