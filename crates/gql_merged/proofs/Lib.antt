@@ -1,0 +1,10 @@
+pub mod ArgumentLemmas
+pub mod AskingLemmas
+pub mod AssembledLemmas
+pub mod CompletingLemmas
+pub mod FillingLemmas
+pub mod GroupLemmas
+pub mod JobLemmas
+pub mod LevelLemmas
+pub mod MergedLemmas
+pub mod NestLemmas

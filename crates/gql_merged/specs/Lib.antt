@@ -1,0 +1,15 @@
+pub mod ArgumentValues
+pub mod Asks
+pub mod Assembled
+pub mod Basis
+pub mod Behind
+pub mod Completing
+pub mod FieldsWithin
+pub mod Filling
+pub mod Groups
+pub mod Jobs
+pub mod Levels
+pub mod Merged
+pub mod MergedLaws
+pub mod Stored
+pub mod Tasks

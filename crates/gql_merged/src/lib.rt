@@ -1,0 +1,28 @@
+//! Merged execution, part by part (GraphQL, October 2021, sections 6.3 and 6.4): the fields that an object has in a set, collected and
+//! merged under their keys, with what each asks; what an answer comes to by its type; and places that are put together of those
+//! beneath. The plan that runs the parts as tasks is to come.
+#![tactic(auto)]
+
+mod argument_values;
+mod asking;
+mod asks;
+mod basis;
+mod completing;
+mod fields_within;
+mod filling;
+mod group;
+mod grouping;
+pub mod laws;
+mod level;
+mod levels;
+mod members;
+mod naming;
+
+pub use asks::Asks;
+pub use basis::Basis;
+pub use completing::complete_result;
+pub use filling::fill;
+pub use group::{Group, Groups};
+pub use level::{Level, Node};
+pub use levels::{fields_beneath, level_of};
+pub use members::members_at;
