@@ -108,11 +108,13 @@ fn union_type(alloc: Global) -> Made<SchemaType> {
     Ok(SchemaType::Union(Union::new(alloc, "U")?.possible_type(alloc, "A")?))
 }
 
-/// The types, without the scalars that aren't used.
+/// The types, without the scalars that are of no field.
 fn types(alloc: Global) -> Made<Types> {
     let mut types = Types::new(alloc);
     let int = Scalar::new(alloc, "Int")?.rule(ScalarRule::Int);
     types.register(alloc, SchemaType::Scalar(int))?;
+    let text = Scalar::new(alloc, "String")?.rule(ScalarRule::Text);
+    types.register(alloc, SchemaType::Scalar(text))?;
     types.register(alloc, query_type(alloc)?)?;
     types.register(alloc, a_type(alloc)?)?;
     types.register(alloc, union_type(alloc)?)?;
