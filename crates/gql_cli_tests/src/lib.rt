@@ -7,6 +7,7 @@ mod record_tests;
 mod runs;
 #[cfg(test)]
 mod shape_tests;
+mod shared;
 #[cfg(test)]
 mod table_tests;
 #[cfg(test)]
