@@ -1,0 +1,86 @@
+-- What a field asks by its name and arguments is what the meaning of execution says.
+use Rattle.std.proofs.Common.{◌≡◌, ℕ, ◌||◌, Bool, true, false, cond, List, Option, Some, None, refl, ap, sym, ◌∙◌}
+use Rattle.std.specs.Prelude.{Err, IfOk, Ok, option_and_then, option_map, Result}
+use Rattle.gql_base.specs.declared.value.Value.{Value}
+use Rattle.gql_doc.specs.declared.document.Field.{Field}
+use Rattle.gql_doc.specs.declared.document.Positioned.{Positioned}
+use Rattle.gql_meaning.specs.Execution.{answered_outcome, Asking, asking_at, Execution, field_asking, field_outcome, is_typename, typename_outcome}
+use Rattle.gql_meaning.specs.TableSetting.{arguments_in, field_in}
+use Rattle.gql_place.specs.Filled.{Outcome}
+use Rattle.gql_resolve.specs.Call.{Call}
+use Rattle.gql_resolve.specs.declared.answer.Answer.{Answer}
+use Rattle.gql_resolve.specs.declared.field_value.FieldValue.{FieldValue}
+use Rattle.gql_schema.specs.TableReading.{Declared}
+use Rattle.gql_select.specs.Alike.{arguments_of, name_of}
+use Rattle.gql_select.specs.Constants.{constants}
+use Rattle.gql_engine.specs.Asks.{asking_by, asks_allowed, asks_at, asks_by, asks_of, outcome_by}
+use Rattle.gql_engine.specs.declared.asks.Asks.{Asks}
+use Rattle.gql_engine.specs.declared.asks.Asks.TheVariants as asks
+
+module _ {V : Type 0} (is_root : Bool) (execution : Execution) (parent : FieldValue V) where
+  at_number : (declared : Declared) (number : Option ℕ) (arguments : List (List ℕ × Value))
+      → asking_at is_root execution parent arguments (record declared { number = number })
+      ≡ asking_by is_root execution.layers parent (asks_by arguments declared number)
+  at_number declared None arguments = refl
+  at_number declared (Some resolver) arguments = refl
+
+  at_declared : (found : Option Declared) (arguments : List (List ℕ × Value))
+      → option_and_then (asking_at is_root execution parent arguments) found
+      ≡ asking_by is_root execution.layers parent (asks_at arguments found)
+  at_declared None arguments = refl
+  at_declared (Some declared) arguments = at_number declared declared.number arguments
+
+  at_tests : (only is_name : Bool) (asking : Option (Asking V)) (a : Asks) → asking ≡ asking_by is_root execution.layers parent a
+      → cond (only || is_name) None asking ≡ asking_by is_root execution.layers parent (cond is_name asks.Typename (cond only asks.Nothing a))
+  at_tests true true asking a is = refl
+  at_tests true false asking a is = refl
+  at_tests false true asking a is = refl
+  at_tests false false asking a is = is
+
+  -- a field asks the call that is made of what it asks on any value of its object
+  pub asking_is : (object : List ℕ) (field : Positioned Field)
+      → field_asking is_root execution object parent field ≡ asking_by is_root execution.layers parent (asks_of execution object field)
+  asking_is object field =
+      let found = field_in execution.schema object (name_of field) in
+      let arguments = constants execution.known (arguments_in found) (arguments_of field) in
+      at_tests execution.only_introspection (is_typename (name_of field))
+      (option_and_then (asking_at is_root execution parent arguments) found) (asks_at arguments found) (at_declared found arguments)
+
+  module _ (answer : Call V → Answer V) (object : List ℕ) where
+    of_declared : (found : Option Declared) (arguments : List (List ℕ × Value))
+        → answered_outcome is_root execution answer (asking_by is_root execution.layers parent (asks_at arguments found))
+        ≡ outcome_by is_root execution answer object parent (asks_at arguments found)
+    of_declared None arguments = refl
+    of_declared (Some declared) arguments = of_number declared declared.number arguments
+      where
+        of_number : (declared : Declared) (number : Option ℕ) (arguments : List (List ℕ × Value))
+            → answered_outcome is_root execution answer (asking_by is_root execution.layers parent (asks_by arguments declared number))
+            ≡ outcome_by is_root execution answer object parent (asks_by arguments declared number)
+        of_number declared None arguments = refl
+        of_number declared (Some resolver) arguments = refl
+
+    of_tests : (only is_name : Bool) (asking : Option (Asking V)) (a : Asks)
+        → answered_outcome is_root execution answer asking ≡ outcome_by is_root execution answer object parent a
+        → cond is_name (typename_outcome is_root execution object) (answered_outcome is_root execution answer (cond (only || is_name) None asking))
+        ≡ outcome_by is_root execution answer object parent (cond is_name asks.Typename (cond only asks.Nothing a))
+    of_tests true true asking a is = refl
+    of_tests true false asking a is = refl
+    of_tests false true asking a is = refl
+    of_tests false false asking a is = is
+
+    -- a field comes to what comes of what it asks
+    pub outcome_is : (field : Positioned Field)
+        → field_outcome is_root execution answer object parent field ≡ outcome_by is_root execution answer object parent (asks_of execution object field)
+    outcome_is field =
+        let found = field_in execution.schema object (name_of field) in
+        let arguments = constants execution.known (arguments_in found) (arguments_of field) in
+        of_tests execution.only_introspection (is_typename (name_of field))
+        (option_and_then (asking_at is_root execution parent arguments) found) (asks_at arguments found)
+        (ap (answered_outcome is_root execution answer) (at_declared found arguments) ∙ of_declared found arguments)
+
+-- a field that isn't that of the object's own name
+pub other_asks : {E : Type 0} (r : Result Asks E) (execution : Execution) (object : List ℕ) (field : Positioned Field) → is_typename (name_of field) ≡ false
+    → IfOk r (λ a. a ≡ asks_allowed execution object (name_of field) (arguments_of field)) → IfOk r (λ a. a ≡ asks_of execution object field)
+other_asks (Ok a) execution object field other is =
+    is ∙ sym (ap (λ b. cond b asks.Typename (asks_allowed execution object (name_of field) (arguments_of field))) other)
+other_asks (Err e) execution object field other is = tt

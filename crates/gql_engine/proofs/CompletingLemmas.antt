@@ -1,0 +1,55 @@
+-- Lists, completed item by item.
+use Rattle.std.proofs.Common.{rules, ◌≡◌, Bool, not, List, [], ◌∷◌, ◌++◌, map, Some, refl, ap, sym, ◌∙◌}
+use Rattle.std.proofs.lemmas.List.{append-nil}
+use Rattle.gql_base.specs.TypeRef.{is_nullable, nullable_here}
+use Rattle.gql_base.specs.declared.type_ref.TypeRef.{out-TypeRef, roll-out-TypeRef, TypeRef, the_lemmas as type_lemmas}
+use Rattle.gql_base.specs.declared.type_ref.TypeRef.TheFolds.{fold-roll-TypeRef, map-TypeRef}
+use Rattle.gql_base.specs.declared.type_ref.TypeRef.TheOpen.{TypeRef-F}
+use Rattle.gql_base.specs.declared.type_ref.TypeRef.TheVariants as ref
+use Rattle.gql_base.specs.declared.value.Value.{Value}
+use Rattle.gql_meaning.specs.Completion.{completed, Completed, Completing, completing, completing_step}
+use Rattle.gql_place.specs.declared.shape.Shape.TheVariants as shape
+use Rattle.gql_resolve.specs.declared.field_value.FieldValue.{FieldValue, the_lemmas as given_lemmas}
+use Rattle.gql_resolve.specs.declared.field_value.FieldValue.TheVariants as kind
+use Rattle.gql_schema.specs.TableReading.{TypeTable}
+use Rattle.gql_engine.specs.Completing.{listed}
+
+module _ {V : Type 0} (table : TypeTable) where
+  nullable_at : (x : TypeRef-F TypeRef) → not (nullable_here x) ≡ (completing_step {V = V} table (map-TypeRef TypeRef (Completing V) (completing table) x)).non_null
+  nullable_at (TypeRef-F.Named name) = refl
+  nullable_at (TypeRef-F.NonNull inner) = refl
+  nullable_at (TypeRef-F.List inner) = refl
+
+  nullable_is : (ty : TypeRef) → not (is_nullable ty) ≡ (completing {V = V} table ty).non_null
+  nullable_is ty =
+      nullable_at (out-TypeRef ty)
+      ∙ ap (λ (c : Completing V). c.non_null) (sym (fold-roll-TypeRef (Completing V) (completing_step table) (out-TypeRef ty)) ∙ ap (completing table) (roll-out-TypeRef ty))
+
+  -- all items were completed
+  pub listed_items : (inner : TypeRef) (nullable : Bool) (shapes : List (Completed V)) (its items : List (FieldValue V))
+      → nullable ≡ is_nullable inner → its ≡ []
+      → shapes ++ map (λ item. completed table inner (Some item)) its ≡ map (λ item. completed table inner (Some item)) items
+      → shape.List (not nullable) shapes ≡ listed (completing table inner) items
+  listed_items inner nullable shapes its items null none whole =
+      let all : shapes ≡ map (λ item. completed table inner (Some item)) items
+      = sym (append-nil shapes) ∙ ap (λ xs. shapes ++ map (λ item. completed table inner (Some item)) xs) (sym none) ∙ whole in
+      λ i. shape.List ((ap not null ∙ nullable_is inner) i) (all i)
+
+  map_values : (inner : TypeRef) (items : List Value)
+      → map (λ item. completed {V = V} table inner (Some (kind.Value item))) items ≡ map (λ item. completed table inner (Some item)) (map kind.Value items)
+  map_values inner [] = refl
+  map_values inner (item ∷ items) = ap (λ xs. completed table inner (Some (kind.Value item)) ∷ xs) (map_values inner items)
+
+  -- the same of the items of a value
+  pub listed_values : (inner : TypeRef) (nullable : Bool) (shapes : List (Completed V)) (its items : List Value)
+      → nullable ≡ is_nullable inner → its ≡ []
+      → shapes ++ map (λ item. completed table inner (Some (kind.Value item))) its ≡ map (λ item. completed table inner (Some (kind.Value item))) items
+      → shape.List (not nullable) shapes ≡ listed (completing table inner) (map kind.Value items)
+  listed_values inner nullable shapes its items null none whole =
+      let all : shapes ≡ map (λ item. completed table inner (Some item)) (map kind.Value items)
+      = sym (append-nil shapes) ∙ ap (λ xs. shapes ++ map (λ item. completed table inner (Some (kind.Value item))) xs) (sym none) ∙ whole ∙ map_values inner items in
+      λ i. shape.List ((ap not null ∙ nullable_is inner) i) (all i)
+
+  -- a list at the lists of a type
+  pub list_given : (inner : TypeRef) (items : List (FieldValue V)) → completed table (ref.List inner) (Some (kind.List items)) ≡ listed (completing table inner) items
+  list_given inner items = search (rules, type_lemmas, given_lemmas)

@@ -1,0 +1,15 @@
+use Rattle.std.proofs.Common.{ap, ◌∙◌}
+use Rattle.gql_base.specs.Pairs.{later, unite_all}
+use Rattle.gql_select.specs.Constants.{constant, given}
+use Rattle.gql_engine.specs.Basis.{known_in}
+use Rattle.gql_engine.proofs.ArgumentLemmas.{argument_more}
+use Rattle.gql_engine.proofs.argument_values.argument_values.Goals as goal
+
+pub loop-place-preserved : goal.loop-place-preserved
+loop-place-preserved c =
+    let known = known_in c.args.env.now in
+    let name = c.at.result.0.now in
+    argument_more known c.args.written.now c.args.declared.now c.loop-place.place name c.at.result.1.now c.loop-place.values c.add_argument.new.values
+    c.len-place-end.ensures.distinct c.at.ensures c.loop-place.invariant
+    (c.in_ok-add_argument.ensures
+    ∙ ap (λ d. unite_all later c.loop-place.values (constant known name (given name c.args.written.now) d)) c.default.ensures)

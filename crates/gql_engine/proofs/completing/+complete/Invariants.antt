@@ -1,0 +1,18 @@
+use Rattle.std.proofs.Common.{◌≡◌, ◌+◌, ◌*◌, ◌++◌, map, Some}
+use Rattle.std.specs.Vec.Iter.{into_iter_items}
+use Rattle.gql_base.specs.declared.type_ref.TypeRef.{size-TypeRef}
+use Rattle.gql_meaning.specs.Completion.{completed}
+use Rattle.gql_resolve.specs.declared.field_value.FieldValue.{FieldValue}
+use Rattle.gql_resolve.specs.declared.field_value.FieldValue.TheVariants as kind
+use Rattle.gql_schema.specs.Table.{types_of}
+use Rattle.gql_engine.proofs.completing.+complete.Given as goal
+
+abbrev pub invariant-complete_items-loop-item : goal.invariant-complete_items-loop-item
+invariant-complete_items-loop-item g l =
+    l.shapes ++ map (λ item. completed (types_of l.types) l.inner (Some item)) (into_iter_items l.item-iterator)
+    ≡ map (λ item. completed (types_of l.types) l.inner (Some item)) l.fn.items
+
+abbrev pub invariant-complete_values-loop-item : goal.invariant-complete_values-loop-item
+invariant-complete_values-loop-item g l =
+    l.shapes ++ map (λ item. completed (types_of l.types) l.inner (Some (kind.Value item))) (into_iter_items l.item-iterator)
+    ≡ map (λ item. completed (types_of l.types) l.inner (Some (kind.Value item))) l.fn.items

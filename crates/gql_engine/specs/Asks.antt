@@ -1,0 +1,63 @@
+-- What a field asks on an object, whatever the object's value (GraphQL, October 2021, sections 6.4.1 and 6.4.2).
+use Rattle.std.specs.Prelude.{ℕ, Bool, List, [], Option, Some, None, if◌then◌else◌}
+use Rattle.gql_base.specs.declared.value.Value.{Value}
+use Rattle.gql_doc.specs.declared.document.Argument.{Argument}
+use Rattle.gql_doc.specs.declared.document.Field.{Field}
+use Rattle.gql_doc.specs.declared.document.Positioned.{Positioned}
+use Rattle.gql_meaning.specs.Completion.{outcome_at}
+use Rattle.gql_meaning.specs.Execution.{absent_outcome, Asking, Execution, is_typename, typename_outcome}
+use Rattle.gql_meaning.specs.TableSetting.{arguments_in, entities_field, field_in}
+use Rattle.gql_place.specs.Filled.{Outcome}
+use Rattle.gql_resolve.specs.Call.{Call}
+use Rattle.gql_resolve.specs.declared.answer.Answer.{Answer}
+use Rattle.gql_resolve.specs.declared.field_value.FieldValue.{FieldValue}
+use Rattle.gql_schema.specs.TableReading.{Declared}
+use Rattle.gql_select.specs.Alike.{arguments_of, name_of}
+use Rattle.gql_select.specs.Constants.{constants}
+use Rattle.gql_engine.specs.declared.asks.Asks.{Asks}
+use Rattle.gql_engine.specs.declared.asks.Asks.TheVariants as asks
+
+-- a declared field asks a call, where it has a resolver
+abbrev pub asks_by : List (List ℕ × Value) → Declared → Option ℕ → Asks
+asks_by arguments declared None = asks.Nothing
+asks_by arguments declared (Some resolver) = asks.Call resolver declared.ty arguments
+
+-- a field that isn't declared asks nothing
+abbrev pub asks_at : List (List ℕ × Value) → Option Declared → Asks
+asks_at arguments None = asks.Nothing
+asks_at arguments (Some declared) = asks_by arguments declared declared.number
+
+-- what it asks, at the constants of its arguments as they are written
+abbrev pub asks_of_declared : (List ℕ → Value) → Option Declared → List Argument → Asks
+asks_of_declared known declared written = asks_at (constants known (arguments_in declared) written) declared
+
+-- the field of entities, which a resolver finds
+abbrev pub entities_by : ℕ → Declared
+entities_by resolver = entities_field (record { root = []; resolver = resolver })
+
+-- what the field of a name asks on an object, unless it is that of the object's own name; in introspection-only mode it asks nothing
+abbrev pub asks_allowed : Execution → List ℕ → List ℕ → List Argument → Asks
+asks_allowed execution object name written =
+    if execution.only_introspection then asks.Nothing else asks_of_declared execution.known (field_in execution.schema object name) written
+
+-- what an occurrence asks on an object
+abbrev pub asks_of : Execution → List ℕ → Positioned Field → Asks
+asks_of execution object field =
+    if is_typename (name_of field) then asks.Typename else asks_allowed execution object (name_of field) (arguments_of field)
+
+-- the call that is asked on an object of this value, if any
+abbrev pub asking_by : {V : Type 0} → Bool → List (List (ℕ × Value)) → FieldValue V → Asks → Option (Asking V)
+asking_by is_root layers parent asks.Typename = None
+asking_by is_root layers parent asks.Nothing = None
+asking_by is_root layers parent (asks.Call resolver ty arguments) = Some (record {
+  call = record { is_root = is_root; resolver = resolver; parent = parent; arguments = arguments; layers = layers };
+  ty = ty;
+})
+
+-- what is asked comes to this, with these answers: the object's name, nothing, or what the answer comes to at its type
+abbrev pub outcome_by : {V : Type 0} → Bool → Execution → (Call V → Answer V) → List ℕ → FieldValue V → Asks → Outcome (List ℕ) (FieldValue V)
+outcome_by is_root execution answer object parent asks.Typename = typename_outcome is_root execution object
+outcome_by is_root execution answer object parent asks.Nothing = absent_outcome is_root execution
+outcome_by is_root execution answer object parent (asks.Call resolver ty arguments) =
+    outcome_at execution.schema.table ty
+    (answer (record { is_root = is_root; resolver = resolver; parent = parent; arguments = arguments; layers = execution.layers }))

@@ -1,0 +1,53 @@
+-- What an execution knows (GraphQL, October 2021, section 6.2), as the machine holds it.
+use Rattle.std.specs.Prelude.{ℕ, Bool, true, false, List, Option, option_map}
+use Rattle.gql_base.specs.declared.value.Value.{Value}
+use Rattle.gql_doc.specs.declared.document.Field.{Field}
+use Rattle.gql_doc.specs.declared.document.Positioned.{Positioned}
+use Rattle.gql_doc.specs.declared.document.Selection.{Selection}
+use Rattle.gql_meaning.specs.Execution.{Execution, setting_in}
+use Rattle.gql_meaning.specs.TableSetting.{Entities, Schema}
+use Rattle.gql_request.specs.QueryEnv.{levels_of}
+use Rattle.gql_request.specs.declared.query_env.IntrospectionMode.{IntrospectionMode}
+use Rattle.gql_request.specs.declared.query_env.IntrospectionMode.TheVariants as mode
+use Rattle.gql_request.specs.declared.query_env.QueryEnv.{QueryEnv}
+use Rattle.gql_resolve.specs.Layers.{layers_of}
+use Rattle.gql_schema.specs.Table.{types_of}
+use Rattle.gql_select.specs.Collected.{collect_within, Setting}
+use Rattle.gql_select.specs.Constants.{variable_value}
+use Rattle.gql_engine.specs.declared.basis.Basis.{Basis}
+
+-- whether fields of the schema alone have values
+abbrev pub is_introspection_only : IntrospectionMode → Bool
+is_introspection_only mode.IntrospectionOnly = true
+is_introspection_only mode.Enabled = false
+is_introspection_only mode.Disabled = false
+
+-- what the variables of a request stand for (section 6.1.2)
+abbrev pub known_in : QueryEnv → List ℕ → Value
+known_in env = variable_value env.variables env.operation.node.variable_definitions
+
+-- the schema, with its entities
+abbrev pub schema_of : Basis → Schema
+schema_of basis = record {
+  table = types_of basis.types.now;
+  entities = option_map (λ resolver. record { root = basis.query.now; resolver = resolver }) basis.entities;
+}
+
+-- what the execution knows
+abbrev pub execution_of : Basis → Execution
+execution_of basis = record {
+  schema = schema_of basis;
+  fragments = basis.env.now.fragments;
+  levels = levels_of basis.env.now;
+  known = known_in basis.env.now;
+  layers = layers_of basis.layers;
+  only_introspection = is_introspection_only basis.env.now.introspection_mode;
+}
+
+-- what the fields of the request are read by
+abbrev pub setting_by : Basis → Setting
+setting_by basis = setting_in (execution_of basis)
+
+-- an object's fields in the selections, as many levels of fragments deep as are left (section 6.3.2)
+abbrev pub fields_within : Basis → ℕ → List ℕ → List (Positioned Selection) → List (Positioned Field)
+fields_within basis left object selections = collect_within (setting_by basis) left object selections

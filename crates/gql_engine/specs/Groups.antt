@@ -1,0 +1,22 @@
+-- Occurrences of fields in groups, one for each key.
+use Rattle.std.specs.Prelude.{ℕ, List, [], ◌∷◌, map}
+use Rattle.std.specs.List.{zip}
+use Rattle.gql_base.specs.Pairs.{names_of}
+use Rattle.gql_doc.specs.declared.document.Field.{Field}
+use Rattle.gql_doc.specs.declared.document.Positioned.{Positioned}
+use Rattle.gql_select.specs.Documents.{both}
+use Rattle.gql_engine.specs.Behind.{all_behind}
+use Rattle.gql_engine.specs.declared.group.Group.{Group}
+
+-- an occurrence with the selections of others behind its own
+abbrev pub with_others : Positioned Field → List (Positioned Field) → Positioned Field
+with_others field [] = field
+with_others field (other ∷ others) = with_others (both field other) others
+
+-- the one field that stands for a group
+abbrev pub united : Group → Positioned Field
+united group = with_others group.first.now (all_behind group.more.items)
+
+-- the fields of groups under their keys
+abbrev pub under_keys : List (List ℕ × Unit {0}) → List Group → List (List ℕ × Positioned Field)
+under_keys keys groups = zip (names_of keys) (map united groups)

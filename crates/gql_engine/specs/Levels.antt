@@ -1,0 +1,44 @@
+-- The fields of an object, one for each key, with what each asks (GraphQL, October 2021, sections 6.3.1 and 6.3.2).
+use Rattle.std.specs.Prelude.{◌≡◌, ℕ, List, [], ◌∷◌, map}
+use Rattle.std.specs.List.{zip}
+use Rattle.gql_base.specs.Pairs.{names_of}
+use Rattle.gql_doc.specs.declared.document.Field.{Field}
+use Rattle.gql_doc.specs.declared.document.Positioned.{Positioned}
+use Rattle.gql_doc.specs.declared.document.Selection.{Selection}
+use Rattle.gql_select.specs.Documents.{reading}
+use Rattle.gql_select.specs.Reading.{merged}
+use Rattle.gql_engine.specs.Asks.{asks_of}
+use Rattle.gql_engine.specs.Basis.{execution_of, setting_by}
+use Rattle.gql_engine.specs.FieldsWithin.{collected}
+use Rattle.gql_engine.specs.Groups.{united}
+use Rattle.gql_engine.specs.declared.asks.Asks.{Asks}
+use Rattle.gql_engine.specs.declared.basis.Basis.{Basis}
+use Rattle.gql_engine.specs.declared.level.Level.{Level}
+use Rattle.gql_engine.specs.declared.level.Node.{Node}
+
+-- a field, merged over its occurrences, with what it asks
+pub record Asked : Type 0 where
+  pub field : Positioned Field
+  pub asks : Asks
+
+-- a node as such a field
+abbrev pub asked_by : Node → Asked
+asked_by node = record { field = united node.group; asks = node.asks }
+
+-- the fields of a level under their keys
+abbrev pub members_of : Level → List (List ℕ × Asked)
+members_of level = zip (names_of level.keys) (map asked_by level.nodes.items)
+
+-- a field with what it asks on an object
+abbrev pub asked_of : Basis → List ℕ → Positioned Field → Asked
+asked_of basis object field = record { field = field; asks = asks_of (execution_of basis) object field }
+
+-- fields under their keys, each with what it asks on an object
+abbrev pub asked_on : Basis → List ℕ → List (List ℕ × Positioned Field) → List (List ℕ × Asked)
+asked_on basis object [] = []
+asked_on basis object (member ∷ members) = (member.0, asked_of basis object member.1) ∷ asked_on basis object members
+
+-- the fields of an object in selections, one for each key, with what each asks
+abbrev pub asked_in : Basis → List ℕ → List (Positioned Selection) → List (List ℕ × Asked)
+asked_in basis object selections =
+    asked_on basis object (merged (reading (setting_by basis)) (collected basis object selections))

@@ -1,0 +1,74 @@
+-- The laws on how the places of tasks are put together.
+use Rattle.std.specs.Prelude.{◌≡◌, ℕ, suc, Bool, List, map, None}
+use Rattle.gql_base.specs.Pairs.{values_of}
+use Rattle.gql_base.specs.declared.path_segment.PathSegment.{PathSegment}
+use Rattle.gql_base.specs.declared.pos.Pos.{Pos}
+use Rattle.gql_doc.specs.declared.document.Field.{Field}
+use Rattle.gql_doc.specs.declared.document.Positioned.{Positioned}
+use Rattle.gql_doc.specs.declared.document.Selection.{Selection}
+use Rattle.gql_meaning.specs.Completion.{Completed}
+use Rattle.gql_meaning.specs.Execution.{Execution, field_asking}
+use Rattle.gql_place.specs.Filled.{fill}
+use Rattle.gql_place.specs.declared.place.Place.{Place}
+use Rattle.gql_resolve.specs.Call.{Call}
+use Rattle.gql_resolve.specs.declared.answer.Answer.{Answer}
+use Rattle.gql_resolve.specs.declared.field_value.FieldValue.{FieldValue}
+use Rattle.std.specs.List.{AllByRecursion}
+use Rattle.gql_doc.specs.Depth.{deep_from, field_set, selections_of}
+use Rattle.gql_doc.specs.declared.document.SelectionSet.{SelectionSet}
+use Rattle.gql_select.specs.Collected.{collect_within, own_selections, Setting}
+use Rattle.gql_engine.specs.Asks.{asking_by, asks_of}
+use Rattle.gql_engine.specs.Assembled.{members_with}
+use Rattle.gql_engine.specs.Filling.{tree_with}
+use Rattle.gql_engine.specs.Jobs.{jobs_at, jobs_of_slots}
+use Rattle.gql_engine.specs.Levels.{asked_in}
+use Rattle.gql_engine.specs.Merged.{ground_of, merged_beneath, merged_members, merged_place}
+use Rattle.gql_engine.specs.Stored.{bare, Spot, spots}
+use Rattle.gql_engine.specs.Tasks.{slots_from}
+use Rattle.gql_engine.specs.declared.basis.Basis.{Basis}
+
+-- a field asks the call that is made of what it asks on any value of its object
+abbrev pub FieldsAskTheirCalls : (V : Type 0) → Type 0
+FieldsAskTheirCalls V =
+    (is_root : Bool) (execution : Execution) (parent : FieldValue V) (object : List ℕ) (field : Positioned Field)
+    → field_asking is_root execution object parent field
+    ≡ asking_by is_root execution.layers parent (asks_of execution object field)
+
+module _ {V : Type 0} (basis : Basis) (answer : Call V → Answer V) (n : ℕ) where
+  -- the members of an object, of the places of its tasks
+  abbrev pub members_of_tasks : List (Positioned Selection) → Spot V → List (List ℕ × Place)
+  members_of_tasks selections spot =
+      members_with spot.object (asked_in basis spot.object selections)
+      (map (merged_place basis answer n) (jobs_at (ground_of basis) selections spot))
+
+-- the places of the tasks of an object, with one level of sets less, make its members
+abbrev pub MembersAreMerged : (V : Type 0) → Type 0
+MembersAreMerged V =
+    (basis : Basis) (answer : Call V → Answer V) (n : ℕ) (spot : Spot V) (selections : List (Positioned Selection))
+    → members_of_tasks basis answer n selections spot
+    ≡ merged_members basis answer (suc n) spot.object spot.parent selections
+
+-- a completed answer, taken apart and put together of the places of the tasks beneath it
+abbrev pub TreesAreMerged : (V : Type 0) → Type 0
+TreesAreMerged V =
+    (basis : Basis) (answer : Call V → Answer V) (n : ℕ) (pos : Pos) (field : Positioned Field) (comes : Completed V)
+    (path : List PathSegment)
+    → tree_with pos (bare comes)
+    (map (members_of_tasks basis answer n (own_selections field)) (spots comes path))
+    ≡ fill pos (merged_beneath basis answer (suc n) field) comes
+
+-- the tasks that a level makes for a value of its object are those of the definition
+abbrev pub TasksAreJobs : (V : Type 0) → Type 0
+TasksAreJobs V =
+    (basis : Basis) (spot : Spot V) (selections : List (Positioned Selection))
+    → jobs_of_slots (ground_of basis) spot.parent
+    (slots_from 0 spot.path (values_of (asked_in basis spot.object selections)))
+    ≡ jobs_at (ground_of basis) selections spot
+
+-- the set of each field that is collected in a set nests within the levels of that set
+abbrev pub CollectedNest : Type 0
+CollectedNest =
+    (setting : Setting) (object : List ℕ) (levels left : ℕ) (set : Positioned SelectionSet)
+    → deep_from setting.fragments levels set ≡ None
+    → AllByRecursion (λ field. deep_from setting.fragments levels (field_set field) ≡ None)
+    (collect_within setting left object (selections_of set))

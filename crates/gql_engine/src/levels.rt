@@ -1,0 +1,113 @@
+//! The fields of an object, one for each key, with what each asks (GraphQL, October 2021, sections 6.3.1 and 6.3.2).
+ghost use Rattle.std.specs.Prelude.{◌≡◌, ◌++◌, map, IfOk, OnOk};
+ghost use Rattle.gql_select.specs.Collected.{own_selections};
+ghost use Rattle.gql_select.specs.Documents.{reading};
+ghost use Rattle.gql_select.specs.Reading.{merged};
+ghost use Rattle.gql_engine.specs.Basis.{setting_by};
+ghost use Rattle.gql_engine.specs.Behind.{all_behind};
+ghost use Rattle.gql_engine.specs.FieldsWithin.{collected};
+ghost use Rattle.gql_engine.specs.Groups.{united};
+ghost use Rattle.gql_engine.specs.Levels.{asked_by, asked_of, asked_on, members_of};
+
+use crate::asking::asks_for;
+use crate::basis::Basis;
+use crate::fields_within::{add_fields, collect_fields};
+use crate::group::{Group, Groups};
+use crate::grouping::group_fields;
+use crate::level::{Level, Node};
+use gql_base::{Made, Name, Pairs};
+use gql_doc::{Field, Positioned};
+use std::alloc::Global;
+
+/// The fields of an object in the sets of all occurrences of a key.
+#[tactic(auto, using(crate::proofs::LevelLemmas::beneath_more))]
+pub(crate) fn fields_beneath<'a>(
+    alloc: Global,
+    basis: &Basis<'a>,
+    object: &str,
+    group: &Group<'a>,
+) -> Made<Vec<&'a Positioned<Field>>>
+    ensures { IfOk result (λ fields. all_behind fields.items
+        ≡ collected basis.entry.now object.now (own_selections (united group.entry.now))) }
+{
+    let first = group.first;
+    let selections = first.node.selection_set.node.items.as_slice();
+    let mut fields = collect_fields(alloc, basis, object, selections)?;
+    for occurrence in group.more.as_slice() {
+        add_occurrence_fields(basis, object, occurrence, &mut fields)?;
+    }
+    Ok(fields)
+}
+
+/// Adds the fields of an object in the set of an occurrence.
+fn add_occurrence_fields<'a>(
+    basis: &Basis<'a>,
+    object: &str,
+    occurrence: &'a Positioned<Field>,
+    fields: &mut Vec<&'a Positioned<Field>>,
+) -> Made<()>
+    ensures { OnOk result (all_behind fields.new.items ≡ all_behind fields.old.items
+        ++ collected basis.entry.now object.now (own_selections occurrence.entry.now)) }
+{
+    let selections = occurrence.node.selection_set.node.items.as_slice();
+    add_fields(basis, basis.env.levels(), object, selections, fields)
+}
+
+/// The level of an object with these fields.
+#[tactic(auto, using(crate::proofs::LevelLemmas::asked_zipped))]
+pub(crate) fn level_of<'a>(
+    alloc: Global,
+    basis: &Basis<'a>,
+    object: &str,
+    fields: Vec<&'a Positioned<Field>>,
+) -> Made<Level<'a>>
+    ensures object { IfOk result (λ level. level.object ≡ object.now) }
+    ensures members { IfOk result (λ level. members_of level
+        ≡ asked_on basis.entry.now object.now
+        (merged (reading (setting_by basis.entry.now)) (all_behind fields.entry.items))) }
+{
+    let Groups { keys, groups } = group_fields(alloc, fields)?;
+    let nodes = nodes_of(alloc, basis, object, groups)?;
+    Ok(Level {
+        object: Name::new(alloc, object)?,
+        keys,
+        nodes,
+    })
+}
+
+/// Groups with what each asks on an object.
+#[tactic(auto, using(crate::proofs::LevelLemmas::nodes_more))]
+fn nodes_of<'a>(
+    alloc: Global,
+    basis: &Basis<'a>,
+    object: &str,
+    groups: Vec<Group<'a>>,
+) -> Made<Vec<Node<'a>>>
+    ensures { IfOk result (λ nodes. map asked_by nodes.items
+        ≡ map (asked_of basis.entry.now object.now) (map united groups.entry.items)) }
+{
+    let mut nodes = Vec::with_capacity(alloc, groups.len())?;
+    for group in groups {
+        nodes.push(node_of(alloc, basis, object, group)?)?;
+    }
+    Ok(nodes)
+}
+
+/// A group with what it asks on an object: that is what its first occurrence asks.
+#[tactic(auto, using(crate::proofs::LevelLemmas::asked_first))]
+fn node_of<'a>(
+    alloc: Global,
+    basis: &Basis<'a>,
+    object: &str,
+    group: Group<'a>,
+) -> Made<Node<'a>>
+    ensures { IfOk result (λ node. asked_by node
+        ≡ asked_of basis.entry.now object.now (united group.entry)) }
+{
+    let asks = asks_for(alloc, basis, object, group.first)?;
+    Ok(Node {
+        group,
+        asks,
+        below: Pairs::new(alloc),
+    })
+}

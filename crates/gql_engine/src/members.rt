@@ -1,0 +1,113 @@
+//! The members of an object, of the places of its fields (GraphQL, October 2021, section 6.3).
+ghost use Rattle.std.specs.Prelude.{◌≡◌, map, IfOk, OnOk};
+ghost use Rattle.std.specs.List.{zip};
+ghost use Rattle.gql_base.specs.Pairs.{names_of};
+ghost use Rattle.gql_engine.specs.Assembled.{absent_place, first_place, other_places, place_of};
+ghost use Rattle.gql_engine.specs.Assembled.{places_behind, places_behind_all, places_with, typename_place};
+ghost use Rattle.gql_engine.specs.Groups.{united};
+ghost use Rattle.gql_engine.specs.Levels.{asked_by};
+
+use crate::asks::Asks;
+use crate::level::{Level, Node};
+use gql_base::{Items, Made, Pairs, Pos, Text, Value};
+use gql_place::{Place, Tree};
+use std::alloc::Global;
+use std::collections::VecDeque;
+
+/// The members of an object: each of its fields under its key, where those that ask an answer take these places from the front, one after
+/// another.
+pub(crate) fn members_at(
+    alloc: Global,
+    level: &Level<'_>,
+    places: &mut VecDeque<Place>,
+) -> Made<Pairs<Place>>
+    ensures members { IfOk result (λ members. members ≡ zip (names_of level.now.keys)
+        (places_with level.now.object (map asked_by level.now.nodes.items) places.old.items)) }
+    ensures left { OnOk result (places.new.items
+        ≡ places_behind_all (map asked_by level.now.nodes.items) places.old.items) }
+{
+    let own = places_of(alloc, level.object.as_str(), level.nodes.as_slice(), places)?;
+    level.keys.with_values(alloc, own)
+}
+
+/// The places of an object's fields.
+fn places_of(
+    alloc: Global,
+    object: &str,
+    nodes: &[Node<'_>],
+    places: &mut VecDeque<Place>,
+) -> Made<Vec<Place>>
+    ensures own { IfOk result (λ own. own.items
+        ≡ places_with object.now (map asked_by nodes.now) places.old.items) }
+    ensures left { OnOk result (places.new.items
+        ≡ places_behind_all (map asked_by nodes.now) places.old.items) }
+{
+    let mut own = Vec::with_capacity(alloc, nodes.len())?;
+    for node in nodes {
+        let place = place_at(alloc, object, node, places)?;
+        own.push(place)?;
+    }
+    Ok(own)
+}
+
+/// The place of a field of an object.
+#[tactic(auto, using(crate::proofs::LevelLemmas::pos_with_others))]
+fn place_at(
+    alloc: Global,
+    object: &str,
+    node: &Node<'_>,
+    places: &mut VecDeque<Place>,
+) -> Made<Place>
+    ensures place { IfOk result (λ place. place
+        ≡ place_of object.now (united node.now.group).pos node.now.asks places.old.items) }
+    ensures left { OnOk result (places.new.items ≡ places_behind node.now.asks places.old.items) }
+{
+    let pos = node.group.first.pos;
+    match &node.asks {
+        Asks::Typename => place_name(alloc, pos, object),
+        Asks::Nothing => Ok(place_nothing(alloc, pos)),
+        Asks::Call {
+            resolver: _,
+            ty: _,
+            arguments: _,
+        } => Ok(next_place(alloc, pos, places)),
+    }
+}
+
+/// The place of the name of an object.
+fn place_name(alloc: Global, pos: Pos, object: &str) -> Made<Place>
+    ensures { IfOk result (λ place. place ≡ typename_place pos object.now) }
+{
+    let name = Text::new(alloc, object)?;
+    Ok(Place {
+        pos,
+        non_null: true,
+        added: Items::new(alloc),
+        headers: Items::new(alloc),
+        tree: Tree::Leaf(Value::String(name)),
+    })
+}
+
+/// The place of a field that asks nothing.
+fn place_nothing(alloc: Global, pos: Pos) -> Place
+    ensures { result ≡ absent_place pos }
+{
+    Place {
+        pos,
+        non_null: false,
+        added: Items::new(alloc),
+        headers: Items::new(alloc),
+        tree: Tree::Absent,
+    }
+}
+
+/// The next place.
+fn next_place(alloc: Global, pos: Pos, places: &mut VecDeque<Place>) -> Place
+    ensures first { result ≡ first_place pos places.old.items }
+    ensures left { places.new.items ≡ other_places places.old.items }
+{
+    match places.pop_front() {
+        Some(place) => place,
+        None => place_nothing(alloc, pos),
+    }
+}
