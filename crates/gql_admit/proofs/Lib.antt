@@ -7,6 +7,7 @@ pub mod FirstLemmas
 pub mod KeepLemmas
 pub mod MarkLemmas
 pub mod OrderLemmas
+pub mod RankLemmas
 pub mod ReachLemmas
 pub mod RefusalLemmas
 pub mod Rows

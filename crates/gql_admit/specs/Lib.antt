@@ -9,6 +9,7 @@ pub mod Known
 pub mod Left
 pub mod Limits
 pub mod Places
+pub mod Ranks
 pub mod Refusal
 pub mod RulesChecked
 pub mod Spreads
