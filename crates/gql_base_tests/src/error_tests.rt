@@ -21,26 +21,49 @@ fn extensions_copy(alloc: Global) -> Made<bool> {
     copies(alloc, &values)
 }
 
+fn extensions_text(alloc: Global, values: &ErrorExtensionValues) -> Made<String> {
+    let mut out = String::new(alloc);
+    push_extension_values(&mut out, values)?;
+    Ok(out)
+}
+
 #[test]
 fn extension_values(rt: HostRuntime) -> Result<(), Fail> {
     let mut values = extensions(rt.alloc())?;
-    let mut out = String::new(rt.alloc());
-    push_extension_values(&mut out, &values)?;
-    assert_eq!(rt; out.as_str(), "{\"a\":true,\"b\":2}");
+    let text = extensions_text(rt.alloc(), &values)?;
+    assert_eq!(rt; text.as_str(), "{\"a\":true,\"b\":2}");
     values.unset("c");
     values.unset("a");
     assert_eq!(rt; values.len(), 1);
     assert_eq!(rt; values.at(0).0, "b");
     assert!(rt; values.get("a").is_none());
+    Ok(())
+}
+
+#[test]
+fn extension_values_are_copied(rt: HostRuntime) -> Result<(), Fail> {
     assert!(rt; extensions_copy(rt.alloc())?);
     Ok(())
 }
 
-/// The error "m" with a location, the path a, 0, and the extensions.
+/// The path a, 0.
+fn path(alloc: Global) -> Made<Items<PathSegment>> {
+    let mut path = Items::new(alloc);
+    path.push(PathSegment::Field(Text::new(alloc, "a")?))?;
+    path.push(PathSegment::Index(0))?;
+    Ok(path)
+}
+
+/// The error "m" with a location and a path.
+fn placed_error(alloc: Global) -> Made<ServerError> {
+    let path = path(alloc)?;
+    let error = ServerError::new(alloc, "m", Some(Pos { line: 1, column: 2 }))?;
+    Ok(error.with_path(path))
+}
+
+/// The same with the extensions.
 fn full_error(alloc: Global) -> Made<ServerError> {
-    let mut error = ServerError::new(alloc, "m", Some(Pos { line: 1, column: 2 }))?;
-    error.path.push(PathSegment::Field(Text::new(alloc, "a")?))?;
-    error.path.push(PathSegment::Index(0))?;
+    let mut error = placed_error(alloc)?;
     error.extensions = Some(extensions(alloc)?);
     Ok(error)
 }
@@ -71,22 +94,29 @@ fn bare_list(alloc: Global) -> Made<Items<ServerError>> {
     bare.with_path(Items::new(alloc)).into_list(alloc)
 }
 
-#[test]
-fn errors_with_a_message(rt: HostRuntime) -> Result<(), Fail> {
-    let errors = bare_list(rt.alloc())?;
-    let mut out = String::new(rt.alloc());
+fn bare_text(alloc: Global) -> Made<String> {
+    let errors = bare_list(alloc)?;
+    let mut out = String::new(alloc);
     push_errors(&mut out, errors.as_slice())?;
-    assert_eq!(rt; out.as_str(), "[{\"message\":\"say \\\"no\\\"\"}]");
-    Ok(())
+    Ok(out)
+}
+
+fn message_text(alloc: Global) -> Made<String> {
+    let bare = ServerError::new(alloc, "no", None)?;
+    let mut out = String::new(alloc);
+    push_error(&mut out, &bare)?;
+    write!(out, " {bare}")?;
+    Ok(out)
 }
 
 #[test]
-fn errors_as_messages(rt: HostRuntime) -> Result<(), Fail> {
-    let bare = ServerError::new(rt.alloc(), "no", None)?;
-    let mut out = String::new(rt.alloc());
-    push_error(&mut out, &bare)?;
-    write!(out, " {bare}")?;
-    assert_eq!(rt; out.as_str(), "{\"message\":\"no\"} no");
+fn errors_with_a_message(rt: HostRuntime) -> Result<(), Fail> {
+    let bare = "[{\"message\":\"say \\\"no\\\"\"}]";
+    assert_eq!(rt; bare_text(rt.alloc())?.as_str(), bare);
+    assert_eq!(rt;
+        message_text(rt.alloc())?.as_str(),
+        "{\"message\":\"no\"} no"
+    );
     Ok(())
 }
 

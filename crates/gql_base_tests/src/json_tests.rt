@@ -50,9 +50,13 @@ fn place_text(alloc: Global, place: JsonPlace) -> Made<Text> {
 /// The literal of what is read from a JSON text, or the bad place.
 fn read_text(alloc: Global, form: EnumForm, text: &str) -> Result<Text, Fail> {
     let json = serde_json::Value::from_str(alloc, text)?;
-    match read_value(alloc, form, &json)? {
-        Ok(value) => Ok(literal_of(alloc, &value)?),
-        Err(place) => Ok(place_text(alloc, place)?),
+    Ok(literal_or_place(alloc, form, &json)?)
+}
+
+fn literal_or_place(alloc: Global, form: EnumForm, json: &serde_json::Value) -> Made<Text> {
+    match read_value(alloc, form, json)? {
+        Ok(value) => literal_of(alloc, &value),
+        Err(place) => place_text(alloc, place),
     }
 }
 
@@ -128,38 +132,53 @@ fn objects_as_texts(rt: HostRuntime) -> Result<(), Fail> {
     Ok(())
 }
 
-#[test]
-fn parts_of_json(rt: HostRuntime) -> Result<(), Fail> {
-    let mut out = String::new(rt.alloc());
-    push_comma(&mut out, 0)?;
-    push_name(&mut out, "k")?;
-    push_json(&mut out, &Value::Enum(Name::new(rt.alloc(), "RED")?))?;
+/// A member `k` whose value is an enum's.
+fn push_member(alloc: Global, out: &mut String) -> Made<()> {
+    push_comma(out, 0)?;
+    push_name(out, "k")?;
+    let value = Value::Enum(Name::new(alloc, "RED")?);
+    push_json(out, &value)
+}
+
+fn json_parts(alloc: Global) -> Made<String> {
+    let mut out = String::new(alloc);
+    push_member(alloc, &mut out)?;
     push_comma(&mut out, 1)?;
     push_quoted(&mut out, "\"\\/\u{8}\u{c}\n\r\t\u{1}\u{1f}\u{7f}é")?;
-    assert_eq!(rt;
-        out.as_str(),
-        "\"k\":\"RED\",\"\\\"\\\\/\\b\\f\\n\\r\\t\\u0001\\u001f\u{7f}é\""
-    );
+    Ok(out)
+}
+
+#[test]
+fn parts_of_json(rt: HostRuntime) -> Result<(), Fail> {
+    let parts = "\"k\":\"RED\",\"\\\"\\\\/\\b\\f\\n\\r\\t\\u0001\\u001f\u{7f}é\"";
+    assert_eq!(rt; json_parts(rt.alloc())?.as_str(), parts);
     Ok(())
 }
 
-/// Appends the text of a type and a blank.
-fn push_one(out: &mut String, ty: TypeRef) -> Made<()> {
-    push_type(out, &ty)?;
-    out.push(' ')
+/// A type of each form, by its text.
+fn type_of(alloc: Global, text: &str) -> Made<TypeRef> {
+    match text {
+        "ID!" => TypeRef::named_nn(alloc, TypeRef::ID),
+        "[String]" => TypeRef::named_list(alloc, TypeRef::STRING),
+        "[Boolean]!" => TypeRef::named_list_nn(alloc, TypeRef::BOOLEAN),
+        "[A!]" => TypeRef::named_nn_list(alloc, "A"),
+        "[B!]!" => TypeRef::named_nn_list_nn(alloc, "B"),
+        _ => TypeRef::named(alloc, TypeRef::INT),
+    }
+}
+
+fn pushed_type(alloc: Global, text: &str) -> Made<String> {
+    let ty = type_of(alloc, text)?;
+    let mut out = String::new(alloc);
+    push_type(&mut out, &ty)?;
+    Ok(out)
 }
 
 #[test]
 fn types(rt: HostRuntime) -> Result<(), Fail> {
-    let alloc = rt.alloc();
-    let mut out = String::new(alloc);
-    push_one(&mut out, TypeRef::named(alloc, TypeRef::INT)?)?;
-    push_one(&mut out, TypeRef::named_nn(alloc, TypeRef::ID)?)?;
-    push_one(&mut out, TypeRef::named_list(alloc, TypeRef::STRING)?)?;
-    push_one(&mut out, TypeRef::named_list_nn(alloc, TypeRef::BOOLEAN)?)?;
-    push_one(&mut out, TypeRef::named_nn_list(alloc, "A")?)?;
-    push_one(&mut out, TypeRef::named_nn_list_nn(alloc, "B")?)?;
-    assert_eq!(rt; out.as_str(), "Int ID! [String] [Boolean]! [A!] [B!]! ");
+    for text in ["Int", "ID!", "[String]", "[Boolean]!", "[A!]", "[B!]!"] {
+        assert_eq!(rt; pushed_type(rt.alloc(), text)?.as_str(), text);
+    }
     Ok(())
 }
 
@@ -172,13 +191,15 @@ fn type_parts(alloc: Global, ty: TypeRef) -> Made<Text> {
     Ok(Text::from_string(format!(in alloc; "{name} {text} {nullable} {same}")?))
 }
 
+fn nested_type_parts(alloc: Global) -> Made<Text> {
+    let ty = TypeRef::named_nn_list(alloc, "A")?.list(alloc)?;
+    type_parts(alloc, ty.non_null(alloc)?)
+}
+
 #[test]
 fn parts_of_types(rt: HostRuntime) -> Result<(), Fail> {
-    let alloc = rt.alloc();
-    let ty = TypeRef::named_nn_list(alloc, "A")?
-        .list(alloc)?
-        .non_null(alloc)?;
-    assert_eq!(rt; type_parts(alloc, ty)?.as_str(), "A [[A!]]! false true");
+    let text = nested_type_parts(rt.alloc())?;
+    assert_eq!(rt; text.as_str(), "A [[A!]]! false true");
     Ok(())
 }
 

@@ -23,35 +23,52 @@ fn ten(alloc: Global) -> Made<Pairs<i64>> {
     Ok(pairs)
 }
 
-#[test]
-fn ten_pairs(rt: HostRuntime) -> Result<(), Fail> {
-    let alloc = rt.alloc();
+/// The ten pairs, of which the third was set once more.
+fn ten_with_another(alloc: Global) -> Made<Pairs<i64>> {
     let mut pairs = ten(alloc)?;
     pairs.reserve(3)?;
     pairs.add(Name::new(alloc, "c")?, 30)?;
+    Ok(pairs)
+}
+
+fn ten_copies(alloc: Global, pairs: &Pairs<i64>) -> Made<bool> {
+    let copy = pairs.try_clone(alloc)?;
+    Ok(copy == *pairs)
+}
+
+#[test]
+fn ten_pairs(rt: HostRuntime) -> Result<(), Fail> {
+    let pairs = ten_with_another(rt.alloc())?;
     assert!(rt; !pairs.is_empty());
     assert_eq!(rt; pairs.place_of("i"), Some(8));
     assert_eq!(rt; pairs.get("j").copied(), Some(10));
     assert_eq!(rt; pairs.get("c").copied(), Some(30));
     assert_eq!(rt; pairs.place_of("k"), None);
-    assert!(rt; pairs.try_clone(alloc)? == pairs);
+    assert!(rt; ten_copies(rt.alloc(), &pairs)?);
     Ok(())
 }
 
-fn ten_names(alloc: Global) -> Made<(Names, Vec<i64>)> {
-    Ok(ten(alloc)?.into_parts())
+/// The names of the ten pairs, where the values are as many.
+fn ten_names(alloc: Global) -> Made<Names> {
+    let (mut names, numbers) = ten(alloc)?.into_parts();
+    names.reserve(numbers.len())?;
+    Ok(names)
+}
+
+fn names_copy(alloc: Global, names: &Names) -> Made<bool> {
+    let copy = names.try_clone(alloc)?;
+    Ok(copy == *names)
 }
 
 #[test]
 fn parts(rt: HostRuntime) -> Result<(), Fail> {
-    let alloc = rt.alloc();
-    let (mut names, numbers) = ten_names(alloc)?;
-    names.reserve(1)?;
+    let (_, numbers) = ten(rt.alloc())?.into_parts();
     assert_eq!(rt; numbers.len(), 10);
+    let names = ten_names(rt.alloc())?;
     assert_eq!(rt; names.len(), 10);
     assert_eq!(rt; names.at(9), "j");
     assert_eq!(rt; names.place_of("j"), Some(9));
-    assert!(rt; names.try_clone(alloc)? == names);
+    assert!(rt; names_copy(rt.alloc(), &names)?);
     Ok(())
 }
 
@@ -66,23 +83,33 @@ fn doubled(pairs: &mut Pairs<i64>, name: &str, place: usize) {
     }
 }
 
-#[test]
-fn changed_pairs(rt: HostRuntime) -> Result<(), Fail> {
-    let alloc = rt.alloc();
+fn two(alloc: Global) -> Made<Pairs<i64>> {
     let mut pairs = Pairs::new(alloc);
     pairs.add(Name::new(alloc, "a")?, 3)?;
     pairs.add(Name::new(alloc, "b")?, 4)?;
+    Ok(pairs)
+}
+
+#[test]
+fn changed_pairs(rt: HostRuntime) -> Result<(), Fail> {
+    let mut pairs = two(rt.alloc())?;
     doubled(&mut pairs, "b", 0);
     assert_eq!(rt; pairs.get("a").copied(), Some(6));
     assert_eq!(rt; pairs.get("b").copied(), Some(8));
     Ok(())
 }
 
-#[test]
-fn changed_items(rt: HostRuntime) -> Result<(), Fail> {
-    let mut items: Items<i64> = Items::with_capacity(rt.alloc(), 2)?;
+/// A list of 5, for which room was taken.
+fn one_item(alloc: Global) -> Made<Items<i64>> {
+    let mut items: Items<i64> = Items::with_capacity(alloc, 2)?;
     items.push(5)?;
     items.reserve(1)?;
+    Ok(items)
+}
+
+#[test]
+fn changed_items(rt: HostRuntime) -> Result<(), Fail> {
+    let mut items = one_item(rt.alloc())?;
     assert_eq!(rt; items.len(), 1);
     *items.at_mut(0) = 7;
     assert_eq!(rt; items.as_slice(), [7].as_slice());
