@@ -5,5 +5,6 @@
 mod request_tests;
 #[cfg(test)]
 mod response_tests;
+mod shared;
 #[cfg(test)]
 mod tests;
