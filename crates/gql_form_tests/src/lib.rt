@@ -6,4 +6,6 @@ mod answer_tests;
 #[cfg(test)]
 mod bench_tests;
 #[cfg(test)]
+mod place;
+#[cfg(test)]
 mod type_tests;
