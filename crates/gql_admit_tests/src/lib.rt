@@ -4,5 +4,6 @@
 
 #[cfg(test)]
 mod short_form;
+mod shared;
 #[cfg(test)]
 mod tests;

@@ -5,6 +5,7 @@
 mod record_tests;
 #[cfg(test)]
 mod runs;
+mod shared;
 #[cfg(test)]
 mod table_tests;
 #[cfg(test)]

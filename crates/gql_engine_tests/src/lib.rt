@@ -3,5 +3,6 @@
 
 #[cfg(test)]
 mod meeting;
+mod shared;
 #[cfg(test)]
 mod tests;

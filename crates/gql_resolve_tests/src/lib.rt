@@ -5,5 +5,6 @@
 mod parts;
 #[cfg(test)]
 mod sample;
+mod shared;
 #[cfg(test)]
 mod tests;
