@@ -28,7 +28,7 @@ pub use completion::takes_value;
 pub use given::Given;
 pub use plan::Plan;
 pub use root::answer_root;
-pub use rounds::{Entered, Rounds};
+pub use rounds::Rounds;
 pub use scene::Scene;
 pub use scheduler::finish;
 pub use settling::fresh_arena;
