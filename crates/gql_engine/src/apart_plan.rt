@@ -17,7 +17,7 @@ use std::alloc::Global;
 /// The occurrences of a flat object's fields, each with its place once it is answered, and the path
 /// to one of them.
 #[derive(Drop)]
-pub struct ApartPlan<'a, V> {
+pub(crate) struct ApartPlan<'a, V> {
     pub scene: &'a Scene<'a, V>,
     pub arguments: Pairs<Value>,
     pub occurrences: Vec<Occurrence<'a>>,

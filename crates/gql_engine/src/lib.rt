@@ -23,7 +23,7 @@ mod turning;
 mod waiting;
 
 pub use apart::{run_apart, run_apart_counted, run_root};
-pub use arena::{Arena, State, Turn};
+pub use arena::{Arena, State};
 pub use completion::takes_value;
 pub use given::Given;
 pub use plan::Plan;

@@ -27,7 +27,7 @@ use std::sync::ledger::Ledger;
 /// mutation or of another task. The world stays, but for the effect of a root that its resolver
 /// answered.
 #[tactic(auto, using(crate::proofs::TurningSteps::later_steps))]
-pub fn take_turn<R: ResolverSet, H: Rounds, S: Ledger>(
+pub(crate) fn take_turn<R: ResolverSet, H: Rounds, S: Ledger>(
     root: bool,
     alloc: Global,
     resolvers: &mut R,
