@@ -79,7 +79,7 @@ impl<'a, V: Drop> Plan<V> for ApartPlan<'a, V> {
             path_node: QueryPathNode {
                 segments: self.path.as_slice(),
             },
-            parent_type: self.scene.object.name(),
+            parent_type: self.scene.object.type_name(),
             return_type: occurrence.declared.ty(),
             name: field.name.node.as_str(),
             alias: alias_of(field),
