@@ -76,11 +76,7 @@ module _ {V Task H : Type 0} {asks : Task → Asking V} {hooks : Hooking H} wher
     own = own s;
   }
     where
-      round : Round V
-      round = record { context = context; info = info }
-
-      one : IsOneOf asks made round
-      unfolding round
+      one : IsOneOf asks made (record { context = context; info = info })
       one = record {
         task = task;
         there = ap (slice_get made) context_is.task_is ∙ task_is;
@@ -95,8 +91,7 @@ module _ {V Task H : Type 0} {asks : Task → Asking V} {hooks : Hooking H} wher
       }
 
       own : (s : State F) → Rattle.std.specs.Prelude.All (IsOneOf asks made) (enters_now context info s)
-      unfolding round
-      own state.Fresh = All-cons (IsOneOf asks made) round [] one (All-nil (IsOneOf asks made))
+      own state.Fresh = All-cons (IsOneOf asks made) (record { context = context; info = info }) [] one (All-nil (IsOneOf asks made))
       own (state.Waiting f) = All-nil (IsOneOf asks made)
       own state.Done = All-nil (IsOneOf asks made)
 
