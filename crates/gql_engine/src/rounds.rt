@@ -28,12 +28,12 @@ pub trait Rounds {
     /// answer: a leaf, nothing, or a fault.
     fn enter(
         &mut self,
-        data: &ExtensionContext<'_>,
+        ctx: &ExtensionContext<'_>,
         info: &ResolveInfo<'_>,
     ) -> Made<Entered<Result<Option<Value>, Error>>>
         ensures quiet { are_quiet self.old → are_quiet self.new × GoesOn result }
         ensures told { told self.new
-            ≡ with_more (told self.old) (happened result (entered data.now info.now)) };
+            ≡ with_more (told self.old) (happened result (entered ctx.now info.now)) };
 }
 
 /// The empty list of hooks, the only one so far, lets each task go on.
@@ -42,7 +42,7 @@ impl Rounds for Hooks {
 
     ghost Event = { Unit {0} };
 
-    ghost entered = { λ data info. tt };
+    ghost entered = { λ ctx info. tt };
 
     ghost told = { λ hooks. None };
 
@@ -50,7 +50,7 @@ impl Rounds for Hooks {
 
     fn enter(
         &mut self,
-        _data: &ExtensionContext<'_>,
+        _ctx: &ExtensionContext<'_>,
         _info: &ResolveInfo<'_>,
     ) -> Made<Entered<Result<Option<Value>, Error>>>
         ensures { GoesOn result }

@@ -25,7 +25,7 @@ impl Rounds for Telling {
 
     ghost Event = { Unit {0} };
 
-    ghost entered = { λ data info. tt };
+    ghost entered = { λ ctx info. tt };
 
     ghost told = { λ hooks. None };
 
@@ -33,7 +33,7 @@ impl Rounds for Telling {
 
     fn enter(
         &mut self,
-        _data: &ExtensionContext<'_>,
+        _ctx: &ExtensionContext<'_>,
         info: &ResolveInfo<'_>,
     ) -> Made<Entered<Result<Option<Value>, Error>>> {
         push_info(&mut self.text, info)?;
