@@ -225,7 +225,7 @@ fn answer_of<V>(alloc: Global, value: Option<FieldValue<V>>) -> Answer<V>
 
 /// What hooks see of the data of an execution: the layers without what hooks added.
 fn data_for_hooks<'a>(layers: Layers<'a>) -> ExtensionContext<'a>
-    ensures { result ≡ data_seen layers }
+    ensures { result ≡ data_seen layers.entry }
 {
     ExtensionContext {
         schema_data: layers.schema,
