@@ -19,4 +19,5 @@ pub mod RunLemmas
 pub mod SoundLemmas
 pub mod StepLemmas
 pub mod TurnLemmas
+pub mod TurningSteps
 pub mod UponLemmas
