@@ -17,9 +17,7 @@ use crate::given::Given;
 use crate::rounds::Rounds;
 use gql_base::{Items, Made, Steps};
 use gql_request::{Entered, ExtensionContext, ResolveInfo};
-use gql_resolve::{
-    Answer, FieldFuture, FieldValue, Layers, Polled, ResolverContext, ResolverSet,
-};
+use gql_resolve::{Answer, FieldFuture, FieldValue, Layers, Polled, ResolverContext, ResolverSet};
 use std::alloc::Global;
 use std::sync::ledger::Ledger;
 
@@ -72,9 +70,7 @@ pub(crate) fn take_turn<R: ResolverSet, H: Rounds, S: Ledger>(
         (steps.new ≡ steps.old + length (begins_now context.now.task state.old)) }
 {
     match state {
-        State::Fresh => begin(
-            root, alloc, resolvers, hooks, state, context, info, steps,
-        ),
+        State::Fresh => begin(root, alloc, resolvers, hooks, state, context, info, steps),
         State::Waiting(future) => match poll_as(root, alloc, resolvers, future, context)? {
             Polled::Ready(answer) => Ok(Turn::Answered(Given::Answered(answer))),
             Polled::Pending => Ok(Turn::Pending),
