@@ -5,5 +5,6 @@
 mod answer_tests;
 #[cfg(test)]
 mod bench_tests;
+mod shared;
 #[cfg(test)]
 mod type_tests;
