@@ -18,7 +18,6 @@ use Rattle.gql_select.specs.Reading.{merged}
 use Rattle.gql_merged.specs.Asks.{asking_by}
 use Rattle.gql_merged.specs.Levels.{Asked}
 use Rattle.gql_engine.specs.Path.{key_text}
-use Rattle.gql_engine.specs.Plan.{Asking as Asks}
 use Rattle.gql_merged.specs.Stored.{Spot, spots}
 use Rattle.gql_merged.specs.Tasks.{Slot}
 
@@ -35,10 +34,6 @@ pub record Job (V : Type 0) : Type 0 where
   pub path : List PathSegment
 
 module _ {V : Type 0} where
-  -- what a task asks
-  abbrev pub asked_by_job : Job V → Asks V
-  asked_by_job job = record { call = job.asking.call; segments = job.path; item = job.field.node; env = job.ground.env }
-
   -- the task of a field at a path, where it asks an answer
   abbrev pub job_at : Ground → List PathSegment → Positioned Field → Option (Asking V) → List (Job V)
   job_at ground path field None = []
