@@ -18,9 +18,9 @@ abbrev pub AreFresh : {F T : Type 0} → List (List ℕ × T) → List (List ℕ
 AreFresh fields [] = Unit {0}
 AreFresh fields (p ∷ ps) = (under p.0 fields ≡ None) × AreFresh fields ps
 
-none-fresh : {F T : Type 0} (left : List (List ℕ × F)) → AreFresh {F} {T} [] left
-none-fresh [] = tt
-none-fresh (p ∷ ps) = (refl, none-fresh ps)
+none-fresh : (T : Type 0) {F : Type 0} (left : List (List ℕ × F)) → AreFresh {F = F} {T = T} [] left
+none-fresh T [] = tt
+none-fresh T (p ∷ ps) = (refl, none-fresh T ps)
 
 other-way : (m n : List ℕ) → bytes_eq n m ≡ false → bytes_eq m n ≡ false
 other-way m n e = nat_list_eq_equiv.symm m n ∙ e
@@ -54,7 +54,7 @@ module _ {F T : Type 0} (made : ℕ → List ℕ → F → T) (start : ℕ) (all
   pub going_start : (fields : List (List ℕ × T)) → fields ≡ [] → HasDistinctNames all → IsGoing made start all fields start all
   going_start fields none distinct = record {
     is = ap (λ fs. fields_behind made fs start all) (sym none);
-    fresh = subst (λ fs. AreFresh fs all) (sym none) (none-fresh all);
+    fresh = subst (λ fs. AreFresh fs all) (sym none) (none-fresh T all);
     distinct = distinct;
   }
 
@@ -78,4 +78,4 @@ module _ {F T : Type 0} (made : ℕ → List ℕ → F → T) (start : ℕ) (all
   -- no field is left
   pub going_done : (fields : List (List ℕ × T)) (number k : ℕ) → IsGoing made start all fields number (drop k all) → length all ≤ k
       → fields ≡ fields_behind made [] start all
-  going_done fields number k going past = sym (going.is ∙ ap (fields_behind made fields number) (drop_all all k past))
+  going_done fields number k going past = sym (going.is ∙ ap (fields_behind made fields number) (drop_all k all past))

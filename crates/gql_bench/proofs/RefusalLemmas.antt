@@ -1,5 +1,6 @@
 -- A table has one first refusal at most, and none where it is sound.
 use Rattle.std.proofs.Common.{◌≡◌, ◌⊎◌, ℕ, ◌<◌, List, length, Option, Some, None, slice_get, inl, inr, refl, ap, sym, ◌∙◌, subst, arith}
+use Rattle.std.proofs.lemmas.Bool.{cases_order}
 use Rattle.std.proofs.lemmas.List.{length-map}
 use Rattle.std.proofs.lemmas.Option.{slice_get_within}
 use Rattle.std.specs.Bool.{one_answer}
@@ -28,15 +29,12 @@ module _ (table : TypeTable) where
       never-free (length table) error sound refusal (omega (arith, within, length-map table (λ (p : List ℕ × SchemaType). p.1)))
 
   pub one-refusal : (one other : SchemaError) → IsFirstRefusal table one → IsFirstRefusal table other → one ≡ other
-  one-refusal one other a b = by (order a.place b.place)
+  one-refusal one other a b = by (cases_order a.place b.place)
     where
-      order : (m n : ℕ) → (m < n) ⊎ (n < m) ⊎ (m ≡ n)
-      order m n = omega arith
-
-      by : (a.place < b.place) ⊎ (b.place < a.place) ⊎ (a.place ≡ b.place) → one ≡ other
-      by (inl before) = absurd (never-free b.place one b.before a before)
-      by (inr (inl behind)) = absurd (never-free a.place other a.before b behind)
-      by (inr (inr same)) =
+      by : (a.place ≡ b.place) ⊎ ((a.place < b.place) ⊎ (b.place < a.place)) → one ≡ other
+      by (inr (inl before)) = absurd (never-free b.place one b.before a before)
+      by (inr (inr behind)) = absurd (never-free a.place other a.before b behind)
+      by (inl same) =
           let types : Some a.ty ≡ Some b.ty = sym a.at ∙ ap (slice_get (values_of table)) same ∙ b.at in
           let ty : a.ty ≡ b.ty = cc in
           let both : Some one ≡ Some other = one-fault b.ty (Some one) (Some other) (subst (λ t. IsFaultOf table t (Some one)) ty a.here) b.here in

@@ -180,7 +180,7 @@ entries-are earlier done number (p ∷ ps) fields shown long is =
 -- the whole table before the scalars of every schema
 only-object : (schema : SchemaForm) (object : ObjectForm) → schema.types ≡ forms.Object object ∷ [] → object.key ≡ None
     → schema.settings.federation ≡ false → full_table schema ≡ (object.name, types.Object (object_in 0 object)) ∷ []
-only-object schema object alone unkeyed off = rw (alone, unkeyed, off) refl
+only-object schema object alone unkeyed off = rw alone (rw unkeyed (rw off refl))
 
 found-root : (table : TypeTable) (schema : SchemaForm) (object : ObjectForm) (root : List ℕ) → table ≡ (object.name, types.Object (object_in 0 object)) ∷ []
     → bytes_eq object.name root ≡ true → object_under root table ≡ Some (object_in 0 object)

@@ -5,4 +5,4 @@ use Rattle.gql_cli.proofs.tables.rules_of.Given as goal
 
 abbrev pub invariant-loop-field : goal.invariant-loop-field
 invariant-loop-field l =
-    map rule_of l.fn.fields ≡ l.rules ++ map rule_of (into_iter_items l.field-iterator)
+    l.rules ++ map rule_of (into_iter_items l.field-iterator) ≡ map rule_of l.fn.fields
