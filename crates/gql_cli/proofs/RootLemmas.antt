@@ -4,6 +4,7 @@ use Rattle.std.proofs.lemmas.List.{map-append}
 use Rattle.std.specs.Cmp.Lexicographic.{nat_list_eq_equiv}
 use Rattle.std.specs.Option.{is_none}
 use Rattle.std.specs.Str.{bytes_eq}
+use denote.Hole.Carrier.{roll}
 use Rattle.gql_base.specs.Pairs.{under}
 use Rattle.gql_base.specs.declared.type_ref.TypeRef.{TypeRef, out-TypeRef, roll-TypeRef, roll-out-TypeRef}
 use Rattle.gql_base.specs.declared.type_ref.TypeRef.TheOpen.{TypeRef-F}
@@ -130,6 +131,7 @@ record IsFieldOf (name : List ℕ) (ty : TypeRef) (field : FirstField) : Type 0 
   typed : ty ≡ Named field.type_name
 
 layer-named : (ty : TypeRef) (layer : TypeRef-F TypeRef) (name : List ℕ) → out-TypeRef ty ≡ layer → bare_name_here layer ≡ Some name → ty ≡ Named name
+unfolding roll-TypeRef roll
 layer-named ty (TypeRef-F.Named n) name is some = sym (roll-out-TypeRef ty) ∙ ap roll-TypeRef is ∙ ap Named (some-same some)
 layer-named ty (TypeRef-F.NonNull inner) name is some = cc
 layer-named ty (TypeRef-F.List inner) name is some = cc
