@@ -1,26 +1,31 @@
 -- A bench is one first bench, and what a bench's request gives, the bytes give.
-use Rattle.std.proofs.Common.{◌≡◌, ℕ, List, [], ◌∷◌, Option, Some, None, Result, Ok, Err, IfOk, MatchOption, refl, ap, sym, ◌∙◌, subst}
+use Rattle.std.proofs.Common.{◌≡◌, ◌⊎◌, ℕ, List, [], ◌∷◌, Option, Some, None, Result, Ok, Err, IfOk, inl, inr, refl, ap, sym, ◌∙◌, subst}
 use Rattle.serde_json.specs.Data.{Data}
-use Rattle.gql_base.specs.Pairs.{HasDistinctNames}
 use Rattle.gql_form.specs.BenchForm.{form_in}
 use Rattle.gql_form.specs.declared.bench_form.BenchForm.{BenchForm}
 use Rattle.gql_form.specs.declared.command.Command.{Command as FormCommand}
 use Rattle.gql_resolve.specs.declared.record_entry.RecordEntry.{RecordEntry}
 use Rattle.gql_cli.specs.Answer.{IsAnswerOf, IsRefusalOf, answers_of}
-use Rattle.gql_cli.specs.Bench.{json_of, bench_request, first_request, BenchGives, Gives, JsonGives, QueryGives, WithRecord}
+use Rattle.gql_cli.specs.Bench.{json_of, bench_request, first_request, BenchGives, Gives, JsonGives, QueryGives, SoundGives, WithRecord}
 use Rattle.gql_cli.specs.BenchAnswers.{IsBenchOf, IsSuited}
-use Rattle.gql_cli.specs.FirstBench.{AreTaken, IsFirstBench, IsNoFirstBench, constants, first_in}
-use Rattle.gql_cli.specs.Shape.{HasTables, IsBadAt, IsFound, IsFoundOf, IsNotBuilt, IsReadAs, form_command}
-use Rattle.gql_cli.specs.Tables.{IsTableOf}
+use Rattle.gql_bench.specs.SchemaTable.{full_table, whole_table}
+use Rattle.gql_cli.specs.FirstBench.{IsFirstBench, IsNoFirstBench, first_in}
+use Rattle.gql_cli.specs.SchemaFault.{HasSoundTypes, schema_line}
+use Rattle.gql_cli.specs.Shape.{HasTables, IsBadAt, IsFound, IsFoundOf, IsNotBuilt, IsReadAs, IsRefusedAs, form_command}
+use Rattle.gql_cli.specs.Tables.{IsMadeOf, IsTableOf}
 use Rattle.gql_cli.specs.declared.bench.Command.{Command}
 use Rattle.gql_cli.specs.declared.bench.Found.{Found}
 use Rattle.gql_cli.specs.declared.bench.Found.TheVariants as found
 use Rattle.gql_cli.specs.declared.bench.Written.{Written}
-use Rattle.gql_cli.specs.declared.bench.Written.TheVariants.{Answered, Refused, NotJson, BadShape, NotBuilt}
+use Rattle.gql_cli.specs.declared.bench.Written.TheVariants.{Answered, Refused, NotJson, BadShape, BadSchema, NotBuilt}
 use Rattle.gql_cli.specs.declared.first_bench.FirstBench.{FirstBench}
 use Rattle.gql_cli.specs.declared.tables.Bench.{Bench}
 use Rattle.gql_cli.proofs.FirstLemmas.{first-taken}
 use Rattle.gql_cli.proofs.RecordLemmas.{first-task}
+use Rattle.gql_cli.proofs.RootLemmas.{tables-of}
+use Rattle.gql_schema.specs.Finished.{KeepsOthers}
+use Rattle.gql_schema.specs.Table.{types_of}
+use Rattle.gql_schema.specs.declared.types.Types.{Types}
 use Rattle.gql_cli.proofs.TablesLemmas.{table-answers}
 
 pub some-same : {A : Type 0} {x y : A} → Some x ≡ Some y → x ≡ y
@@ -40,28 +45,31 @@ request-same first bench made query =
       query = query i;
     }
 
--- what a first bench's request gives, its bench gives
+-- what a first bench's request gives, its bench gives where its types are sound
 form-gives : (command : Command) (form : BenchForm) (first : FirstBench) → IsFirstBench form first → (written : Written) (entries : List RecordEntry)
-    → QueryGives command (first_request first) written entries → BenchGives command form written entries
+    → QueryGives command (first_request first) written entries → SoundGives command form written entries
 form-gives command form first is (Answered text) entries gives = (first, is, gives)
 form-gives command form first is (Refused text) entries (refusal, none) = ((first, is, refusal), none)
 form-gives command form first is NotBuilt entries (unanswered, unrefused) = (
   λ text (other, fits, answer).
-      unanswered text (subst (λ (f : FirstBench). IsAnswerOf (answers_of f) f.query text) (first-same form other first fits.0 is.0) answer),
+      unanswered text (subst (λ (f : FirstBench). IsAnswerOf (answers_of f) f.query text) (first-same form other first fits is) answer),
   λ text (other, fits, refusal).
-      unrefused text (subst (λ (f : FirstBench). IsRefusalOf f.query text) (first-same form other first fits.0 is.0) refusal),
+      unrefused text (subst (λ (f : FirstBench). IsRefusalOf f.query text) (first-same form other first fits is) refusal),
 )
 form-gives command form first is NotJson entries gives = gives
 form-gives command form first is (BadShape line) entries gives = gives
+form-gives command form first is (BadSchema line) entries gives = gives
 
 -- what a bench gives, the JSON value that is read as it gives
 read-as-gives : (command : Command) (json : Data) (form : BenchForm) → IsReadAs command json form → (written : Written) (entries : List RecordEntry)
     → BenchGives command form written entries → JsonGives command json written entries
+read-as-gives command json form read (BadSchema line) entries gives = (form, read, gives)
 read-as-gives command json form read (Answered text) entries gives = (form, read, gives)
 read-as-gives command json form read (Refused text) entries gives = (form, read, gives)
 read-as-gives command json form read NotBuilt entries gives = (form, read, gives)
-read-as-gives command json form read NotJson entries gives = absurd gives
-read-as-gives command json form read (BadShape line) entries gives = absurd gives
+read-as-gives command json form read NotJson entries gives = (form, read, gives)
+read-as-gives command json form read (BadShape line) entries (inl (text, refused, wrong)) = cc
+read-as-gives command json form read (BadShape line) entries (inr (sound, never)) = absurd never
 
 -- what the request of a bench's tables gives, the JSON value of the bench gives
 pub made-gives : {E : Type 0} (Told : List RecordEntry → Type 0) (command : Command) (json : Data) (bench : Bench) → HasTables command json bench
@@ -70,13 +78,18 @@ pub made-gives : {E : Type 0} (Told : List RecordEntry → Type 0) (command : Co
 made-gives Told command json bench (form, read, made) (Ok written) (entries, gives, told) =
     let same = request-same made.first bench made.tabled made.request in
     let given = form-gives command form made.first made.is written entries (subst (λ request. QueryGives command request written entries) same gives) in
-    (entries, read-as-gives command json form read written entries given, told)
+    (entries, read-as-gives command json form read written entries (inr (made.sound, given)), told)
 made-gives Told command json bench has (Err want) gives = gives
 
 -- a bench that isn't built has no answer
 pub no-bench : (command : Command) (json : Data) → IsNotBuilt command json → JsonGives command json NotBuilt []
-no-bench command json (form, read, none) =
-    (form, read, (λ text (first, is, answer). none first is, λ text (first, is, refusal). none first is))
+no-bench command json (form, read, (sound, none)) =
+    (form, read, inr (sound, (λ text (first, is, answer). none first is, λ text (first, is, refusal). none first is)))
+
+-- a bench whose schema is refused gives the line that tells why
+pub bad-schema : (command : Command) (json : Data) (text line : List ℕ) → IsRefusedAs command json text → line ≡ schema_line text
+    → JsonGives command json (BadSchema line) []
+bad-schema command json text line (form, read, refused) is = (form, read, inl (text, refused, ap BadSchema is))
 
 -- what a JSON value gives, the bytes with that value give
 bytes-give : (command : Command) (bytes : List ℕ) (json : Data) → json_of bytes ≡ Some json → (written : Written) (entries : List RecordEntry)
@@ -85,7 +98,9 @@ bytes-give command bytes json is (Answered text) entries gives = (json, is, give
 bytes-give command bytes json is (Refused text) entries gives = (json, is, gives)
 bytes-give command bytes json is NotBuilt entries gives = (json, is, gives)
 bytes-give command bytes json is (BadShape line) entries gives = (json, is, gives)
-bytes-give command bytes json is NotJson entries (form, read, gives) = absurd gives
+bytes-give command bytes json is (BadSchema line) entries gives = (json, is, gives)
+bytes-give command bytes json is NotJson entries (form, read, inl (text, refused, wrong)) = cc
+bytes-give command bytes json is NotJson entries (form, read, inr (sound, never)) = absurd never
 
 pub read-gives : {E : Type 0} (Told : List RecordEntry → Type 0) (command : Command) (bytes : List ℕ) (json : Data) → json_of bytes ≡ Some json
     → (written : Result Written E) → IfOk written (WithRecord (JsonGives command json) Told) → IfOk written (WithRecord (Gives command bytes) Told)
@@ -93,29 +108,27 @@ read-gives Told command bytes json is (Ok written) (entries, gives, told) =
     (entries, bytes-give command bytes json is written entries gives, told)
 read-gives Told command bytes json is (Err want) gives = gives
 
--- what is made of a first bench whose fields have names that differ
-abbrev pub IsMadeOf : FirstBench → Bench → Type 0
-IsMadeOf first bench =
-    HasDistinctNames (constants first.fields) × (bench.request ≡ first.query) × IsTableOf first bench
-
--- it is the tables of the bench, and where none are made the bench is no first bench
-pub made-bench : {E : Type 0} (form : BenchForm) (first : FirstBench) → first_in form ≡ Some first → (made : Result (Option Bench) E)
-    → IfOk made (λ found. MatchOption found (HasDistinctNames (constants first.fields) → ⊥) (IsMadeOf first))
-    → IfOk made (λ found. MatchOption found (IsNoFirstBench form) (IsBenchOf form))
-made-bench form first is (Ok (Some bench)) (distinct, request, tabled) =
-    record { first = first; is = (is, distinct); request = request; tabled = tabled }
-made-bench form first is (Ok None) doubled =
-    λ other (fits, distinct). doubled (subst (λ (f : FirstBench). HasDistinctNames (constants f.fields)) (first-same form other first fits is) distinct)
-made-bench form first is (Err want) made = made
+-- what is made of a first bench over the types of its schema is the tables of the bench
+pub bench-found : (form : BenchForm) (first : FirstBench) (types : Types) (bench : Bench) → Some first ≡ first_in form
+    → types_of types ≡ whole_table form.setup.schema → HasSoundTypes form → KeepsOthers (full_table form.setup.schema) (types_of types)
+    → IsMadeOf first types bench → IsBenchOf form bench
+bench-found form first types bench is table sound kept made = record {
+  first = first;
+  is = sym is;
+  types = ap types_of made.types ∙ table;
+  sound = sound;
+  request = made.request;
+  tabled = tables-of form first types bench (sym is) kept made;
+}
 
 -- a bench without a first bench is none
-pub none-made : (form : BenchForm) → first_in form ≡ None → IsNoFirstBench form
-none-made form none first (is, distinct) = let wrong : None ≡ Some first = sym none ∙ is in cc
+pub none-found : (form : BenchForm) → None ≡ first_in form → IsNoFirstBench form
+none-found form none first is = let wrong : None ≡ Some first = none ∙ is in cc
 
 -- the tables of a bench are suited: the constants are of their fields' types
 pub suited : (command : Command) (json : Data) (bench : Bench) → HasTables command json bench → IsSuited bench
 suited command json bench (form, read, made) =
-    record { first = made.first; tabled = made.tabled; taken = first-taken form made.first made.is.0 }
+    record { first = made.first; tabled = made.tabled; taken = first-taken form made.first made.is }
 
 -- a JSON value is read as a bench by the command that is a command's own
 pub read-by : (by : FormCommand) (command : Command) (json : Data) (form : BenchForm) → by ≡ form_command command → Ok form ≡ form_in by json
@@ -132,5 +145,6 @@ pub found-read : {E : Type 0} (command : Command) (json : Data) (form : BenchFor
     → IfOk made (IsFoundOf form) → IfOk made (IsFound command json)
 found-read command json form read (Ok (found.Bench bench)) is = (form, read, is)
 found-read command json form read (Ok (found.BadAt place)) is = absurd is
+found-read command json form read (Ok (found.BadSchema text)) is = (form, read, is)
 found-read command json form read (Ok found.NotBuilt) is = (form, read, is)
 found-read command json form read (Err want) is = is

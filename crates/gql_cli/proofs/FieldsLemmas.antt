@@ -1,7 +1,6 @@
 -- What a bench answers under the name of a field of its query root: the constant of a rule, which the field's type takes.
 use Rattle.std.proofs.Common.{◌≡◌, ℕ, suc, Bool, true, false, cond, List, [], ◌∷◌, ◌++◌, map, length, Option, Some, None, option_map, option_and_then, slice_get, refl, ap, sym, ◌∙◌, subst, append_assoc, length-append, arith}
 use Rattle.std.specs.Str.{bytes_eq}
-use Rattle.std.specs.Cmp.Lexicographic.{bytes_decides}
 use Rattle.gql_base.specs.Pairs.{under}
 use Rattle.gql_base.specs.declared.type_ref.TypeRef.{TypeRef}
 use Rattle.gql_base.specs.declared.type_ref.TypeRef.TheVariants.{Named}
@@ -11,8 +10,6 @@ use Rattle.gql_schema.specs.Object.{fields_of}
 use Rattle.gql_schema.specs.Table.{types_of}
 use Rattle.gql_schema.specs.declared.field.Field.{Field}
 use Rattle.gql_schema.specs.declared.object.Object.{Object}
-use Rattle.gql_schema.specs.declared.schema_type.SchemaType.{SchemaType}
-use Rattle.gql_schema.specs.declared.schema_type.SchemaType.TheVariants as types
 use Rattle.gql_cli.specs.BenchAnswers.{bench_answers, bench_object, IsSuited}
 use Rattle.gql_cli.specs.FirstBench.{Takes, AreTaken}
 use Rattle.gql_cli.specs.Tables.{constant_of, field_constant, object_under, rule_of, entry_of, entries}
@@ -87,9 +84,7 @@ known-field bench suited n v (Some declared) is answered =
 
 root-found : (bench : Bench) (suited : IsSuited bench) → bench_object bench ≡ Some suited.tabled.object
 root-found bench suited =
-    let found : object_under suited.first.root ((suited.first.root, types.Object suited.tabled.object) ∷ []) ≡ Some suited.tabled.object
-    = rw ((bytes_decides suited.first.root suited.first.root).1 refl) refl in
-    (λ i. object_under (suited.tabled.root i) (suited.tabled.types i)) ∙ found
+    ap (λ root. object_under root (types_of bench.types)) suited.tabled.root ∙ suited.tabled.found
 
 -- what a bench answers is the constant of a declared field
 pub known-answer : (bench : Bench) (suited : IsSuited bench) (object : Object) (n : List ℕ) (v : Value) → bench_object bench ≡ Some object

@@ -70,11 +70,11 @@ pub fields_done : (forms : List (List ℕ × FieldForm)) (k : ℕ) (earlier : Li
 fields_done forms k earlier so past = sym (so ∙ ap (first_fields earlier) (drop_all k forms past))
 
 -- what stands behind a test, where it gives something
-behind-test : {A : Type 0} (test : Bool) (found : Option A) (x : A) → cond test found None ≡ Some x → found ≡ Some x
+pub behind-test : {A : Type 0} (test : Bool) (found : Option A) (x : A) → cond test found None ≡ Some x → found ≡ Some x
 behind-test true found x is = is
 behind-test false found x is = cc
 
-taken-with : (test : Bool) (field other : FirstField) → cond test (Some field) None ≡ Some other → (field ≡ other) × IsTrue test
+pub taken-with : (test : Bool) (field other : FirstField) → cond test (Some field) None ≡ Some other → (field ≡ other) × IsTrue test
 taken-with true field other is = (cc, refl)
 taken-with false field other is = cc
 

@@ -1,5 +1,5 @@
 -- What the bytes of a bench give is one thing, with one record.
-use Rattle.std.proofs.Common.{◌≡◌, ℕ, List, [], ◌∷◌, ◌++◌, Option, Some, None, Result, Ok, Err, refl, ap, sym, ◌∙◌, subst}
+use Rattle.std.proofs.Common.{◌≡◌, ℕ, List, [], ◌∷◌, ◌++◌, Option, Some, None, Result, Ok, Err, inl, inr, refl, ap, sym, ◌∙◌, subst}
 use Rattle.std.specs.Str.{chars}
 use Rattle.serde_json.specs.Data.{Data}
 use Rattle.gql_base.specs.declared.value.Value.{Value}
@@ -9,12 +9,16 @@ use Rattle.gql_form.specs.declared.bench_form.BenchForm.{BenchForm}
 use Rattle.gql_doc.proofs.ParseLaws.{one_document, one_document_fault, never_both}
 use Rattle.gql_resolve.specs.declared.record_entry.RecordEntry.{RecordEntry}
 use Rattle.gql_cli.specs.Answer.{Chooses, IsAnswerOf, IsRefusalOf, IsResponse, error_of, refusal_line, response_line}
-use Rattle.gql_cli.specs.Bench.{BenchGives, Gives, IfResponse, IsAnswered, JsonGives, first_request, json_of, lines_for}
+use Rattle.gql_cli.specs.Bench.{BenchGives, Gives, IfResponse, IsAnswered, JsonGives, SoundGives, first_request, json_of, lines_for}
 use Rattle.gql_cli.specs.BenchRecord.{AreAsked, BenchTask, IsDocumentRecord, IsQueryRecord, IsRecord}
+use Rattle.gql_schema.specs.declared.schema_error.SchemaError.{SchemaError}
+use Rattle.gql_bench.specs.SchemaTable.{whole_table}
+use Rattle.gql_bench.proofs.RefusalLemmas.{never-sound, one-refusal}
+use Rattle.gql_cli.specs.SchemaFault.{schema_line}
 use Rattle.gql_cli.specs.Shape.{IsBadShape, IsReadAs, form_command, shape_line}
 use Rattle.gql_cli.specs.declared.bench.Command.{Command}
 use Rattle.gql_cli.specs.declared.bench.Written.{Written}
-use Rattle.gql_cli.specs.declared.bench.Written.TheVariants.{Answered, Refused, NotJson, BadShape, NotBuilt}
+use Rattle.gql_cli.specs.declared.bench.Written.TheVariants.{Answered, Refused, NotJson, BadShape, BadSchema, NotBuilt}
 use Rattle.gql_cli.specs.declared.first_bench.FirstBench.{FirstBench}
 use Rattle.gql_cli.proofs.BenchLemmas.{first-same, some-same}
 use Rattle.gql_cli.proofs.QueryLemmas.{asks-same}
@@ -84,36 +88,52 @@ module _ (command : Command) where
       let response = answer-same request.answers request.query a.response b.response a.answers b.answers in
       (ap Answered (a.is ∙ (λ i. lines_for command (told i) ++ response i) ∙ sym b.is), told)
 
+  -- what a bench with sound types gives
+  sound-same : (form : BenchForm) (one other : Written) (entries others : List RecordEntry) → SoundGives command form one entries
+      → SoundGives command form other others → AreOne one other entries others
+  sound-same form (Answered s) (Answered t) entries others (f, shaped, a) (g, shaped', b) =
+      let same = first-same form f g shaped shaped' in
+      answered-same g s t entries others (subst (λ first. IsAnswered command (first_request first) s entries) same a) b
+  sound-same form (Answered s) (Refused t) entries others (f, shaped, a) ((g, shaped', refusal), none) =
+      let same = first-same form g f shaped' shaped in
+      let request = first_request f in
+      absurd (never-answered request.answers f.query a.response t a.answers (subst (λ (first : FirstBench). IsRefusalOf first.query t) same refusal))
+  sound-same form (Answered s) NotBuilt entries others (f, shaped, a) none = absurd (none.0 a.response (f, shaped, a.answers))
+  sound-same form (Answered s) NotJson entries others a b = absurd b
+  sound-same form (Refused s) (Answered t) entries others ((g, shaped', refusal), none) (f, shaped, a) =
+      let same = first-same form g f shaped' shaped in
+      let request = first_request f in
+      absurd (never-answered request.answers f.query a.response s a.answers (subst (λ (first : FirstBench). IsRefusalOf first.query s) same refusal))
+  sound-same form (Refused s) (Refused t) entries others ((f, shaped, a), none) ((g, shaped', b), none') =
+      let same = first-same form f g shaped shaped' in
+      (ap Refused (refusal-same g.query s t (subst (λ (first : FirstBench). IsRefusalOf first.query s) same a) b), none ∙ sym none')
+  sound-same form (Refused s) NotBuilt entries others (refusal, empty) none = absurd (none.1 s refusal)
+  sound-same form (Refused s) NotJson entries others a b = absurd b
+  sound-same form NotBuilt (Answered t) entries others none (f, shaped, b) = absurd (none.0 b.response (f, shaped, b.answers))
+  sound-same form NotBuilt (Refused t) entries others none (refusal, empty) = absurd (none.1 t refusal)
+  sound-same form NotBuilt NotBuilt entries others a b = (refl, tt)
+  sound-same form NotBuilt NotJson entries others a b = absurd b
+  sound-same form (Answered s) (BadShape t) entries others a b = absurd b
+  sound-same form (Refused s) (BadShape t) entries others a b = absurd b
+  sound-same form NotBuilt (BadShape t) entries others a b = absurd b
+  sound-same form NotJson other entries others a b = absurd a
+  sound-same form (BadShape s) other entries others a b = absurd a
+  sound-same form (Answered s) (BadSchema t) entries others a b = absurd b
+  sound-same form (Refused s) (BadSchema t) entries others a b = absurd b
+  sound-same form NotBuilt (BadSchema t) entries others a b = absurd b
+  sound-same form (BadSchema s) other entries others a b = absurd a
+
   -- what a bench gives
   bench-same : (form : BenchForm) (one other : Written) (entries others : List RecordEntry) → BenchGives command form one entries
       → BenchGives command form other others → AreOne one other entries others
-  bench-same form (Answered s) (Answered t) entries others (f, shaped, a) (g, shaped', b) =
-      let same = first-same form f g shaped.0 shaped'.0 in
-      answered-same g s t entries others (subst (λ first. IsAnswered command (first_request first) s entries) same a) b
-  bench-same form (Answered s) (Refused t) entries others (f, shaped, a) ((g, shaped', refusal), none) =
-      let same = first-same form g f shaped'.0 shaped.0 in
-      let request = first_request f in
-      absurd (never-answered request.answers f.query a.response t a.answers (subst (λ (first : FirstBench). IsRefusalOf first.query t) same refusal))
-  bench-same form (Answered s) NotBuilt entries others (f, shaped, a) none = absurd (none.0 a.response (f, shaped, a.answers))
-  bench-same form (Answered s) NotJson entries others a b = absurd b
-  bench-same form (Refused s) (Answered t) entries others ((g, shaped', refusal), none) (f, shaped, a) =
-      let same = first-same form g f shaped'.0 shaped.0 in
-      let request = first_request f in
-      absurd (never-answered request.answers f.query a.response s a.answers (subst (λ (first : FirstBench). IsRefusalOf first.query s) same refusal))
-  bench-same form (Refused s) (Refused t) entries others ((f, shaped, a), none) ((g, shaped', b), none') =
-      let same = first-same form f g shaped.0 shaped'.0 in
-      (ap Refused (refusal-same g.query s t (subst (λ (first : FirstBench). IsRefusalOf first.query s) same a) b), none ∙ sym none')
-  bench-same form (Refused s) NotBuilt entries others (refusal, empty) none = absurd (none.1 s refusal)
-  bench-same form (Refused s) NotJson entries others a b = absurd b
-  bench-same form NotBuilt (Answered t) entries others none (f, shaped, b) = absurd (none.0 b.response (f, shaped, b.answers))
-  bench-same form NotBuilt (Refused t) entries others none (refusal, empty) = absurd (none.1 t refusal)
-  bench-same form NotBuilt NotBuilt entries others a b = (refl, tt)
-  bench-same form NotBuilt NotJson entries others a b = absurd b
-  bench-same form (Answered s) (BadShape t) entries others a b = absurd b
-  bench-same form (Refused s) (BadShape t) entries others a b = absurd b
-  bench-same form NotBuilt (BadShape t) entries others a b = absurd b
-  bench-same form NotJson other entries others a b = absurd a
-  bench-same form (BadShape s) other entries others a b = absurd a
+  bench-same form one other entries others (inl (s, (e, refusal, is), line)) (inl (t, (f, refusal', is'), line')) =
+      let texts = is ∙ ap (λ (error : SchemaError). error.text) (one-refusal (whole_table form.setup.schema) e f refusal refusal') ∙ sym is' in
+      (line ∙ ap (λ text. BadSchema (schema_line text)) texts ∙ sym line', subst (λ written. IfResponse written (entries ≡ others)) (sym line) tt)
+  bench-same form one other entries others (inl (s, (e, refusal, is), line)) (inr (sound, gives)) =
+      absurd (never-sound (whole_table form.setup.schema) e refusal sound)
+  bench-same form one other entries others (inr (sound, gives)) (inl (t, (f, refusal, is), line)) =
+      absurd (never-sound (whole_table form.setup.schema) f refusal sound)
+  bench-same form one other entries others (inr (sound, a)) (inr (sound', b)) = sound-same form one other entries others a b
 
   never-both : (json : Data) (s : List ℕ) → IsBadShape command json s → (form : BenchForm) → IsReadAs command json form → ⊥
   never-both json s (place, bad, is) form read = let wrong : Err place ≡ Ok form = sym bad ∙ read in cc
@@ -131,7 +151,10 @@ module _ (command : Command) where
       subst (λ f. BenchGives command f (Refused s) entries) (read-same json other form also read) gives
   read-gives json form read NotBuilt entries (other, also, gives) =
       subst (λ f. BenchGives command f NotBuilt entries) (read-same json other form also read) gives
-  read-gives json form read NotJson entries (other, also, gives) = gives
+  read-gives json form read (BadSchema s) entries (other, also, gives) =
+      subst (λ f. BenchGives command f (BadSchema s) entries) (read-same json other form also read) gives
+  read-gives json form read NotJson entries (other, also, gives) =
+      subst (λ f. BenchGives command f NotJson entries) (read-same json other form also read) gives
 
   -- what a JSON value gives
   json-same : (json : Data) (one other : Written) (entries others : List RecordEntry) → JsonGives command json one entries
@@ -147,7 +170,8 @@ module _ (command : Command) where
       bad place none (Answered s) told (form, read, gives) = let wrong : Err place ≡ Ok form = sym none ∙ read in cc
       bad place none (Refused s) told (form, read, gives) = let wrong : Err place ≡ Ok form = sym none ∙ read in cc
       bad place none NotBuilt told (form, read, gives) = let wrong : Err place ≡ Ok form = sym none ∙ read in cc
-      bad place none NotJson told (form, read, gives) = absurd gives
+      bad place none (BadSchema s) told (form, read, gives) = let wrong : Err place ≡ Ok form = sym none ∙ read in cc
+      bad place none NotJson told (form, read, gives) = let wrong : Err place ≡ Ok form = sym none ∙ read in cc
 
       by : (read : Result BenchForm (List ℕ)) → form_in (form_command command) json ≡ read → AreOne one other entries others
       by (Ok form) is = bench-same form one other entries others (read-gives json form is one entries a) (read-gives json form is other others b)
@@ -162,6 +186,7 @@ module _ (command : Command) where
   given-json bytes json is (Refused s) entries (j, is', gives) = subst (λ d. JsonGives command d (Refused s) entries) (some-same (sym is' ∙ is)) gives
   given-json bytes json is NotBuilt entries (j, is', gives) = subst (λ d. JsonGives command d NotBuilt entries) (some-same (sym is' ∙ is)) gives
   given-json bytes json is (BadShape s) entries (j, is', gives) = subst (λ d. JsonGives command d (BadShape s) entries) (some-same (sym is' ∙ is)) gives
+  given-json bytes json is (BadSchema s) entries (j, is', gives) = subst (λ d. JsonGives command d (BadSchema s) entries) (some-same (sym is' ∙ is)) gives
   given-json bytes json is NotJson entries none = let wrong : None ≡ Some json = sym none ∙ is in cc
 
   given-nothing : (bytes : List ℕ) → json_of bytes ≡ None → (written : Written) (entries : List RecordEntry)
@@ -170,6 +195,7 @@ module _ (command : Command) where
   given-nothing bytes none (Refused s) entries (j, is, gives) = let wrong : None ≡ Some j = sym none ∙ is in cc
   given-nothing bytes none NotBuilt entries (j, is, gives) = let wrong : None ≡ Some j = sym none ∙ is in cc
   given-nothing bytes none (BadShape s) entries (j, is, gives) = let wrong : None ≡ Some j = sym none ∙ is in cc
+  given-nothing bytes none (BadSchema s) entries (j, is, gives) = let wrong : None ≡ Some j = sym none ∙ is in cc
   given-nothing bytes none NotJson entries is = refl
 
   -- the bytes of a bench give one thing

@@ -20,7 +20,7 @@ use Rattle.gql_schema.specs.Field.{field_type, resolver_of}
 use Rattle.gql_schema.specs.Object.{fields_of}
 use Rattle.gql_schema.specs.declared.field.Field.{Field as SchemaField}
 use Rattle.gql_schema.specs.declared.object.Object.{Object}
-use Rattle.gql_schema.specs.declared.schema_type.SchemaType.TheVariants as types
+use Rattle.gql_schema.specs.Table.{types_of}
 use Rattle.gql_engine.specs.Apart.{Asked, asked, asked_of, asked_in, subject_in}
 use Rattle.gql_engine.specs.Pace.{EachPaced, pending_then_ready, told_of}
 use Rattle.gql_engine.specs.Progress.{story_of}
@@ -197,9 +197,7 @@ numbered-tasks n rules front k (f ∷ fs) same long =
 -- the tasks of a bench are those of the first bench that it has the tables of
 pub first-task : (first : FirstBench) (bench : Bench) → IsTableOf first bench → (name : List ℕ) → bench_task bench name ≡ first_task first name
 first-task first bench made name =
-    let found : object_under first.root ((first.root, types.Object made.object) ∷ []) ≡ Some made.object
-    = rw ((bytes_decides first.root first.root).1 refl) refl in
-    let root : bench_object bench ≡ Some made.object = (λ i. object_under (made.root i) (made.types i)) ∙ found in
+    let root : bench_object bench ≡ Some made.object = ap (λ root. object_under root (types_of bench.types)) made.root ∙ made.found in
     ap (λ o. option_map (task_with bench.rules name) (option_and_then (λ object. under name (fields_of object)) o)) root
     ∙ tasks-through name bench.rules (fields_of made.object) ∙ ap (λ es. option_map (task_at bench.rules name) (under name es)) made.tabled.shown
     ∙ numbered-tasks name bench.rules [] 0 first.fields made.tabled.ruled refl

@@ -7,7 +7,7 @@ use Rattle.gql_cli.specs.BenchRecord.{entry_line, record_lines}
 use Rattle.gql_cli.specs.declared.bench.Command.{Command}
 use Rattle.gql_cli.specs.declared.bench.Command.TheVariants.{Execute}
 use Rattle.gql_cli.specs.declared.bench.Written.{Written}
-use Rattle.gql_cli.specs.declared.bench.Written.TheVariants.{Answered, Refused, NotJson, BadShape, NotBuilt}
+use Rattle.gql_cli.specs.declared.bench.Written.TheVariants.{Answered, Refused, NotJson, BadSchema, BadShape, NotBuilt}
 
 -- an answer over a set, behind the lines of what that set told while it is held
 pub answer-behind : {S : Type 0} (told : S → Option (List RecordEntry)) (set : S) (shown : List RecordEntry) (command : Command) (request : Request)
@@ -29,6 +29,7 @@ answer-behind told set shown command request (Refused text) shows (entries, give
 answer-behind told set shown command request NotBuilt shows (entries, gives, tells) = (entries, gives, tt)
 answer-behind told set shown command request NotJson shows (entries, gives, tells) = absurd gives
 answer-behind told set shown command request (BadShape line) shows (entries, gives, tells) = absurd gives
+answer-behind told set shown command request (BadSchema text) shows (entries, gives, tells) = absurd gives
 
 -- the same of what was made of it, where the set that is held is known by an equation
 pub made_behind : {S E : Type 0} (told : S → Option (List RecordEntry)) (held : Option S) (set : S) → held ≡ Some set → (shown : List RecordEntry)

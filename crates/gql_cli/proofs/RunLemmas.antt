@@ -9,7 +9,7 @@ use Rattle.gql_cli.specs.Run.{HasRun, IsDue, IsListed, IsCutOff, due_status, due
 use Rattle.gql_cli.specs.declared.bench.Command.{Command}
 use Rattle.gql_cli.specs.declared.bench.Command.TheVariants.{Execute, Record}
 use Rattle.gql_cli.specs.declared.bench.Written.{Written}
-use Rattle.gql_cli.specs.declared.bench.Written.TheVariants.{Answered, Refused, NotJson, BadShape, NotBuilt}
+use Rattle.gql_cli.specs.declared.bench.Written.TheVariants.{Answered, Refused, NotJson, BadShape, BadSchema, NotBuilt}
 use Rattle.gql_cli.specs.declared.outcome.Outcome.{Outcome}
 use Rattle.gql_cli.specs.declared.outcome.Outcome.TheVariants.{Usage, ReadFault, TooLong, Bench}
 use Rattle.gql_io.specs.Limits.{input_limit}
@@ -137,5 +137,7 @@ responds status NotJson P same (inl none) holds = absurd (omega arith)
 responds status NotJson P same (inr one) holds = absurd (omega arith)
 responds status (BadShape line) P same (inl none) holds = absurd (omega arith)
 responds status (BadShape line) P same (inr one) holds = absurd (omega arith)
+responds status (BadSchema line) P same (inl none) holds = absurd (omega arith)
+responds status (BadSchema line) P same (inr one) holds = absurd (omega arith)
 responds status NotBuilt P same (inl none) holds = absurd (omega arith)
 responds status NotBuilt P same (inr one) holds = absurd (omega arith)

@@ -1,5 +1,5 @@
 -- What the bytes of a bench give to a command: the text that it writes, and the record of the polls that were made for it.
-use Rattle.std.specs.Prelude.{◌≡◌, ℕ, List, [], ◌++◌, Option, Some, None, if◌then◌else◌, MatchOption}
+use Rattle.std.specs.Prelude.{◌≡◌, ◌⊎◌, ℕ, List, [], ◌++◌, Option, Some, None, if◌then◌else◌, MatchOption}
 use Rattle.std.specs.Str.{is_utf8}
 use Rattle.serde_json.specs.Data.{Data}
 use Rattle.serde_json.specs.Read.{read}
@@ -10,11 +10,12 @@ use Rattle.gql_form.specs.declared.bench_form.BenchForm.{BenchForm}
 use Rattle.gql_cli.specs.BenchAnswers.{bench_answers}
 use Rattle.gql_cli.specs.BenchRecord.{BenchTask, IsQueryRecord, bench_task, first_task, record_lines}
 use Rattle.gql_cli.specs.FirstBench.{IsFirstBench}
+use Rattle.gql_cli.specs.SchemaFault.{HasSoundTypes, IsRefusedBy, schema_line}
 use Rattle.gql_cli.specs.Shape.{IsBadShape, IsReadAs}
 use Rattle.gql_cli.specs.declared.bench.Command.{Command}
 use Rattle.gql_cli.specs.declared.bench.Command.TheVariants.{Execute, Record}
 use Rattle.gql_cli.specs.declared.bench.Written.{Written}
-use Rattle.gql_cli.specs.declared.bench.Written.TheVariants.{Answered, Refused, NotJson, BadShape, NotBuilt}
+use Rattle.gql_cli.specs.declared.bench.Written.TheVariants.{Answered, Refused, NotJson, BadShape, BadSchema, NotBuilt}
 use Rattle.gql_cli.specs.declared.first_bench.FirstBench.{FirstBench}
 use Rattle.gql_cli.specs.declared.tables.Bench.{Bench}
 
@@ -55,18 +56,29 @@ QueryGives command request NotBuilt entries =
     ((text : List ℕ) → IsAnswerOf request.answers request.query text → ⊥) × ((text : List ℕ) → IsRefusalOf request.query text → ⊥)
 QueryGives command request NotJson entries = ⊥
 QueryGives command request (BadShape line) entries = ⊥
+QueryGives command request (BadSchema line) entries = ⊥
 
 -- no text is the answer of a bench
 abbrev pub HasNoAnswer : BenchForm → Type 0
 HasNoAnswer form = ((text : List ℕ) → IsAnswer form text → ⊥) × ((text : List ℕ) → IsRefusal form text → ⊥)
 
--- what a bench gives to a command
+-- the table of a bench's types is refused, and the line that tells why is written
+abbrev pub IsBadSchema : BenchForm → Written → Type 0
+IsBadSchema form written = (text : List ℕ) × IsRefusedBy form text × (written ≡ BadSchema (schema_line text))
+
+-- what a bench gives to a command where its types are sound
+abbrev pub SoundGives : Command → BenchForm → Written → List RecordEntry → Type 0
+SoundGives command form (Answered text) entries = (first : FirstBench) × IsFirstBench form first × IsAnswered command (first_request first) text entries
+SoundGives command form (Refused text) entries = IsRefusal form text × (entries ≡ [])
+SoundGives command form NotBuilt entries = HasNoAnswer form
+SoundGives command form NotJson entries = ⊥
+SoundGives command form (BadShape line) entries = ⊥
+SoundGives command form (BadSchema line) entries = ⊥
+
+-- what a bench gives to a command: the line of its schema's first refusal, or what it gives over sound types
 abbrev pub BenchGives : Command → BenchForm → Written → List RecordEntry → Type 0
-BenchGives command form (Answered text) entries = (first : FirstBench) × IsFirstBench form first × IsAnswered command (first_request first) text entries
-BenchGives command form (Refused text) entries = IsRefusal form text × (entries ≡ [])
-BenchGives command form NotBuilt entries = HasNoAnswer form
-BenchGives command form NotJson entries = ⊥
-BenchGives command form (BadShape line) entries = ⊥
+BenchGives command form written entries =
+    IsBadSchema form written ⊎ (HasSoundTypes form × SoundGives command form written entries)
 
 -- what a JSON value gives to a command: the line of its first bad place, or what it gives as a bench
 abbrev pub JsonGives : Command → Data → Written → List RecordEntry → Type 0
@@ -84,6 +96,7 @@ IfResponse (Answered text) P = P
 IfResponse (Refused text) P = P
 IfResponse NotJson P = Unit {0}
 IfResponse (BadShape line) P = Unit {0}
+IfResponse (BadSchema line) P = Unit {0}
 IfResponse NotBuilt P = Unit {0}
 
 -- this text is given with some record, and where it is a response, that record was told
@@ -100,4 +113,5 @@ behind lines (Answered text) = Answered (lines ++ text)
 behind lines (Refused text) = Refused text
 behind lines NotJson = NotJson
 behind lines (BadShape line) = BadShape line
+behind lines (BadSchema line) = BadSchema line
 behind lines NotBuilt = NotBuilt

@@ -8,7 +8,9 @@ use Rattle.gql_resolve.specs.declared.answer.Answer.{Answer}
 use Rattle.gql_resolve.specs.declared.record_entry.RecordEntry.{RecordEntry}
 use Rattle.gql_schema.specs.Table.{types_of}
 use Rattle.gql_schema.specs.declared.object.Object.{Object}
+use Rattle.gql_bench.specs.SchemaTable.{whole_table}
 use Rattle.gql_cli.specs.FirstBench.{IsFirstBench, AreTaken}
+use Rattle.gql_cli.specs.SchemaFault.{HasSoundTypes}
 use Rattle.gql_cli.specs.Table.{rule_answer, table_delay}
 use Rattle.gql_cli.specs.Tables.{root_constant, object_under, IsTableOf}
 use Rattle.gql_cli.specs.declared.first_bench.FirstBench.{FirstBench}
@@ -19,11 +21,13 @@ use Rattle.gql_cli.specs.declared.tables.Bench.{Bench}
 abbrev pub bench_answers : Bench → List ℕ → Option Value
 bench_answers bench name = root_constant bench.types bench.query bench.rules name
 
--- the bench with tables: its tables, its cells and its turns are those of a first bench, and its request is the first
--- bench's query
+-- the bench with tables: its types are the whole table of the schema, in which no rule is broken; its rules, its cells and its
+-- turns are those of a first bench, and its request is the first bench's query
 pub record IsBenchOf (form : BenchForm) (bench : Bench) : Type 0 where
   pub first : FirstBench
   pub is : IsFirstBench form first
+  pub types : types_of bench.types ≡ whole_table form.setup.schema
+  pub sound : HasSoundTypes form
   pub request : bench.request ≡ first.query
   pub tabled : IsTableOf first bench
 

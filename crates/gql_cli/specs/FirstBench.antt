@@ -7,7 +7,6 @@ use Rattle.gql_base.specs.declared.type_ref.TypeRef.{TypeRef, out-TypeRef}
 use Rattle.gql_base.specs.declared.type_ref.TypeRef.TheOpen.{TypeRef-F}
 use Rattle.gql_base.specs.declared.value.Value.{Value}
 use Rattle.gql_base.specs.Kinds.{is_null}
-use Rattle.gql_base.specs.Pairs.{HasDistinctNames}
 use Rattle.gql_engine.specs.Completion.{takes}
 use Rattle.gql_form.specs.declared.answer_form.AnswerForm.{AnswerForm}
 use Rattle.gql_form.specs.declared.answered.Answered.{Answered, out-Answered}
@@ -30,6 +29,7 @@ use Rattle.gql_form.specs.Read.{the_only}
 use Rattle.gql_request.specs.declared.query_env.IntrospectionMode.{IntrospectionMode}
 use Rattle.gql_request.specs.declared.query_env.IntrospectionMode.TheVariants as introspection
 use Rattle.gql_request.specs.declared.request.Request.{Request}
+use Rattle.gql_schema.specs.Finished.{is_built_in}
 use Rattle.gql_cli.specs.declared.first_bench.FirstField.{FirstField}
 use Rattle.gql_cli.specs.declared.first_bench.FirstBench.{FirstBench}
 
@@ -110,9 +110,10 @@ are_bare_settings settings =
     (is_none settings.depth && is_none settings.directives)
     && (is_enabled settings.introspection && (not settings.federation && not settings.entities))
 
--- no root but that of queries
+-- no root but that of queries, whose name isn't that of a scalar of every schema, which would take its place
 abbrev pub is_bare_schema : SchemaForm → Bool
-is_bare_schema schema = (is_none schema.mutation && is_none schema.subscription) && are_bare_settings schema.settings
+is_bare_schema schema =
+    (is_none schema.mutation && is_none schema.subscription) && (not (is_built_in schema.query) && are_bare_settings schema.settings)
 
 abbrev pub is_unlogged : HooksForm → Bool
 is_unlogged hooks.None = true
@@ -152,9 +153,9 @@ first_in form = if is_bare_setup form.setup then option_and_then (first_over for
 abbrev pub constants : List FirstField → List (List ℕ × Value)
 constants fields = map (λ field. (field.name, field.constant)) fields
 
--- a bench is this first bench, whose fields have names that differ
+-- a bench is this first bench
 abbrev pub IsFirstBench : BenchForm → FirstBench → Type 0
-IsFirstBench form first = (first_in form ≡ Some first) × HasDistinctNames (constants first.fields)
+IsFirstBench form first = first_in form ≡ Some first
 
 -- a bench is no first bench
 abbrev pub IsNoFirstBench : BenchForm → Type 0

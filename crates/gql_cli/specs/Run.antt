@@ -6,7 +6,7 @@ use Rattle.gql_io.specs.Reading.{IsInput, IsTooLong, HasFailed}
 use Rattle.gql_cli.specs.declared.bench.Command.{Command}
 use Rattle.gql_cli.specs.declared.bench.Command.TheVariants.{Execute, Record}
 use Rattle.gql_cli.specs.declared.bench.Written.{Written}
-use Rattle.gql_cli.specs.declared.bench.Written.TheVariants.{Answered, Refused, NotJson, BadShape, NotBuilt}
+use Rattle.gql_cli.specs.declared.bench.Written.TheVariants.{Answered, Refused, NotJson, BadShape, BadSchema, NotBuilt}
 use Rattle.gql_cli.specs.declared.outcome.Outcome.{Outcome}
 use Rattle.gql_cli.specs.declared.outcome.Outcome.TheVariants.{Usage, ReadFault, TooLong, Bench}
 
@@ -30,6 +30,7 @@ due_status (Bench (Answered text)) = 0
 due_status (Bench (Refused text)) = 1
 due_status (Bench NotJson) = 3
 due_status (Bench (BadShape line)) = 3
+due_status (Bench (BadSchema line)) = 3
 due_status (Bench NotBuilt) = 3
 
 abbrev pub due_text : Outcome → List ℕ
@@ -40,6 +41,7 @@ due_text (Bench (Answered text)) = text
 due_text (Bench (Refused text)) = text
 due_text (Bench NotJson) = line (codes "bench: not JSON")
 due_text (Bench (BadShape text)) = text
+due_text (Bench (BadSchema text)) = text
 due_text (Bench NotBuilt) = line (codes "bench: not built yet")
 
 -- The words are those of a command, the whole input was read, and this is what it gives to the command as a bench. Where that

@@ -7,6 +7,7 @@ use Rattle.gql_form.specs.declared.command.Command.{Command as FormCommand}
 use Rattle.gql_form.specs.declared.command.Command.TheVariants as commands
 use Rattle.gql_cli.specs.BenchAnswers.{IsBenchOf}
 use Rattle.gql_cli.specs.FirstBench.{IsNoFirstBench}
+use Rattle.gql_cli.specs.SchemaFault.{HasSoundTypes, IsRefusedBy}
 use Rattle.gql_cli.specs.declared.bench.Command.{Command}
 use Rattle.gql_cli.specs.declared.bench.Command.TheVariants.{Execute, Record}
 use Rattle.gql_cli.specs.declared.bench.Found.{Found}
@@ -38,18 +39,28 @@ IsBadShape command json line = (place : List ℕ) × IsBadAt command json place 
 abbrev pub HasTables : Command → Data → Bench → Type 0
 HasTables command json bench = (form : BenchForm) × IsReadAs command json form × IsBenchOf form bench
 
--- the JSON value is a bench of a form that isn't built
+-- the JSON value is a bench whose schema is refused, and this text says why
+abbrev pub IsRefusedAs : Command → Data → List ℕ → Type 0
+IsRefusedAs command json text = (form : BenchForm) × IsReadAs command json form × IsRefusedBy form text
+
+-- a bench with sound types is of a form that isn't built
+abbrev pub IsUnbuilt : BenchForm → Type 0
+IsUnbuilt form = HasSoundTypes form × IsNoFirstBench form
+
+-- the JSON value is such a bench
 abbrev pub IsNotBuilt : Command → Data → Type 0
-IsNotBuilt command json = (form : BenchForm) × IsReadAs command json form × IsNoFirstBench form
+IsNotBuilt command json = (form : BenchForm) × IsReadAs command json form × IsUnbuilt form
 
 -- what a bench is found to be
 abbrev pub IsFoundOf : BenchForm → Found → Type 0
 IsFoundOf form (found.Bench bench) = IsBenchOf form bench
 IsFoundOf form (found.BadAt place) = ⊥
-IsFoundOf form found.NotBuilt = IsNoFirstBench form
+IsFoundOf form (found.BadSchema text) = IsRefusedBy form text
+IsFoundOf form found.NotBuilt = IsUnbuilt form
 
 -- what is found in a JSON value
 abbrev pub IsFound : Command → Data → Found → Type 0
 IsFound command json (found.Bench bench) = HasTables command json bench
 IsFound command json (found.BadAt place) = IsBadAt command json place
+IsFound command json (found.BadSchema text) = IsRefusedAs command json text
 IsFound command json found.NotBuilt = IsNotBuilt command json

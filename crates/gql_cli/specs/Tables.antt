@@ -1,11 +1,11 @@
 -- A bench's tables: its types, and the rules of its resolvers by their numbers.
-use Rattle.std.specs.Prelude.{◌≡◌, ℕ, suc, List, [], ◌∷◌, ◌++◌, map, IsSome, Option, Some, None, option_map, option_and_then, slice_get}
+use Rattle.std.specs.Prelude.{◌≡◌, ℕ, suc, List, [], ◌∷◌, map, Option, Some, None, option_map, option_and_then, slice_get}
 use Rattle.gql_base.specs.Pairs.{under}
 use Rattle.gql_base.specs.declared.type_ref.TypeRef.{TypeRef}
 use Rattle.gql_base.specs.declared.type_ref.TypeRef.TheVariants.{Named}
 use Rattle.gql_base.specs.declared.value.Value.{Value}
 use Rattle.gql_schema.specs.Field.{field_type, resolver_of}
-use Rattle.gql_schema.specs.Object.{object_name, fields_of}
+use Rattle.gql_schema.specs.Object.{fields_of}
 use Rattle.gql_schema.specs.Table.{types_of}
 use Rattle.gql_schema.specs.declared.field.Field.{Field}
 use Rattle.gql_schema.specs.declared.object.Object.{Object}
@@ -62,18 +62,20 @@ pub record IsTabled (object : Object) (rules : List Rule) (fields : List FirstFi
   pub shown : map entry_of (fields_of object) ≡ entries 0 fields
   pub ruled : rules ≡ map rule_of fields
 
--- A field is added to tables, whatever they have so far: they have it behind the others, unless its name is there.
-abbrev pub AddsField : Object → List Rule → FirstField → Option (Object × List Rule) → Type 0
-AddsField object rules field None = IsSome (under field.name (fields_of object))
-AddsField object rules field (Some t) =
-    (under field.name (fields_of object) ≡ None) × (object_name t.0 ≡ object_name object)
-    × ((fields : List FirstField) → IsTabled object rules fields → IsTabled t.0 t.1 (fields ++ field ∷ []))
+-- a bench is made of a first bench over these types: it has no cells
+pub record IsMadeOf (first : FirstBench) (table : Types) (bench : Bench) : Type 0 where
+  pub types : bench.types ≡ table
+  pub root : bench.query ≡ first.root
+  pub rules : bench.rules ≡ map rule_of first.fields
+  pub cells : bench.cells ≡ []
+  pub turns : bench.turns ≡ first.turns
+  pub request : bench.request ≡ first.query
 
--- a bench has the tables of a first bench, no cells, and the first bench's turns
+-- a bench has the tables of a first bench, whose root is an object of its types, no cells, and the first bench's turns
 pub record IsTableOf (first : FirstBench) (bench : Bench) : Type 0 where
   pub object : Object
   pub root : bench.query ≡ first.root
-  pub types : types_of bench.types ≡ (first.root, types.Object object) ∷ []
+  pub found : object_under first.root (types_of bench.types) ≡ Some object
   pub tabled : IsTabled object bench.rules first.fields
   pub cells : bench.cells ≡ []
   pub turns : bench.turns ≡ first.turns

@@ -1,10 +1,13 @@
 //! From the bytes of a bench to the text that is written.
-ghost use Rattle.std.specs.Prelude.{◌≡◌, ◌⊎◌, Some, IfOk, MatchOption, MatchResult, codes, option_map};
+ghost use Rattle.std.specs.Prelude.{◌≡◌, ◌⊎◌, Some, IfOk, MatchResult, codes, option_map};
 ghost use Rattle.serde_json.specs.View.{view};
+ghost use Rattle.gql_bench.specs.SchemaTable.{full_table, whole_table};
+ghost use Rattle.gql_schema.specs.Finished.{KeepsOthers};
+ghost use Rattle.gql_schema.specs.Table.{types_of};
 ghost use Rattle.gql_cli.specs.Bench.{json_of, bench_request, behind, lines_for, JsonGives, QueryGives, Gives, HoldsTold, WithRecord};
-ghost use Rattle.gql_cli.specs.BenchAnswers.{IsBenchOf, IsSuited, IsSetOf};
-ghost use Rattle.gql_cli.specs.FirstBench.{IsNoFirstBench};
-ghost use Rattle.gql_cli.specs.Shape.{form_command, shape_line, HasTables, IsBadAt, IsFound, IsFoundOf, IsNotBuilt};
+ghost use Rattle.gql_cli.specs.BenchAnswers.{IsSuited, IsSetOf};
+ghost use Rattle.gql_cli.specs.SchemaFault.{schema_line, HasSoundTypes};
+ghost use Rattle.gql_cli.specs.Shape.{form_command, shape_line, HasTables, IsBadAt, IsFound, IsFoundOf, IsNotBuilt, IsRefusedAs};
 
 use crate::answer::{refusal_of, response_of};
 use crate::first_bench::first_of;
@@ -12,9 +15,11 @@ use crate::record_text::text_behind;
 use crate::table_maker::Tables;
 use crate::tables::{Bench, bench_of_first};
 use gql_base::{Made, Text};
+use gql_bench::schema_types;
 use gql_doc::parse_query;
 use gql_form::{BenchForm, Command as FormCommand, form_of};
 use gql_resolve::{RecordEntry, ResolverSet};
+use gql_schema::Types;
 use serde_json::Value;
 use std::alloc::{AllocError, Global};
 
@@ -29,6 +34,8 @@ pub enum Written {
     NotJson,
     /// The line that tells the first bad place of JSON that is no bench.
     BadShape(Text),
+    /// The line that tells why the table of the bench's types is refused.
+    BadSchema(Text),
     /// The bench isn't of the forms that are built.
     NotBuilt,
 }
@@ -40,6 +47,8 @@ enum Found {
     Bench(Bench),
     /// The first bad place of JSON that is no bench.
     BadAt(Text),
+    /// Why the table of the bench's types is refused.
+    BadSchema(Text),
     /// A bench of a form that isn't built.
     NotBuilt,
 }
@@ -106,6 +115,7 @@ fn bench_text<M: Tables>(
     match found {
         Found::Bench(bench) => query_text(alloc, command, &bench, tables),
         Found::BadAt(place) => Ok(Written::BadShape(bad_shape_line(alloc, &place)?)),
+        Found::BadSchema(text) => Ok(Written::BadSchema(bad_schema_line(alloc, &text)?)),
         Found::NotBuilt => Ok(Written::NotBuilt),
     }
 }
@@ -116,6 +126,16 @@ fn bad_shape_line(alloc: Global, place: &Text) -> Made<Text>
 {
     let mut out = String::from_str(alloc, "bench: bad shape at ")?;
     out.push_str(place.as_str())?;
+    out.push_str("\n")?;
+    Ok(Text::from_string(out))
+}
+
+/// The line that tells why a schema is refused.
+fn bad_schema_line(alloc: Global, text: &Text) -> Made<Text>
+    ensures { IfOk result (λ line. line ≡ schema_line text.now) }
+{
+    let mut out = String::from_str(alloc, "schema: ")?;
+    out.push_str(text.as_str())?;
     out.push_str("\n")?;
     Ok(Text::from_string(out))
 }
@@ -175,17 +195,18 @@ fn with_lines(
     }
 }
 
-/// The bench of a JSON value for a command, or the text of its first bad place, or `not built yet` where it is a bench of a form
-/// that isn't built.
+/// The bench of a JSON value for a command. Else the text of its first bad place; or of its schema's first refusal; or `not built
+/// yet`, where it is a bench of a form that isn't built.
 pub fn bench_of(alloc: Global, command: Command, json: &Value) -> Made<Result<Bench, Text>>
     ensures { IfOk result (λ made. MatchResult made
         (HasTables command (view json.now))
-        (λ text. IsBadAt command (view json.now) text
+        (λ text. IsBadAt command (view json.now) text ⊎ IsRefusedAs command (view json.now) text
         ⊎ (IsNotBuilt command (view json.now) × (text ≡ codes "not built yet")))) }
 {
     match find_bench(alloc, command, json)? {
         Found::Bench(bench) => Ok(Ok(bench)),
         Found::BadAt(place) => Ok(Err(place)),
+        Found::BadSchema(text) => Ok(Err(text)),
         Found::NotBuilt => Ok(Err(Text::new(alloc, "not built yet")?)),
     }
 }
@@ -200,7 +221,7 @@ fn find_bench(alloc: Global, command: Command, json: &Value) -> Made<Found>
     }
 }
 
-/// What a bench is found to be. It is let go of once its tables are made.
+/// What a bench is found to be: its schema is checked first. It is let go of once its tables are made.
 fn found_of(alloc: Global, form: BenchForm) -> Made<Found>
     ensures { IfOk result (IsFoundOf form) }
 {
@@ -212,18 +233,22 @@ fn found_of(alloc: Global, form: BenchForm) -> Made<Found>
 fn found_in(alloc: Global, form: &BenchForm) -> Made<Found>
     ensures { IfOk result (IsFoundOf form.now) }
 {
-    match tables_of_form(alloc, form)? {
-        Some(bench) => Ok(Found::Bench(bench)),
-        None => Ok(Found::NotBuilt),
+    match schema_types(alloc, &form.setup.schema)? {
+        Ok(types) => found_over(alloc, form, types),
+        Err(error) => Ok(Found::BadSchema(error.text)),
     }
 }
 
-/// The tables of a bench, where it is a first bench.
-fn tables_of_form(alloc: Global, form: &BenchForm) -> Made<Option<Bench>>
-    ensures { IfOk result (λ made. MatchOption made (IsNoFirstBench form.now) (IsBenchOf form.now)) }
+/// What a bench is found to be whose types these are.
+fn found_over(alloc: Global, form: &BenchForm, types: Types) -> Made<Found>
+    requires table { types_of types ≡ whole_table form.now.setup.schema }
+    requires sound { HasSoundTypes form.now }
+    requires kept { KeepsOthers (full_table form.now.setup.schema) (types_of types) }
+    ensures { IfOk result (IsFoundOf form.now) }
 {
-    let Some(first) = first_of(alloc, form)? else {
-        return Ok(None);
-    };
-    bench_of_first(alloc, first)
+    match first_of(alloc, form) {
+        Ok(Some(first)) => Ok(Found::Bench(bench_of_first(alloc, first, types)?)),
+        Ok(None) => Ok(Found::NotBuilt),
+        Err(want) => Err(want),
+    }
 }

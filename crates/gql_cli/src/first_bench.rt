@@ -4,6 +4,7 @@ ghost use Rattle.std.specs.Option.{option_copied};
 ghost use Rattle.gql_base.specs.Kinds.{is_null};
 ghost use Rattle.gql_base.specs.declared.type_ref.TypeRef.{out-TypeRef};
 ghost use Rattle.gql_form.specs.Read.{the_only};
+ghost use Rattle.gql_schema.specs.Finished.{is_built_in};
 ghost use Rattle.gql_cli.specs.FirstBench.{answer_constant, are_bare_settings, bare_name_here, first_field, first_fields, first_in, first_over, is_bare_schema, is_bare_setup, is_enabled, is_first_type, is_nothing, is_null_value, is_unlogged, object_fields, object_form, plain_value, query_alone, query_of, root_fields, rule_constant, takes_constant};
 
 use gql_base::{Copied, Items, Made, Name, Pairs, Text, TypeRef, Value};
@@ -105,11 +106,19 @@ fn is_unlogged(hooks: HooksForm) -> bool
     }
 }
 
-/// Whether a schema has no root but that of queries, and no settings.
+/// Whether a schema has no root but that of queries, whose name isn't that of a scalar of every schema, and no settings.
 fn is_bare_schema(schema: &SchemaForm) -> bool
     ensures { result ≡ is_bare_schema schema.now }
 {
-    schema.mutation.is_none() && schema.subscription.is_none() && are_bare_settings(schema.settings)
+    schema.mutation.is_none()
+        && schema.subscription.is_none()
+        && (!is_built_in(schema.query.as_str()) && are_bare_settings(schema.settings))
+}
+
+fn is_built_in(name: &str) -> bool
+    ensures { result ≡ is_built_in name.now }
+{
+    name == "Int" || name == "String" || name == "Boolean" || name == "ID"
 }
 
 fn are_bare_settings(settings: Settings) -> bool

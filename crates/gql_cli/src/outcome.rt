@@ -38,9 +38,9 @@ impl Outcome {
             Outcome::TooLong => Status::TooLong,
             Outcome::Bench(Written::Answered(_)) => Status::Done,
             Outcome::Bench(Written::Refused(_)) => Status::HasErrors,
-            Outcome::Bench(Written::NotJson | Written::BadShape(_) | Written::NotBuilt) => {
-                Status::Refused
-            }
+            Outcome::Bench(
+                Written::NotJson | Written::BadShape(_) | Written::BadSchema(_) | Written::NotBuilt,
+            ) => Status::Refused,
         }
     }
 
@@ -55,7 +55,7 @@ impl Outcome {
             Outcome::ReadFault => "input: read fault\n",
             Outcome::TooLong => "input: too long\n",
             Outcome::Bench(Written::Answered(text) | Written::Refused(text)) => text.as_str(),
-            Outcome::Bench(Written::BadShape(line)) => line.as_str(),
+            Outcome::Bench(Written::BadShape(line) | Written::BadSchema(line)) => line.as_str(),
             Outcome::Bench(Written::NotJson) => "bench: not JSON\n",
             Outcome::Bench(Written::NotBuilt) => "bench: not built yet\n",
         }

@@ -6,6 +6,8 @@ mod record_tests;
 #[cfg(test)]
 mod runs;
 #[cfg(test)]
+mod schema_tests;
+#[cfg(test)]
 mod shape_tests;
 mod shared;
 #[cfg(test)]

@@ -101,7 +101,10 @@ fn what_is_not_built_is_told(rt: HostRuntime) -> Result<(), Fail> {
         ("schema", ",\"federation\":true"),
         ("schema", ",\"entities\":true"),
         ("schema", ",\"query\":\"P\""),
-        ("object", ",\"implements\":[\"I\"]"),
+        (
+            "object",
+            ",\"implements\":[\"I\"]},{\"kind\":\"interface\",\"name\":\"I\",\"fields\":[]",
+        ),
         ("object", ",\"key\":\"a\""),
         ("object", "},{\"kind\":\"scalar\",\"name\":\"S\""),
         ("field", "\"type\":\"Int!\",\"answer\":{\"const\":1}"),

@@ -1,6 +1,6 @@
 use Rattle.std.proofs.Common.{[]}
 use Rattle.serde_json.specs.View.{view}
-use Rattle.gql_cli.proofs.BenchLemmas.{made-gives, no-bench, suited}
+use Rattle.gql_cli.proofs.BenchLemmas.{bad-schema, made-gives, no-bench, suited}
 use Rattle.gql_cli.proofs.bench.bench_text.Goals as goal
 
 pub returns-in-Bench : goal.returns-in-Bench
@@ -16,3 +16,11 @@ returns-in-NotBuilt g c = ([], no-bench c.args.command (view c.args.json) (rw c.
 pub returns-in_ok-bad_shape_line-in-BadAt : goal.returns-in_ok-bad_shape_line-in-BadAt
 returns-in_ok-bad_shape_line-in-BadAt g c =
     ([], (c.in-BadAt.place, rw c.in-BadAt.is at c.in_ok-found.ensures, c.in_ok-bad_shape_line-in-BadAt.ensures), tt)
+
+pub returns-in_ok-bad_schema_line-in-BadSchema : goal.returns-in_ok-bad_schema_line-in-BadSchema
+returns-in_ok-bad_schema_line-in-BadSchema g c = (
+  [],
+  bad-schema c.args.command (view c.args.json) c.in-BadSchema.text _ (rw c.in-BadSchema.is at c.in_ok-found.ensures)
+      c.in_ok-bad_schema_line-in-BadSchema.ensures,
+  tt,
+)

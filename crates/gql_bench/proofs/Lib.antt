@@ -1,0 +1,2 @@
+mod FreshLemmas
+pub mod RefusalLemmas

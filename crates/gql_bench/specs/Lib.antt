@@ -1,0 +1,3 @@
+pub mod FieldTable
+pub mod TypeTable
+pub mod SchemaTable
