@@ -73,17 +73,17 @@ module _ (table : TypeTable) (bearing : Bearing) where
       ≡ told_of_given table bearing before (take i arguments)
       ++ told_of_argument table bearing (before ++ map argument_name (take i arguments)) argument
   given-more before [] i argument at = cc
-  given-more before (a ∷ as) zero argument at =
+  given-more before (a ∷ rest) zero argument at =
       let same : a ≡ argument = cc in
       append-nil (told_of_argument table bearing before a)
       ∙ (λ j. told_of_argument table bearing (sym (append-nil before) j) (same j))
-  given-more before (a ∷ as) (suc i) argument at =
+  given-more before (a ∷ rest) (suc i) argument at =
       ap (λ bs. told_of_argument table bearing before a ++ bs)
-      (given-more (before ++ argument_name a ∷ []) as i argument at
-      ∙ ap (λ ns. told_of_given table bearing (before ++ argument_name a ∷ []) (take i as) ++ told_of_argument table bearing ns argument)
-      (append_assoc before (argument_name a ∷ []) (map argument_name (take i as))))
-      ∙ sym (append_assoc (told_of_argument table bearing before a) (told_of_given table bearing (before ++ argument_name a ∷ []) (take i as))
-      (told_of_argument table bearing (before ++ argument_name a ∷ map argument_name (take i as)) argument))
+      (given-more (before ++ argument_name a ∷ []) rest i argument at
+      ∙ ap (λ ns. told_of_given table bearing (before ++ argument_name a ∷ []) (take i rest) ++ told_of_argument table bearing ns argument)
+      (append_assoc before (argument_name a ∷ []) (map argument_name (take i rest))))
+      ∙ sym (append_assoc (told_of_argument table bearing before a) (told_of_given table bearing (before ++ argument_name a ∷ []) (take i rest))
+      (told_of_argument table bearing (before ++ argument_name a ∷ map argument_name (take i rest)) argument))
 
   -- what is told of an argument behind names that were kept
   told-kept : (names kept : List (List ℕ)) (argument : Argument) → AreNames names kept

@@ -1,3 +1,4 @@
+pub mod AllLemmas
 pub mod ArgumentLemmas
 pub mod BreachLemmas
 pub mod ChoiceLemmas

@@ -173,7 +173,6 @@ fn reason(alloc: Global, value: &DocValue, ty: &TypeRef, types: &Types) -> Made<
 }
 
 /// Tells of each argument that is wanting.
-#[tactic(auto, using(crate::proofs::ToldLemmas::flat_step))]
 fn tell_missing(
     alloc: Global,
     bearing: &Bearing<'_>,

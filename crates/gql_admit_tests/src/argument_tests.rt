@@ -24,7 +24,7 @@ const ARGUMENTS: [(&str, &str); 12] = [
         "Directive \"x\" is not known here. 1:13; ",
     ),
     (
-        "{ add(a: $v) value @skip(if: $v) }",
+        "query($v: Int! = 1, $w: Boolean! = true) { add(a: $v) value @skip(if: $w) }",
         "",
     ),
     (
@@ -70,7 +70,7 @@ const VALUES: [(&str, &str); 13] = [
     ),
     (
         "{ add(a: null, a: \"s\", b: null) }",
-        "Invalid value for argument \"a\", expected type \"Int!\" 1:7; Argument \"a\" is given twice. 1:16; Invalid value for argument \"a\", expected type \"Int!\" 1:16; ",
+        "Invalid value for argument \"a\", expected type \"Int!\" 1:7; Argument \"a\" is given twice. 1:16; Invalid value for argument \"a\", expected type \"Int!\" 1:16; Invalid value for argument \"b\", expected type \"Int!\" 1:24; ",
     ),
     (
         "{ add(a: 2147483648) x: add(a: 2147483647) }",
@@ -93,7 +93,7 @@ const VALUES: [(&str, &str); 13] = [
         "Invalid value for argument \"in\", expected type \"In\" 1:8; ",
     ),
     (
-        "{ find(in: {a: $v, b: $v}) { __typename } x: find(in: {a: 1, b: 2}) { __typename } }",
+        "query($v: Int! = 1, $w: [Int]) { find(in: {a: $v, b: $w}) { __typename } x: find(in: {a: 1, b: 2}) { __typename } }",
         "",
     ),
     (
@@ -101,8 +101,8 @@ const VALUES: [(&str, &str); 13] = [
         "Invalid value for argument \"one\", Oneof input objects requires have exactly one field 1:8; Invalid value for argument \"one\", Oneof input objects requires have exactly one field 1:40; Invalid value for argument \"one\", expected type \"One\" 1:84; ",
     ),
     (
-        "{ find(one: {a: 1}) { __typename } x: find(one: {b: $v}) { __typename } y: find(one: {a: null}) { __typename } z: find(one: 1) { __typename } }",
-        "Invalid value for argument \"one\", expected type \"One\" 1:81; Invalid value for argument \"one\", expected type \"One\" 1:120; ",
+        "query($v: String) { find(one: {a: 1}) { __typename } x: find(one: {b: $v}) { __typename } y: find(one: {a: null}) { __typename } z: find(one: 1) { __typename } }",
+        "Invalid value for argument \"one\", expected type \"One\" 1:99; Invalid value for argument \"one\", expected type \"One\" 1:138; ",
     ),
     (
         "{ find(e: RED) { __typename } x: find(e: \"RED\") { __typename } y: find(e: BLUE) { __typename } }",
