@@ -90,17 +90,17 @@ directive_bearing built directive = record {
   declared = built.condition;
 }
 
-module _ (built : BuiltIn) (site : Site) where
-  -- a known field has a set or has none, and its arguments
-  abbrev pub told_of_known : FieldPlace → Declared → List Breach
-  told_of_known field declared =
-      told_of_set field declared.ty (is_leaf_named site (innermost declared.ty)) field.has_set
-      ++ told_of_arguments (table_of site) (field_bearing field declared) field.arguments
+-- a known field has a set or has none, and its arguments
+abbrev pub told_of_known : Site → FieldPlace → Declared → List Breach
+told_of_known site field declared =
+    told_of_set field declared.ty (is_leaf_named site (innermost declared.ty)) field.has_set
+    ++ told_of_arguments (table_of site) (field_bearing field declared) field.arguments
 
+module _ (built : BuiltIn) (site : Site) where
   -- a field is one of its type's
   abbrev pub told_of_field : FieldPlace → Option Declared → List Breach
   told_of_field field None = unknown_field field ∷ []
-  told_of_field field (Some declared) = told_of_known field declared
+  told_of_field field (Some declared) = told_of_known site field declared
 
   -- a directive is known where it stands, and has its arguments
   abbrev pub told_of_directive : (selects : Bool) → Positioned Directive → List Breach
