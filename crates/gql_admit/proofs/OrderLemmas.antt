@@ -1,5 +1,5 @@
 -- The order of breaches is total, and breaches that tie are the same.
-use Rattle.std.proofs.Common.{◌≡◌, Less, Equal, Greater, arith, ℕ, zero, suc, true, List, [], ◌∷◌, refl, ap, sym, ◌∙◌}
+use Rattle.std.proofs.Common.{◌≡◌, Less, Equal, Greater, ℕ, zero, suc, true, List, [], ◌∷◌, refl, ap, sym, ◌∙◌}
 use Rattle.std.specs.declared.cmp.Ordering.{Ordering}
 use Rattle.std.specs.Ordering.{eq_by_cmp, is_eq, nat_cmp, ordering_then}
 use Rattle.std.proofs.lemmas.Cmp.{ranked, by_ranked}

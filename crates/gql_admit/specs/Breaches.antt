@@ -19,7 +19,6 @@ use Rattle.gql_admit.specs.BreachTexts.{composite_text, condition_text, leaf_tex
 use Rattle.gql_admit.specs.FieldTypes.{is_composite, is_leaf, known_field, table_of}
 use Rattle.gql_admit.specs.Places.{FieldPlace, Place, OnCondition, OnDirective, OnField, OnSpread}
 use Rattle.gql_admit.specs.declared.breach.Breach.{Breach}
-use Rattle.gql_admit.specs.declared.breach.BreachKind.{BreachKind}
 use Rattle.gql_admit.specs.declared.breach.BreachKind.TheVariants as kinds
 use Rattle.gql_admit.specs.declared.built_in.BuiltIn.{BuiltIn}
 use Rattle.gql_admit.specs.declared.site.Site.{Site}

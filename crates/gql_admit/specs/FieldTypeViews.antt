@@ -1,5 +1,4 @@
 -- What a known field has.
-use Rattle.std.specs.Prelude.{ℕ, Option, option_map}
 use Rattle.gql_base.specs.declared.type_ref.TypeRef.{TypeRef}
 use Rattle.gql_schema.specs.DeclaredField.{declared_behind}
 use Rattle.gql_schema.specs.TableReading.{Declared}

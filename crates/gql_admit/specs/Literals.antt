@@ -1,6 +1,6 @@
 -- Which values of a document fit a type of inputs: a variable fits each, and any other value by the rules for values (GraphQL, October
 -- 2021, section 5.6.1).
-use Rattle.std.specs.Prelude.{ℕ, Bool, true, false, ◌&&◌, List, [], ◌∷◌, map, Option, Some, None, if◌then◌else◌}
+use Rattle.std.specs.Prelude.{ℕ, Bool, true, false, ◌&&◌, List, [], ◌∷◌, map, Option, Some, if◌then◌else◌}
 use Rattle.std.specs.List.{list_all}
 use Rattle.gql_base.specs.Pairs.{under}
 use Rattle.gql_base.specs.TypeRef.{type_text}

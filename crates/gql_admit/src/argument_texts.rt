@@ -95,12 +95,7 @@ fn directive_message(alloc: Global, name: &str) -> Made<String>
 }
 
 #[tactic(auto, using(std::proofs::lemmas::List::append_assoc), unfolding(crate::specs::BreachTexts::unknown_of_field_text))]
-fn unknown_of_field_message(
-    alloc: Global,
-    name: &str,
-    field: &str,
-    parent: &str,
-) -> Made<String>
+fn unknown_of_field_message(alloc: Global, name: &str, field: &str, parent: &str) -> Made<String>
     ensures { IfOk result (λ text. string_bytes text ≡ unknown_of_field_text name.now field.now parent.now) }
 {
     format!(in alloc; "Unknown argument \"{name}\" on field \"{field}\" of type \"{parent}\".")

@@ -162,10 +162,7 @@ fn reason(alloc: Global, value: &DocValue, ty: &TypeRef, types: &Types) -> Made<
     ensures { IfOk result (λ text. text ≡ reason_text (types_of types.now) ty.now value.now) }
 {
     if wants_one(ty, types) && is_other_than_one(value) {
-        Text::new(
-            alloc,
-            "Oneof input objects requires have exactly one field",
-        )
+        Text::new(alloc, "Oneof input objects requires have exactly one field")
     } else {
         let text = ty.text(alloc)?;
         expected_type(alloc, text.as_str())

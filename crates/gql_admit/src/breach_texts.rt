@@ -64,7 +64,13 @@ pub fn circular_fragment(alloc: Global, pos: Pos, name: &str) -> Made<Breach>
 }
 
 /// A breach with a copy of the name.
-pub fn breach_of(alloc: Global, pos: Pos, kind: BreachKind, name: &str, text: String) -> Made<Breach>
+pub fn breach_of(
+    alloc: Global,
+    pos: Pos,
+    kind: BreachKind,
+    name: &str,
+    text: String,
+) -> Made<Breach>
     ensures { IfOk result (λ made. made ≡ breach pos kind name.now (string_bytes text)) }
 {
     let name = Text::new(alloc, name)?;

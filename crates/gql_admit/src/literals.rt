@@ -79,7 +79,8 @@ fn member_fits(value: &DocValue, declared: Option<&InputValue>, types: &Types) -
     ensures { result ≡ fits_field (types_of types.now) value.now (option_copied declared.entry) }
 {
     match declared {
-        Some(input) => stands_at_inputs(types, input.ty()) && literal_fits(value, input.ty(), types),
+        Some(input) => stands_at_inputs(types, input.ty())
+            && literal_fits(value, input.ty(), types),
         None => false,
     }
 }

@@ -32,11 +32,7 @@ pub fn check_rules(
     refused(alloc, breaches.as_slice())
 }
 
-fn against<'a>(
-    site: &'a Site<'a>,
-    doc: &'a ExecutableDocument,
-    built: &'a BuiltIn,
-) -> Against<'a>
+fn against<'a>(site: &'a Site<'a>, doc: &'a ExecutableDocument, built: &'a BuiltIn) -> Against<'a>
     ensures site { result.site.now ≡ site.now }
     ensures fragments { result.fragments.now ≡ doc.now.fragments }
     ensures built { result.built.now ≡ built.now }

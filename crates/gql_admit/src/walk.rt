@@ -93,8 +93,20 @@ fn walk_field(
 {
     let known = against.site.field_type(ty, field.node.name.node.as_str());
     tell_field(alloc, field, ty, &known, against, found)?;
-    tell_directives(alloc, field.node.directives.as_slice(), true, against, found)?;
-    walk_beneath(alloc, &field.node.selection_set.node, &known, against, found)
+    tell_directives(
+        alloc,
+        field.node.directives.as_slice(),
+        true,
+        against,
+        found,
+    )?;
+    walk_beneath(
+        alloc,
+        &field.node.selection_set.node,
+        &known,
+        against,
+        found,
+    )
 }
 
 /// Walks through the set of a field that is known.
@@ -128,7 +140,14 @@ fn walk_inline(
         ++ tells against.now (inline_places against.now.site.now inline.now ty.now)) }
 {
     tell_directives(alloc, inline.directives.as_slice(), true, against, found)?;
-    walk_under(alloc, &inline.selection_set.node, &inline.type_condition, ty, against, found)
+    walk_under(
+        alloc,
+        &inline.selection_set.node,
+        &inline.type_condition,
+        ty,
+        against,
+        found,
+    )
 }
 
 /// Walks through the set of a fragment in place, on the type around it or on that of its condition.
@@ -215,5 +234,11 @@ fn walk_spread(
     ensures { OnOk result (found.new ≡ found.old ++ tells against.now (spread_places spread.now)) }
 {
     tell_spread(alloc, spread, against, found)?;
-    tell_directives(alloc, spread.node.directives.as_slice(), true, against, found)
+    tell_directives(
+        alloc,
+        spread.node.directives.as_slice(),
+        true,
+        against,
+        found,
+    )
 }

@@ -84,8 +84,20 @@ fn walk_rooted(
 {
     let variables = operation.node.variable_definitions.as_slice();
     tell_on_variables(alloc, variables, against, found)?;
-    tell_directives(alloc, operation.node.directives.as_slice(), false, against, found)?;
-    walk_set(alloc, &operation.node.selection_set.node, ty, against, found)
+    tell_directives(
+        alloc,
+        operation.node.directives.as_slice(),
+        false,
+        against,
+        found,
+    )?;
+    walk_set(
+        alloc,
+        &operation.node.selection_set.node,
+        ty,
+        against,
+        found,
+    )
 }
 
 /// Tells of the directives of the definitions of variables.
@@ -98,7 +110,13 @@ fn tell_on_variables(
     ensures { OnOk result (found.new ≡ found.old ++ tells against.now (variable_places variables.now)) }
 {
     for variable in variables {
-        tell_directives(alloc, variable.node.directives.as_slice(), false, against, found)?;
+        tell_directives(
+            alloc,
+            variable.node.directives.as_slice(),
+            false,
+            against,
+            found,
+        )?;
     }
     Ok(())
 }
@@ -143,7 +161,13 @@ fn walk_inner(
     ensures { OnOk result (found.new ≡ found.old
         ++ tells against.now (inner_places against.now.site.now fragment.now)) }
 {
-    tell_directives(alloc, fragment.node.directives.as_slice(), false, against, found)?;
+    tell_directives(
+        alloc,
+        fragment.node.directives.as_slice(),
+        false,
+        against,
+        found,
+    )?;
     walk_named(
         alloc,
         &fragment.node.selection_set.node,
