@@ -7,6 +7,7 @@ use Rattle.gql_doc.specs.declared.document.ExecutableDocument.{ExecutableDocumen
 use Rattle.gql_admit.specs.Breaches.{told, told_at}
 use Rattle.gql_admit.specs.Circular.{Adds, IsCircular}
 use Rattle.gql_admit.specs.BreachOrder.{Lists}
+use Rattle.gql_admit.specs.BuiltIn.{built_in}
 use Rattle.gql_admit.specs.Places.{document_places}
 use Rattle.gql_admit.specs.RulesChecked.{IsBreach, at_place, circular, error_of, refused_with}
 use Rattle.gql_admit.specs.Walking.{tells}
@@ -54,19 +55,18 @@ module _ {A B : Type 0} (f : A → List B) where
 -- what is told of all places and of circular fragments, listed
 pub all_listed : (against : Against) (document : ExecutableDocument) (told_first found list : List Breach) → Lists (Contains found) list
     → told_first ≡ [] ++ tells against (document_places against.site.now document) → against.fragments.now ≡ document.fragments
-    → Adds (IsCircular document.fragments) told_first found
-    → Lists (IsBreach against.site.now document) list
-all_listed against document told_first found list lists is fragments adds =
+    → against.built.now ≡ built_in → Adds (IsCircular document.fragments) told_first found → Lists (IsBreach against.site.now document) list
+all_listed against document told_first found list lists is fragments built adds =
     let site = against.site.now in
     let places = document_places site document in
-    let first : told_first ≡ told site document.fragments places = is ∙ ap (λ f. told site f places) fragments in
+    let first : told_first ≡ told built_in site document.fragments places = is ∙ (λ i. told (built i) site (fragments i) places) in
     record {
       in_order = lists.in_order;
       exact = λ e. (
         λ h.
             elim (adds.only e ((lists.exact e).0 h)) [
               | inl at ↦
-                  let from = given_from (told_at site document.fragments) places e (subst (λ xs. Contains xs e) first at) in
+                  let from = given_from (told_at built_in site document.fragments) places e (subst (λ xs. Contains xs e) first at) in
                   at_place from.item from.there from.gives
               | inr is_circular ↦ circular is_circular
             ],
@@ -77,8 +77,8 @@ all_listed against document told_first found list lists is fragments adds =
     among : (e : Breach) → IsBreach against.site.now document e → Contains found e
     among e (at_place place stands breaks) =
         adds.kept e
-        (subst (λ xs. Contains xs e) (sym (is ∙ ap (λ f. told against.site.now f (document_places against.site.now document)) fragments))
-        (given_at (told_at against.site.now document.fragments) (document_places against.site.now document) place e stands breaks))
+        (subst (λ xs. Contains xs e) (sym (is ∙ (λ i. told (built i) against.site.now (fragments i) (document_places against.site.now document))))
+        (given_at (told_at built_in against.site.now document.fragments) (document_places against.site.now document) place e stands breaks))
     among e (circular is_circular) = adds.has e is_circular
 
 -- a list that isn't empty is refused with the errors of all

@@ -9,7 +9,7 @@ use Rattle.gql_base.specs.Pairs.{names_of, values_of}
 use Rattle.gql_doc.specs.Depth.{Fragments}
 use Rattle.gql_doc.specs.declared.document.FragmentDefinition.{FragmentDefinition}
 use Rattle.gql_doc.specs.declared.document.Positioned.{Positioned}
-use Rattle.gql_admit.specs.Breaches.{breach}
+use Rattle.gql_admit.specs.Breach.{breach}
 use Rattle.gql_admit.specs.BreachTexts.{circular_text}
 use Rattle.gql_admit.specs.Circular.{Adds, AreBelow, AreWithin, CircularAt, IsCircular, Reaches, is_in, led_to}
 use Rattle.gql_admit.specs.Spreads.{graph_of, spread_in}

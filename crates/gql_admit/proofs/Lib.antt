@@ -1,3 +1,5 @@
+pub mod AllLemmas
+pub mod ArgumentLemmas
 pub mod BreachLemmas
 pub mod ChoiceLemmas
 pub mod CircularLemmas
@@ -5,6 +7,7 @@ pub mod CrowdedLemmas
 pub mod DepthLemmas
 pub mod FirstLemmas
 pub mod KeepLemmas
+pub mod LiteralLemmas
 pub mod MarkLemmas
 pub mod OrderLemmas
 pub mod ReachLemmas

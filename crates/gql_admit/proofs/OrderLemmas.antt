@@ -1,5 +1,5 @@
 -- The order of breaches is total, and breaches that tie are the same.
-use Rattle.std.proofs.Common.{◌≡◌, Less, Equal, Greater, arith, ℕ, true, List, [], ◌∷◌, refl}
+use Rattle.std.proofs.Common.{◌≡◌, Less, Equal, Greater, ℕ, zero, suc, true, List, [], ◌∷◌, refl, ap, sym, ◌∙◌}
 use Rattle.std.specs.declared.cmp.Ordering.{Ordering}
 use Rattle.std.specs.Ordering.{eq_by_cmp, is_eq, nat_cmp, ordering_then}
 use Rattle.std.proofs.lemmas.Cmp.{ranked, by_ranked}
@@ -38,13 +38,33 @@ pos_ties one other tied =
     let column = number_ties one.column other.column (second_ties (nat_cmp one.line other.line) (nat_cmp one.column other.column) tied) in
     λ i. record { line = line i; column = column i }
 
+-- the kind at a place among the rules
+abbrev kind_at : ℕ → BreachKind
+kind_at zero = kinds.Condition
+kind_at (suc zero) = kinds.UnknownField
+kind_at (suc (suc zero)) = kinds.Selection
+kind_at (suc (suc (suc zero))) = kinds.Directive
+kind_at (suc (suc (suc (suc zero)))) = kinds.UnknownArgument
+kind_at (suc (suc (suc (suc (suc zero))))) = kinds.MissingArgument
+kind_at (suc (suc (suc (suc (suc (suc zero)))))) = kinds.DoubledArgument
+kind_at (suc (suc (suc (suc (suc (suc (suc zero))))))) = kinds.Value
+kind_at (suc (suc (suc (suc (suc (suc (suc (suc zero)))))))) = kinds.UnknownFragment
+kind_at (suc (suc (suc (suc (suc (suc (suc (suc (suc k))))))))) = kinds.CircularFragment
+
+kind_back : (kind : BreachKind) → kind_at (kind_place kind) ≡ kind
+kind_back kinds.Condition = refl
+kind_back kinds.UnknownField = refl
+kind_back kinds.Selection = refl
+kind_back kinds.Directive = refl
+kind_back kinds.UnknownArgument = refl
+kind_back kinds.MissingArgument = refl
+kind_back kinds.DoubledArgument = refl
+kind_back kinds.Value = refl
+kind_back kinds.UnknownFragment = refl
+kind_back kinds.CircularFragment = refl
+
 kind_ties : (one other : BreachKind) → kind_place one ≡ kind_place other → one ≡ other
-kind_ties kinds.Condition kinds.Condition same = refl
-kind_ties kinds.UnknownField kinds.UnknownField same = refl
-kind_ties kinds.Selection kinds.Selection same = refl
-kind_ties kinds.UnknownFragment kinds.UnknownFragment same = refl
-kind_ties kinds.CircularFragment kinds.CircularFragment same = refl
-kind_ties _ _ same = absurd (omega arith)
+kind_ties one other same = sym (kind_back one) ∙ ap kind_at same ∙ kind_back other
 
 pub same_ties : (one other : Breach) → breach_order one other ≡ Equal → one ≡ other
 same_ties one other tied =

@@ -9,6 +9,7 @@ use Rattle.gql_schema.specs.declared.schema_type.SchemaType.{SchemaType}
 use Rattle.gql_admit.specs.Breaches.{told}
 use Rattle.gql_admit.specs.Places.{Place, selection_places, set_places}
 use Rattle.gql_admit.specs.declared.breach.Breach.{Breach}
+use Rattle.gql_admit.specs.declared.built_in.BuiltIn.{BuiltIn}
 use Rattle.gql_admit.specs.declared.site.Site.{Site}
 
 module _ {A B : Type 0} (f : A → List B) where
@@ -19,27 +20,34 @@ module _ {A B : Type 0} (f : A → List B) where
       append-nil (f y) ∙ ap f same
   flat_more (y ∷ ys) (suc i) x at = ap (λ bs. f y ++ bs) (flat_more ys i x at) ∙ sym (append_assoc (f y) (flat_map f (take i ys)) (f x))
 
+-- what each of some gives, one after another
+pub flat_step : {A B : Type 0} (f : A → List B) (xs : List A) (i : ℕ) (x : A) (start now more : List B) → slice_get xs i ≡ Some x
+    → now ≡ start ++ flat_map f (take i xs) → more ≡ now ++ f x → more ≡ start ++ flat_map f (take (i + 1) xs)
+flat_step f xs i x start now more at before added =
+    added ∙ ap (λ bs. bs ++ f x) before ∙ append_assoc start (flat_map f (take i xs)) (f x)
+    ∙ ap (λ bs. start ++ bs) (sym (flat_more f xs i x at)) ∙ ap (λ n. start ++ flat_map f (take n xs)) (sym (add-one i))
+
 flat_of_map : {A B C : Type 0} (f : B → List C) (g : A → B) (xs : List A) → flat_map f (map g xs) ≡ flat_map (λ x. f (g x)) xs
 flat_of_map f g [] = refl
 flat_of_map f g (x ∷ xs) = ap (λ cs. f (g x) ++ cs) (flat_of_map f g xs)
 
-module _ (site : Site) (fragments : Fragments) where
-  pub told_both : (one other : List Place) → told site fragments (one ++ other) ≡ told site fragments one ++ told site fragments other
+module _ (built : BuiltIn) (site : Site) (fragments : Fragments) where
+  pub told_both : (one other : List Place) → told built site fragments (one ++ other) ≡ told built site fragments one ++ told built site fragments other
   told_both one other = flat_map-append _ one other
 
   -- the places of one more
   pub told_more : {A : Type 0} (f : A → List Place) (xs : List A) (i : ℕ) (x : A) → slice_get xs i ≡ Some x
-      → told site fragments (flat_map f (take (suc i) xs)) ≡ told site fragments (flat_map f (take i xs)) ++ told site fragments (f x)
-  told_more f xs i x at = ap (told site fragments) (flat_more f xs i x at) ∙ told_both (flat_map f (take i xs)) (f x)
+      → told built site fragments (flat_map f (take (suc i) xs)) ≡ told built site fragments (flat_map f (take i xs)) ++ told built site fragments (f x)
+  told_more f xs i x at = ap (told built site fragments) (flat_more f xs i x at) ∙ told_both (flat_map f (take i xs)) (f x)
 
   -- what was told, and what is told of one more
   pub told_step : {A : Type 0} (f : A → List Place) (xs : List A) (i : ℕ) (x : A) (start now more : List Breach) → slice_get xs i ≡ Some x
-      → now ≡ start ++ told site fragments (flat_map f (take i xs)) → more ≡ now ++ told site fragments (f x)
-      → more ≡ start ++ told site fragments (flat_map f (take (i + 1) xs))
+      → now ≡ start ++ told built site fragments (flat_map f (take i xs)) → more ≡ now ++ told built site fragments (f x)
+      → more ≡ start ++ told built site fragments (flat_map f (take (i + 1) xs))
   told_step f xs i x start now more at before added =
-      added ∙ ap (λ bs. bs ++ told site fragments (f x)) before
-      ∙ append_assoc start (told site fragments (flat_map f (take i xs))) (told site fragments (f x))
-      ∙ ap (λ bs. start ++ bs) (sym (told_more f xs i x at)) ∙ ap (λ n. start ++ told site fragments (flat_map f (take n xs))) (sym (add-one i))
+      added ∙ ap (λ bs. bs ++ told built site fragments (f x)) before
+      ∙ append_assoc start (told built site fragments (flat_map f (take i xs))) (told built site fragments (f x))
+      ∙ ap (λ bs. start ++ bs) (sym (told_more f xs i x at)) ∙ ap (λ n. start ++ told built site fragments (flat_map f (take n xs))) (sym (add-one i))
 
 -- a set's places are those of its selections
 pub places_in_set : (site : Site) (set : SelectionSet) (ty : SchemaType)

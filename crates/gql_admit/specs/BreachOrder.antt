@@ -20,8 +20,13 @@ abbrev pub kind_place : BreachKind → ℕ
 kind_place kinds.Condition = 0
 kind_place kinds.UnknownField = 1
 kind_place kinds.Selection = 2
-kind_place kinds.UnknownFragment = 3
-kind_place kinds.CircularFragment = 4
+kind_place kinds.Directive = 3
+kind_place kinds.UnknownArgument = 4
+kind_place kinds.MissingArgument = 5
+kind_place kinds.DoubledArgument = 6
+kind_place kinds.Value = 7
+kind_place kinds.UnknownFragment = 8
+kind_place kinds.CircularFragment = 9
 
 -- texts by their bytes
 abbrev pub text_order : List ℕ → List ℕ → Ordering

@@ -1,5 +1,5 @@
 -- The rules of the specification that a document breaks over a table of types.
-use Rattle.std.specs.Prelude.{ℕ, Bool, true, false, List, [], ◌∷◌, Option, Some, None}
+use Rattle.std.specs.Prelude.{ℕ, Bool, true, false, ◌&&◌, ◌||◌, List, [], ◌∷◌, ◌++◌, Option, Some, None, if◌then◌else◌}
 use Rattle.std.specs.List.{flat_map}
 use Rattle.gql_base.specs.Pairs.{under}
 use Rattle.gql_base.specs.TypeRef.{innermost, type_text}
@@ -8,24 +8,20 @@ use Rattle.gql_base.specs.declared.type_ref.TypeRef.{TypeRef}
 use Rattle.gql_doc.specs.Depth.{Fragments}
 use Rattle.gql_doc.specs.declared.document.FragmentDefinition.{FragmentDefinition}
 use Rattle.gql_doc.specs.declared.document.Positioned.{Positioned}
+use Rattle.gql_doc.specs.declared.document.Directive.{Directive}
+use Rattle.gql_schema.specs.TableReading.{Declared}
 use Rattle.gql_schema.specs.Types.{type_name}
 use Rattle.gql_schema.specs.declared.schema_type.SchemaType.{SchemaType}
-use Rattle.gql_admit.specs.BreachTexts.{composite_text, condition_text, leaf_text, unknown_field_text, unknown_fragment_text}
-use Rattle.gql_admit.specs.FieldTypes.{field_type, is_composite, is_leaf, table_of}
-use Rattle.gql_admit.specs.Places.{FieldPlace, Place, OnCondition, OnField, OnSpread}
+use Rattle.gql_select.specs.Kept.{is_include, is_skip}
+use Rattle.gql_admit.specs.Arguments.{Bearing, DirectiveOf, FieldOf, told_of_arguments}
+use Rattle.gql_admit.specs.Breach.{breach, unless}
+use Rattle.gql_admit.specs.BreachTexts.{composite_text, condition_text, leaf_text, unknown_directive_text, unknown_field_text, unknown_fragment_text}
+use Rattle.gql_admit.specs.FieldTypes.{is_composite, is_leaf, known_field, table_of}
+use Rattle.gql_admit.specs.Places.{FieldPlace, Place, OnCondition, OnDirective, OnField, OnSpread}
 use Rattle.gql_admit.specs.declared.breach.Breach.{Breach}
-use Rattle.gql_admit.specs.declared.breach.BreachKind.{BreachKind}
 use Rattle.gql_admit.specs.declared.breach.BreachKind.TheVariants as kinds
+use Rattle.gql_admit.specs.declared.built_in.BuiltIn.{BuiltIn}
 use Rattle.gql_admit.specs.declared.site.Site.{Site}
-
--- a breach of this kind at a place, with the name that it is about
-abbrev pub breach : Pos → BreachKind → List ℕ → List ℕ → Breach
-breach pos kind name text = record { pos = pos; kind = kind; name = name; text = text }
-
--- what a test tells, where it fails
-abbrev pub unless : Bool → Breach → List Breach
-unless true found = []
-unless false found = found ∷ []
 
 -- whether a type that was looked for is there and passes a test
 abbrev pub passes : (SchemaType → Bool) → Option SchemaType → Bool
@@ -70,18 +66,56 @@ told_of_spread pos name (Some fragment) = []
 abbrev pub told_of_condition : Site → Pos → List ℕ → List Breach
 told_of_condition site pos name = unless (is_composite_named site name) (unknown_condition pos name)
 
-module _ (site : Site) (fragments : Fragments) where
-  -- a field is one of its type's, with a set or without one
-  abbrev pub told_of_field : FieldPlace → Option TypeRef → List Breach
+abbrev pub unknown_directive : Positioned Directive → Breach
+unknown_directive directive =
+    breach directive.pos kinds.Directive directive.node.name.node (unknown_directive_text directive.node.name.node)
+
+-- the directives `@skip` and `@include`, which stand on selections
+abbrev pub is_condition : Directive → Bool
+is_condition directive = is_skip directive || is_include directive
+
+-- the places with arguments
+abbrev pub field_bearing : FieldPlace → Declared → Bearing
+field_bearing field declared = record {
+  owner = FieldOf field.name (type_name field.parent);
+  pos = field.pos;
+  declared = declared.arguments;
+}
+
+abbrev pub directive_bearing : BuiltIn → Positioned Directive → Bearing
+directive_bearing built directive = record {
+  owner = DirectiveOf directive.node.name.node;
+  pos = directive.pos;
+  declared = built.condition;
+}
+
+-- a known field has a set or has none, and its arguments
+abbrev pub told_of_known : Site → FieldPlace → Declared → List Breach
+told_of_known site field declared =
+    told_of_set field declared.ty (is_leaf_named site (innermost declared.ty)) field.has_set
+    ++ told_of_arguments (table_of site) (field_bearing field declared) field.arguments
+
+module _ (built : BuiltIn) (site : Site) where
+  -- a field is one of its type's
+  abbrev pub told_of_field : FieldPlace → Option Declared → List Breach
   told_of_field field None = unknown_field field ∷ []
-  told_of_field field (Some ty) = told_of_set field ty (is_leaf_named site (innermost ty)) field.has_set
+  told_of_field field (Some declared) = told_of_known site field declared
 
-  -- the rules that are broken at a place
-  abbrev pub told_at : Place → List Breach
-  told_at (OnField field) = told_of_field field (field_type site field.parent field.name)
-  told_at (OnSpread pos name) = told_of_spread pos name (under name fragments)
-  told_at (OnCondition pos name) = told_of_condition site pos name
+  -- a directive is known where it stands, and has its arguments
+  abbrev pub told_of_directive : (selects : Bool) → Positioned Directive → List Breach
+  told_of_directive selects directive =
+      if selects && is_condition directive.node
+      then told_of_arguments (table_of site) (directive_bearing built directive) directive.node.arguments
+      else (unknown_directive directive ∷ [])
 
-  -- those that are broken at some places
-  abbrev pub told : List Place → List Breach
-  told places = flat_map told_at places
+  module _ (fragments : Fragments) where
+    -- the rules that are broken at a place
+    abbrev pub told_at : Place → List Breach
+    told_at (OnField field) = told_of_field field (known_field built site field.parent field.name)
+    told_at (OnSpread pos name) = told_of_spread pos name (under name fragments)
+    told_at (OnCondition pos name) = told_of_condition site pos name
+    told_at (OnDirective selects directive) = told_of_directive selects directive
+
+    -- those that are broken at some places
+    abbrev pub told : List Place → List Breach
+    told places = flat_map told_at places

@@ -4,7 +4,7 @@ use Rattle.std.specs.List.{Contains}
 use Rattle.gql_doc.specs.Depth.{Fragments}
 use Rattle.gql_doc.specs.declared.document.FragmentDefinition.{FragmentDefinition}
 use Rattle.gql_doc.specs.declared.document.Positioned.{Positioned}
-use Rattle.gql_admit.specs.Breaches.{breach}
+use Rattle.gql_admit.specs.Breach.{breach}
 use Rattle.gql_admit.specs.BreachTexts.{circular_text}
 use Rattle.gql_admit.specs.Spreads.{graph_of}
 use Rattle.gql_admit.specs.declared.breach.Breach.{Breach}

@@ -1,5 +1,5 @@
 -- Which fields a type has where a document is checked, and of which type they are (GraphQL, October 2021, sections 3.6, 4.1 and 5.3.1).
-use Rattle.std.specs.Prelude.{ℕ, Bool, true, false, ◌&&◌, not, List, codes, Option, Some, option_map, if◌then◌else◌}
+use Rattle.std.specs.Prelude.{ℕ, Bool, true, false, ◌&&◌, not, List, codes, Option, Some, None, option_map, if◌then◌else◌}
 use Rattle.std.specs.Str.{bytes_eq}
 use Rattle.gql_base.specs.declared.type_ref.TypeRef.{TypeRef}
 use Rattle.gql_base.specs.declared.type_ref.TypeRef.TheVariants as ref
@@ -8,6 +8,7 @@ use Rattle.gql_schema.specs.TableReading.{Declared, TypeTable, declared_in}
 use Rattle.gql_schema.specs.Types.{type_name}
 use Rattle.gql_schema.specs.declared.schema_type.SchemaType.{SchemaType}
 use Rattle.gql_schema.specs.declared.schema_type.SchemaType.TheVariants as types
+use Rattle.gql_admit.specs.declared.built_in.BuiltIn.{BuiltIn}
 use Rattle.gql_admit.specs.declared.site.Site.{Site}
 
 -- the types that a document is checked against
@@ -57,3 +58,16 @@ abbrev pub field_type : Site → SchemaType → List ℕ → Option TypeRef
 field_type site ty name =
     if has_typename ty name then Some typename_type else
     (if has_entities site ty name then Some entities_type else option_map type_declared (declared_in name ty))
+
+-- the fields that no type declares, with their arguments
+abbrev pub typename_field : BuiltIn → Declared
+typename_field built = record { ty = typename_type; number = None; arguments = built.typename }
+
+abbrev pub entities_field : BuiltIn → Declared
+entities_field built = record { ty = entities_type; number = None; arguments = built.entities }
+
+-- the field of this name, where the type has it
+abbrev pub known_field : BuiltIn → Site → SchemaType → List ℕ → Option Declared
+known_field built site ty name =
+    if has_typename ty name then Some (typename_field built) else
+    (if has_entities site ty name then Some (entities_field built) else declared_in name ty)

@@ -1,5 +1,5 @@
 -- The places of a document at which rules are looked at, each with the type that it stands on. Beneath an unknown field, a leaf or a
--- condition on no composite type there are none.
+-- condition on no composite type there are none; the directives that stand on an unknown field, or beside such a condition, are looked at.
 use Rattle.std.specs.Prelude.{ℕ, Bool, true, false, not, List, [], ◌∷◌, ◌++◌, Option, Some, None, option_and_then}
 use Rattle.std.specs.List.{flat_map}
 use Rattle.std.specs.Option.{option_copied}
@@ -8,6 +8,8 @@ use Rattle.gql_base.specs.TypeRef.{innermost}
 use Rattle.gql_base.specs.declared.pos.Pos.{Pos}
 use Rattle.gql_base.specs.declared.type_ref.TypeRef.{TypeRef}
 use Rattle.gql_doc.specs.Depth.{fragment_set, operation_set, operations_in}
+use Rattle.gql_doc.specs.declared.document.Argument.{Argument}
+use Rattle.gql_doc.specs.declared.document.Directive.{Directive}
 use Rattle.gql_doc.specs.declared.document.ExecutableDocument.{ExecutableDocument}
 use Rattle.gql_doc.specs.declared.document.FragmentDefinition.{FragmentDefinition}
 use Rattle.gql_doc.specs.declared.document.OperationDefinition.{OperationDefinition}
@@ -20,6 +22,7 @@ use Rattle.gql_doc.specs.declared.document.Selection.TheFolds.{fold-Field, fold-
 use Rattle.gql_doc.specs.declared.document.Field.{Field}
 use Rattle.gql_doc.specs.declared.document.InlineFragment.{InlineFragment}
 use Rattle.gql_doc.specs.declared.document.SelectionSet.{SelectionSet}
+use Rattle.gql_doc.specs.declared.document.VariableDefinition.{VariableDefinition}
 use Rattle.gql_schema.specs.declared.schema_type.SchemaType.{SchemaType}
 use Rattle.gql_schema.specs.declared.schema_type.SchemaType.TheVariants as types
 use Rattle.gql_admit.specs.FieldTypes.{field_type, table_of}
@@ -31,6 +34,7 @@ pub record FieldPlace : Type 0 where
   pub parent : SchemaType
   pub pos : Pos
   pub name : List ℕ
+  pub arguments : List Argument
   pub has_set : Bool
 
 pub data Place : Type 0 where
@@ -39,6 +43,8 @@ pub data Place : Type 0 where
   OnSpread : Pos → List ℕ → Place
   -- a condition on the type of this name
   OnCondition : Pos → List ℕ → Place
+  -- a directive, and whether it stands on a selection
+  OnDirective : Bool → Positioned Directive → Place
 
 -- the places beneath a type
 abbrev pub Places : Type 0
@@ -62,10 +68,19 @@ on_composite (Some (types.Interface interface)) places = places (types.Interface
 on_composite (Some (types.Union union)) places = places (types.Union union)
 on_composite (Some _) places = []
 
+-- some directives, which stand on a selection or on a definition
+abbrev pub directive_places : (selects : Bool) → List (Positioned Directive) → List Place
+directive_places selects directives = flat_map (λ directive. OnDirective selects directive ∷ []) directives
+
+-- the directives of the definitions of variables
+abbrev pub variable_places : List (Positioned VariableDefinition) → List Place
+variable_places variables = flat_map (λ variable. directive_places false variable.node.directives) variables
+
 -- one level of each part of a document
 abbrev pub selection_step : Selection-F Places (Pos → Places) Places SetPlaces → Places
 selection_step (Selection-F.Field field) ty = field.node field.pos ty
-selection_step (Selection-F.FragmentSpread spread) ty = OnSpread spread.pos spread.node.fragment_name.node ∷ []
+selection_step (Selection-F.FragmentSpread spread) ty =
+    OnSpread spread.pos spread.node.fragment_name.node ∷ directive_places true spread.node.directives
 selection_step (Selection-F.InlineFragment fragment) ty = fragment.node ty
 
 abbrev pub set_step : SelectionSet-F Places (Pos → Places) Places SetPlaces → SetPlaces
@@ -106,11 +121,20 @@ module _ (site : Site) where
   -- one level of a field, and of a fragment in place
   abbrev pub field_step : Field-F Places (Pos → Places) Places SetPlaces → Pos → Places
   field_step field pos ty =
-      OnField (record { parent = ty; pos = pos; name = field.name.node; has_set = not field.selection_set.node.is_empty })
-      ∷ beneath_field (field_type site ty field.name.node) field.selection_set.node.on
+      OnField (record {
+        parent = ty;
+        pos = pos;
+        name = field.name.node;
+        arguments = field.arguments;
+        has_set = not field.selection_set.node.is_empty;
+      })
+      ∷ (directive_places true field.directives
+      ++ beneath_field (field_type site ty field.name.node) field.selection_set.node.on)
 
   abbrev pub inline_step : InlineFragment-F Places (Pos → Places) Places SetPlaces → Places
-  inline_step fragment = under_condition fragment.type_condition fragment.selection_set.node.on
+  inline_step fragment ty =
+      directive_places true fragment.directives
+      ++ under_condition fragment.type_condition fragment.selection_set.node.on ty
 
   abbrev pub selection_places : Selection → Places
   selection_places = fold-Selection Places (Pos → Places) Places SetPlaces selection_step field_step inline_step set_step
@@ -138,14 +162,21 @@ module _ (site : Site) where
   root_of Mutation = as_object (type_named (option_copied site.mutation))
   root_of Subscription = as_subscription (type_named (option_copied site.subscription))
 
+  -- the places of an operation on the type of its root
+  abbrev pub rooted_places : Positioned OperationDefinition → Places
+  rooted_places operation ty =
+      variable_places operation.node.variable_definitions
+      ++ (directive_places false operation.node.directives ++ set_places (operation_set operation).node ty)
+
   -- an operation without a root has no places
   abbrev pub operation_places : Positioned OperationDefinition → List Place
-  operation_places operation = on_any (root_of operation.node.ty) (set_places (operation_set operation).node)
+  operation_places operation = on_any (root_of operation.node.ty) (rooted_places operation)
 
   abbrev pub fragment_places : Positioned FragmentDefinition → List Place
   fragment_places fragment =
       OnCondition fragment.node.type_condition.pos fragment.node.type_condition.node
-      ∷ on_named fragment.node.type_condition.node (set_places (fragment_set fragment).node)
+      ∷ (directive_places false fragment.node.directives
+      ++ on_named fragment.node.type_condition.node (set_places (fragment_set fragment).node))
 
   -- the places of a document as it stands: spreads aren't entered
   abbrev pub document_places : ExecutableDocument → List Place

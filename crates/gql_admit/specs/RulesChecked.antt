@@ -5,6 +5,7 @@ use Rattle.gql_base.specs.declared.server_error.ServerError.{ServerError}
 use Rattle.gql_doc.specs.declared.document.ExecutableDocument.{ExecutableDocument}
 use Rattle.gql_admit.specs.Breaches.{told_at}
 use Rattle.gql_admit.specs.BreachOrder.{Lists}
+use Rattle.gql_admit.specs.BuiltIn.{built_in}
 use Rattle.gql_admit.specs.Circular.{IsCircular}
 use Rattle.gql_admit.specs.Places.{Place, document_places}
 use Rattle.gql_admit.specs.Refusal.{refusal}
@@ -14,7 +15,7 @@ use Rattle.gql_admit.specs.declared.site.Site.{Site}
 -- a rule that a document breaks: at one of its places, or by a fragment that reaches itself
 pub data IsBreach (site : Site) (document : ExecutableDocument) (found : Breach) : Type 0 where
   at_place : (place : Place) → Contains (document_places site document) place
-      → Contains (told_at site document.fragments place) found → IsBreach site document found
+      → Contains (told_at built_in site document.fragments place) found → IsBreach site document found
   circular : IsCircular document.fragments found → IsBreach site document found
 
 -- the error of a breach: its text, at its place

@@ -1,17 +1,21 @@
 -- What the walk over the places of a document tells.
-use Rattle.std.specs.Prelude.{List, not}
-use Rattle.gql_doc.specs.Depth.{field_set, selections_of}
+use Rattle.std.specs.Prelude.{List, ◌∷◌, ◌++◌, Option, true, false, not}
+use Rattle.gql_doc.specs.Depth.{field_set, fragment_set, selections_of}
 use Rattle.gql_doc.specs.declared.document.Field.{Field, out-Field}
+use Rattle.gql_doc.specs.declared.document.FragmentDefinition.{FragmentDefinition}
+use Rattle.gql_doc.specs.declared.document.FragmentSpread.{FragmentSpread}
 use Rattle.gql_doc.specs.declared.document.Positioned.{Positioned}
+use Rattle.gql_schema.specs.TableReading.{Declared}
 use Rattle.gql_schema.specs.declared.schema_type.SchemaType.{SchemaType}
-use Rattle.gql_admit.specs.Breaches.{told}
-use Rattle.gql_admit.specs.Places.{FieldPlace, Place, is_nil}
+use Rattle.gql_admit.specs.Breaches.{told, told_of_field}
+use Rattle.gql_admit.specs.Places.{FieldPlace, OnSpread, Place, directive_places, is_nil, on_named, set_places}
 use Rattle.gql_admit.specs.declared.breach.Breach.{Breach}
+use Rattle.gql_admit.specs.declared.site.Site.{Site}
 use Rattle.gql_admit.specs.declared.walk.Against.{Against}
 
 -- the rules that are broken at some places
 abbrev pub tells : Against → List Place → List Breach
-tells against places = told against.site.now against.fragments.now places
+tells against places = told against.built.now against.site.now against.fragments.now places
 
 -- the place of a field on a type
 abbrev pub field_place : SchemaType → Positioned Field → FieldPlace
@@ -19,5 +23,20 @@ field_place ty field = record {
   parent = ty;
   pos = field.pos;
   name = (out-Field field.node).name.node;
+  arguments = (out-Field field.node).arguments;
   has_set = not (is_nil (selections_of (field_set field)));
 }
+
+-- what is told of a field on a type
+abbrev pub tells_field : Against → SchemaType → Positioned Field → Option Declared → List Breach
+tells_field against ty field known = told_of_field against.built.now against.site.now (field_place ty field) known
+
+-- the places of a spread
+abbrev pub spread_places : Positioned FragmentSpread → List Place
+spread_places spread = OnSpread spread.pos spread.node.fragment_name.node ∷ directive_places true spread.node.directives
+
+-- the places of a fragment behind its condition
+abbrev pub inner_places : Site → Positioned FragmentDefinition → List Place
+inner_places site fragment =
+    directive_places false fragment.node.directives
+    ++ on_named site fragment.node.type_condition.node (set_places site (fragment_set fragment).node)

@@ -9,6 +9,16 @@ pub enum BreachKind {
     UnknownField,
     /// A leaf has a set, or another type has none (section 5.3.3).
     Selection,
+    /// A directive isn't known, or isn't known where it stands (sections 5.7.1 and 5.7.2).
+    Directive,
+    /// An argument isn't declared (section 5.4.1).
+    UnknownArgument,
+    /// An argument that is required isn't given (section 5.4.2.1).
+    MissingArgument,
+    /// An argument is given twice (section 5.4.2).
+    DoubledArgument,
+    /// A literal doesn't fit the type of its argument (section 5.6.1).
+    Value,
     /// A spread names no fragment (section 5.5.2.1).
     UnknownFragment,
     /// A fragment reaches itself by spreads (section 5.5.2.2).

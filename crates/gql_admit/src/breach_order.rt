@@ -24,8 +24,13 @@ fn kind_place(kind: BreachKind) -> u8
         BreachKind::Condition => 0,
         BreachKind::UnknownField => 1,
         BreachKind::Selection => 2,
-        BreachKind::UnknownFragment => 3,
-        BreachKind::CircularFragment => 4,
+        BreachKind::Directive => 3,
+        BreachKind::UnknownArgument => 4,
+        BreachKind::MissingArgument => 5,
+        BreachKind::DoubledArgument => 6,
+        BreachKind::Value => 7,
+        BreachKind::UnknownFragment => 8,
+        BreachKind::CircularFragment => 9,
     }
 }
 

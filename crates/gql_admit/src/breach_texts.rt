@@ -1,7 +1,7 @@
 //! The breaches of rules, each with its text.
 ghost use Rattle.std.specs.Prelude.{◌≡◌, IfOk, string_bytes};
 ghost use Rattle.gql_base.specs.TypeRef.{type_text};
-ghost use Rattle.gql_admit.specs.Breaches.{breach};
+ghost use Rattle.gql_admit.specs.Breach.{breach};
 ghost use Rattle.gql_admit.specs.BreachTexts.{circular_text, composite_text, condition_text};
 ghost use Rattle.gql_admit.specs.BreachTexts.{leaf_text, unknown_field_text, unknown_fragment_text};
 
@@ -63,7 +63,14 @@ pub fn circular_fragment(alloc: Global, pos: Pos, name: &str) -> Made<Breach>
     breach_of(alloc, pos, BreachKind::CircularFragment, name, text)
 }
 
-fn breach_of(alloc: Global, pos: Pos, kind: BreachKind, name: &str, text: String) -> Made<Breach>
+/// A breach with a copy of the name.
+pub fn breach_of(
+    alloc: Global,
+    pos: Pos,
+    kind: BreachKind,
+    name: &str,
+    text: String,
+) -> Made<Breach>
     ensures { IfOk result (λ made. made ≡ breach pos kind name.now (string_bytes text)) }
 {
     let name = Text::new(alloc, name)?;

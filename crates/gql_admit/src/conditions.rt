@@ -134,7 +134,8 @@ fn is_include_directive(directive: &Directive) -> bool
     directive.name.node.as_str() == "include"
 }
 
-fn is_condition(directive: &Directive) -> bool
+/// True exactly where the directive is `@skip` or `@include`.
+pub fn is_condition(directive: &Directive) -> bool
     ensures { result ≡ (is_skip directive.now || is_include directive.now) }
 {
     is_skip_directive(directive) || is_include_directive(directive)

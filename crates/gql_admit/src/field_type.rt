@@ -2,22 +2,36 @@
 ghost use Rattle.std.specs.Prelude.{◌≡◌, IfOk, option_map};
 ghost use Rattle.gql_base.specs.TypeRef.{innermost, type_text};
 ghost use Rattle.gql_admit.specs.FieldTypes.{field_type, has_entities, has_typename, is_composite, is_leaf, is_subscription};
-ghost use Rattle.gql_admit.specs.FieldTypeViews.{type_behind};
+ghost use Rattle.gql_admit.specs.FieldTypes.{known_field};
+ghost use Rattle.gql_admit.specs.FieldTypeViews.{known_behind, type_behind};
+ghost use Rattle.gql_admit.specs.declared.built_in.BuiltIn.{BuiltIn as BuiltInArguments};
 
+use crate::built_in::BuiltIn;
 use crate::site::Site;
-use gql_base::{Made, Text, TypeRef};
-use gql_schema::SchemaType;
+use gql_base::{Made, Text};
+use gql_schema::{ByName, DeclaredField, InputValue, SchemaType};
 use std::alloc::Global;
 
-/// The type of a field that is known.
+/// A field that is known.
 #[derive(Clone, Copy)]
 pub enum FieldType<'a> {
     Typename,
     Entities,
-    Declared(&'a TypeRef),
+    Declared(DeclaredField<'a>),
 }
 
-impl FieldType<'_> {
+impl<'a> FieldType<'a> {
+    /// The arguments that the field declares.
+    pub fn arguments(&self, built: &'a BuiltIn) -> &'a ByName<InputValue>
+        ensures { result.now ≡ (known_behind built.now self.now).arguments }
+    {
+        match self {
+            FieldType::Typename => &built.typename,
+            FieldType::Entities => &built.entities,
+            FieldType::Declared(field) => field.arguments,
+        }
+    }
+
     /// The name of the type of what stands in the field.
     pub fn inner_name(&self) -> &str
         ensures { result.now ≡ innermost (type_behind self.now) }
@@ -25,7 +39,7 @@ impl FieldType<'_> {
         match self {
             FieldType::Typename => "String",
             FieldType::Entities => "_Entity",
-            FieldType::Declared(ty) => ty.type_name(),
+            FieldType::Declared(field) => field.ty.type_name(),
         }
     }
 
@@ -36,15 +50,17 @@ impl FieldType<'_> {
         match self {
             FieldType::Typename => Text::new(alloc, "String!"),
             FieldType::Entities => Text::new(alloc, "[_Entity]!"),
-            FieldType::Declared(ty) => ty.text(alloc),
+            FieldType::Declared(field) => field.ty.text(alloc),
         }
     }
 }
 
 impl<'a> Site<'a> {
-    /// The type of the field of this name, where the type has it.
+    /// The field of this name, where the type has it.
     pub fn field_type(&self, ty: &'a SchemaType, name: &str) -> Option<FieldType<'a>>
-        ensures { option_map type_behind result ≡ field_type self.now ty.now name.now }
+        ensures ty { option_map type_behind result ≡ field_type self.now ty.now name.now }
+        ensures known { (built : BuiltInArguments) → option_map (known_behind built) result
+            ≡ known_field built self.now ty.now name.now }
     {
         if has_typename(ty, name) {
             return Some(FieldType::Typename);
@@ -53,7 +69,7 @@ impl<'a> Site<'a> {
             return Some(FieldType::Entities);
         }
         let declared = ty.declared(name)?;
-        Some(FieldType::Declared(declared.ty))
+        Some(FieldType::Declared(declared))
     }
 
     fn has_entities(&self, ty: &SchemaType, name: &str) -> bool

@@ -2,10 +2,13 @@
 //! `@include` leave of it (GraphQL, October 2021, sections 3.13, 5 and 6.1).
 #![tactic(auto)]
 
+mod argument_texts;
+mod arguments;
 mod beneath;
 mod breach;
 mod breach_order;
 mod breach_texts;
+mod built_in;
 mod chosen;
 mod circular;
 mod conditions;
@@ -13,13 +16,16 @@ mod copied;
 mod depth;
 mod directives;
 mod field_type;
+mod input_types;
 mod keeping;
+mod literals;
 mod operation;
 mod reaching;
 mod refusals;
 mod rules;
 mod site;
 mod spreads;
+mod telling;
 mod walk;
 mod walk_document;
 

@@ -1,10 +1,12 @@
 //! The check of a document against a table of types.
 ghost use Rattle.std.specs.Prelude.{◌≡◌, IfOk, map};
 ghost use Rattle.gql_admit.specs.BreachOrder.{Lists};
+ghost use Rattle.gql_admit.specs.BuiltIn.{built_in as the_built_in};
 ghost use Rattle.gql_admit.specs.RulesChecked.{IsBreach, IsChecked, error_of, refused_with};
 
 use crate::breach::Breach;
 use crate::breach_order::sorted_once;
+use crate::built_in::{BuiltIn, built_in};
 use crate::circular::tell_circular;
 use crate::refusals::refuse;
 use crate::site::Site;
@@ -16,7 +18,8 @@ use std::alloc::Global;
 
 /// Refuses a document that breaks a rule of the specification over the site's types, with all that it breaks, in the order of the
 /// document, each once (GraphQL, October 2021, section 5). Looked at are unknown fields, leaves with a set and other types without
-/// one, conditions on types that aren't composite, unknown fragments, and fragments that reach themselves.
+/// one, conditions on types that aren't composite, directives, arguments and the literals that they are given, unknown fragments,
+/// and fragments that reach themselves.
 pub fn check_rules(
     alloc: Global,
     site: &Site<'_>,
@@ -24,24 +27,28 @@ pub fn check_rules(
 ) -> Made<Result<(), Items<ServerError>>>
     ensures { IfOk result (λ checked. IsChecked site.now doc.now checked) }
 {
-    let breaches = breaches_of(alloc, against(site, doc), doc)?;
+    let built = built_in(alloc)?;
+    let breaches = breaches_of(alloc, against(site, doc, &built), doc)?;
     refused(alloc, breaches.as_slice())
 }
 
-fn against<'a>(site: &'a Site<'a>, doc: &'a ExecutableDocument) -> Against<'a>
+fn against<'a>(site: &'a Site<'a>, doc: &'a ExecutableDocument, built: &'a BuiltIn) -> Against<'a>
     ensures site { result.site.now ≡ site.now }
     ensures fragments { result.fragments.now ≡ doc.now.fragments }
+    ensures built { result.built.now ≡ built.now }
 {
     Against {
         site,
         fragments: &doc.fragments,
+        built,
     }
 }
 
 /// All breaches of a document in their order, each once.
 #[tactic(auto, using(crate::proofs::BreachLemmas::all_listed))]
 fn breaches_of(alloc: Global, against: Against<'_>, doc: &ExecutableDocument) -> Made<Items<Breach>>
-    requires { against.fragments.now ≡ doc.now.fragments }
+    requires fragments { against.fragments.now ≡ doc.now.fragments }
+    requires built { against.built.now ≡ the_built_in }
     ensures { IfOk result (λ breaches. Lists (IsBreach against.entry.site.now doc.now) breaches) }
 {
     let mut found = Items::new(alloc);

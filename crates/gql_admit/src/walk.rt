@@ -1,20 +1,20 @@
 //! The walk over the places of a document: it tells the rules that are broken at each, in the order of the document.
-ghost use Rattle.std.specs.Prelude.{◌≡◌, ◌++◌, OnOk};
+ghost use Rattle.std.specs.Prelude.{◌≡◌, ◌++◌, OnOk, true};
 ghost use Rattle.std.specs.List.{flat_map};
-ghost use Rattle.gql_base.specs.Pairs.{under};
-ghost use Rattle.gql_base.specs.TypeRef.{innermost};
-ghost use Rattle.gql_admit.specs.Breaches.{is_composite_named, is_leaf_named, told_of_condition, told_of_set, told_of_spread};
+ghost use Rattle.std.specs.Option.{option_copied, option_map};
+ghost use Rattle.gql_admit.specs.Breaches.{is_composite_named, told_of_condition};
 ghost use Rattle.gql_admit.specs.FieldTypeViews.{type_behind};
-ghost use Rattle.gql_admit.specs.Places.{field_places, inline_places, on_named, selection_places, set_places};
-ghost use Rattle.gql_admit.specs.Walking.{field_place, tells};
+ghost use Rattle.gql_admit.specs.Places.{beneath_field, directive_places, field_places, inline_places, on_named};
+ghost use Rattle.gql_admit.specs.Places.{selection_places, set_places, under_condition};
+ghost use Rattle.gql_admit.specs.Walking.{spread_places, tells};
 
 use crate::breach::Breach;
-use crate::breach_texts::{
-    no_set, set_on_leaf, unknown_condition, unknown_field, unknown_fragment,
-};
-use crate::field_type::{FieldType, is_composite_type, is_leaf_type};
+use crate::breach_texts::unknown_condition;
+use crate::built_in::BuiltIn;
+use crate::field_type::{FieldType, is_composite_type};
 use crate::site::Site;
-use gql_base::{Items, Made, Name, Pairs, Pos};
+use crate::telling::{tell_directives, tell_field, tell_spread};
+use gql_base::{Items, Made, Name, Pairs};
 use gql_doc::{
     Field, FragmentDefinition, FragmentSpread, InlineFragment, Positioned, Selection, SelectionSet,
 };
@@ -26,6 +26,7 @@ use std::alloc::Global;
 pub struct Against<'a> {
     pub site: &'a Site<'a>,
     pub fragments: &'a Pairs<Positioned<FragmentDefinition>>,
+    pub built: &'a BuiltIn,
 }
 
 /// Walks through a set on a type.
@@ -73,12 +74,13 @@ fn walk_selection(
 {
     match selection {
         Selection::Field(field) => walk_field(alloc, field, ty, against, found),
-        Selection::FragmentSpread(spread) => tell_spread(alloc, spread, against, found),
+        Selection::FragmentSpread(spread) => walk_spread(alloc, spread, against, found),
         Selection::InlineFragment(inline) => walk_inline(alloc, &inline.node, ty, against, found),
     }
 }
 
 #[cycle(walk)]
+#[tactic(auto, using(crate::proofs::ToldLemmas::told_both))]
 fn walk_field(
     alloc: Global,
     field: &Positioned<Field>,
@@ -89,23 +91,44 @@ fn walk_field(
     ensures { OnOk result (found.new ≡ found.old
         ++ tells against.now (field_places against.now.site.now field.now.node field.now.pos ty.now)) }
 {
-    let name = field.node.name.node.as_str();
-    match against.site.field_type(ty, name) {
-        None => found.push(unknown_field(alloc, field.pos, name, ty.name())?),
-        Some(known) => {
-            tell_set(alloc, field, ty, &known, against, found)?;
-            walk_named(
-                alloc,
-                &field.node.selection_set.node,
-                known.inner_name(),
-                against,
-                found,
-            )
-        }
+    let known = against.site.field_type(ty, field.node.name.node.as_str());
+    tell_field(alloc, field, ty, &known, against, found)?;
+    tell_directives(
+        alloc,
+        field.node.directives.as_slice(),
+        true,
+        against,
+        found,
+    )?;
+    walk_beneath(
+        alloc,
+        &field.node.selection_set.node,
+        &known,
+        against,
+        found,
+    )
+}
+
+/// Walks through the set of a field that is known.
+#[cycle(walk)]
+fn walk_beneath(
+    alloc: Global,
+    set: &SelectionSet,
+    known: &Option<FieldType<'_>>,
+    against: &Against<'_>,
+    found: &mut Items<Breach>,
+) -> Made<()>
+    ensures { OnOk result (found.new ≡ found.old ++ tells against.now
+        (beneath_field against.now.site.now (option_map type_behind known.now) (set_places against.now.site.now set.now))) }
+{
+    match known {
+        None => Ok(()),
+        Some(known) => walk_named(alloc, set, known.inner_name(), against, found),
     }
 }
 
 #[cycle(walk)]
+#[tactic(auto, using(crate::proofs::ToldLemmas::told_both))]
 fn walk_inline(
     alloc: Global,
     inline: &InlineFragment,
@@ -116,8 +139,31 @@ fn walk_inline(
     ensures { OnOk result (found.new ≡ found.old
         ++ tells against.now (inline_places against.now.site.now inline.now ty.now)) }
 {
-    let set = &inline.selection_set.node;
-    match &inline.type_condition {
+    tell_directives(alloc, inline.directives.as_slice(), true, against, found)?;
+    walk_under(
+        alloc,
+        &inline.selection_set.node,
+        &inline.type_condition,
+        ty,
+        against,
+        found,
+    )
+}
+
+/// Walks through the set of a fragment in place, on the type around it or on that of its condition.
+#[cycle(walk)]
+fn walk_under(
+    alloc: Global,
+    set: &SelectionSet,
+    condition: &Option<Positioned<Name>>,
+    ty: &SchemaType,
+    against: &Against<'_>,
+    found: &mut Items<Breach>,
+) -> Made<()>
+    ensures { OnOk result (found.new ≡ found.old ++ tells against.now
+        (under_condition against.now.site.now condition.now (set_places against.now.site.now set.now) ty.now)) }
+{
+    match condition {
         None => walk_set(alloc, set, ty, against, found),
         Some(condition) => {
             tell_condition(alloc, condition, against, found)?;
@@ -150,43 +196,6 @@ pub fn walk_named(
     }
 }
 
-/// Tells of a field whose type wants no set, or wants one.
-fn tell_set(
-    alloc: Global,
-    field: &Positioned<Field>,
-    ty: &SchemaType,
-    known: &FieldType<'_>,
-    against: &Against<'_>,
-    found: &mut Items<Breach>,
-) -> Made<()>
-    ensures { OnOk result (found.new ≡ found.old
-        ++ told_of_set (field_place ty.now field.now) (type_behind known.now)
-        (is_leaf_named against.now.site.now (innermost (type_behind known.now))) (field_place ty.now field.now).has_set) }
-{
-    let name = field.node.name.node.as_str();
-    let is_leaf = is_leaf_name(against, known.inner_name());
-    let has_set = !field.node.selection_set.node.items.is_empty();
-    if is_leaf && has_set {
-        let text = known.text(alloc)?;
-        found.push(set_on_leaf(alloc, field.pos, name, text.as_str())?)
-    } else if !is_leaf && !has_set {
-        let text = known.text(alloc)?;
-        found.push(no_set(alloc, field.pos, name, text.as_str())?)
-    } else {
-        Ok(())
-    }
-}
-
-/// True exactly where the name is that of a type whose fields have no sets.
-fn is_leaf_name(against: &Against<'_>, name: &str) -> bool
-    ensures { result ≡ is_leaf_named against.now.site.now name.now }
-{
-    match against.site.types.get(name) {
-        None => false,
-        Some(ty) => is_leaf_type(ty),
-    }
-}
-
 /// Tells of a condition on no composite type.
 pub fn tell_condition(
     alloc: Global,
@@ -215,20 +224,21 @@ fn is_composite_name(against: &Against<'_>, name: &str) -> bool
     }
 }
 
-/// Tells of a spread of a fragment that isn't there.
-fn tell_spread(
+/// Tells of a spread and of its directives.
+fn walk_spread(
     alloc: Global,
     spread: &Positioned<FragmentSpread>,
     against: &Against<'_>,
     found: &mut Items<Breach>,
 ) -> Made<()>
-    ensures { OnOk result (found.new ≡ found.old
-        ++ told_of_spread spread.now.pos spread.now.node.fragment_name.node
-        (under spread.now.node.fragment_name.node against.now.fragments.now)) }
+    ensures { OnOk result (found.new ≡ found.old ++ tells against.now (spread_places spread.now)) }
 {
-    let name = spread.node.fragment_name.node.as_str();
-    match against.fragments.get(name) {
-        Some(_) => Ok(()),
-        None => found.push(unknown_fragment(alloc, spread.pos, name)?),
-    }
+    tell_spread(alloc, spread, against, found)?;
+    tell_directives(
+        alloc,
+        spread.node.directives.as_slice(),
+        true,
+        against,
+        found,
+    )
 }

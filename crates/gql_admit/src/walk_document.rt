@@ -1,19 +1,20 @@
 //! The walk over a whole document: its operations with a root, and its fragments, spread or not.
-ghost use Rattle.std.specs.Prelude.{◌≡◌, ◌++◌, OnOk};
+ghost use Rattle.std.specs.Prelude.{◌≡◌, ◌++◌, OnOk, false};
 ghost use Rattle.std.specs.List.{flat_map};
 ghost use Rattle.std.specs.Option.{option_copied};
 ghost use Rattle.gql_base.specs.Pairs.{values_of};
 ghost use Rattle.gql_admit.specs.Places.{as_object, as_subscription, document_places};
-ghost use Rattle.gql_admit.specs.Places.{fragment_places, operation_places, root_of, type_named};
-ghost use Rattle.gql_admit.specs.Walking.{tells};
+ghost use Rattle.gql_admit.specs.Places.{fragment_places, operation_places, root_of, rooted_places, type_named, variable_places};
+ghost use Rattle.gql_admit.specs.Walking.{inner_places, tells};
 
 use crate::breach::Breach;
 use crate::site::Site;
+use crate::telling::tell_directives;
 use crate::walk::{Against, tell_condition, walk_named, walk_set};
 use gql_base::{Items, Made, Pairs};
 use gql_doc::{
     DocumentOperations, ExecutableDocument, FragmentDefinition, OperationDefinition, OperationType,
-    Positioned,
+    Positioned, VariableDefinition,
 };
 use gql_schema::SchemaType;
 use std::alloc::Global;
@@ -65,14 +66,59 @@ fn walk_operation(
 {
     match against.site.root(operation.node.ty) {
         None => Ok(()),
-        Some(ty) => walk_set(
+        Some(ty) => walk_rooted(alloc, operation, ty, against, found),
+    }
+}
+
+/// Walks through an operation on the type of its root.
+#[tactic(auto, using(crate::proofs::ToldLemmas::told_both))]
+fn walk_rooted(
+    alloc: Global,
+    operation: &Positioned<OperationDefinition>,
+    ty: &SchemaType,
+    against: &Against<'_>,
+    found: &mut Items<Breach>,
+) -> Made<()>
+    ensures { OnOk result (found.new ≡ found.old
+        ++ tells against.now (rooted_places against.now.site.now operation.now ty.now)) }
+{
+    let variables = operation.node.variable_definitions.as_slice();
+    tell_on_variables(alloc, variables, against, found)?;
+    tell_directives(
+        alloc,
+        operation.node.directives.as_slice(),
+        false,
+        against,
+        found,
+    )?;
+    walk_set(
+        alloc,
+        &operation.node.selection_set.node,
+        ty,
+        against,
+        found,
+    )
+}
+
+/// Tells of the directives of the definitions of variables.
+fn tell_on_variables(
+    alloc: Global,
+    variables: &[Positioned<VariableDefinition>],
+    against: &Against<'_>,
+    found: &mut Items<Breach>,
+) -> Made<()>
+    ensures { OnOk result (found.new ≡ found.old ++ tells against.now (variable_places variables.now)) }
+{
+    for variable in variables {
+        tell_directives(
             alloc,
-            &operation.node.selection_set.node,
-            ty,
+            variable.node.directives.as_slice(),
+            false,
             against,
             found,
-        ),
+        )?;
     }
+    Ok(())
 }
 
 fn walk_fragments(
@@ -100,12 +146,32 @@ fn walk_fragment(
     ensures { OnOk result (found.new ≡ found.old
         ++ tells against.now (fragment_places against.now.site.now fragment.now)) }
 {
-    let condition = &fragment.node.type_condition;
-    tell_condition(alloc, condition, against, found)?;
+    tell_condition(alloc, &fragment.node.type_condition, against, found)?;
+    walk_inner(alloc, fragment, against, found)
+}
+
+/// Walks through what stands behind the condition of a fragment.
+#[tactic(auto, using(crate::proofs::ToldLemmas::told_both))]
+fn walk_inner(
+    alloc: Global,
+    fragment: &Positioned<FragmentDefinition>,
+    against: &Against<'_>,
+    found: &mut Items<Breach>,
+) -> Made<()>
+    ensures { OnOk result (found.new ≡ found.old
+        ++ tells against.now (inner_places against.now.site.now fragment.now)) }
+{
+    tell_directives(
+        alloc,
+        fragment.node.directives.as_slice(),
+        false,
+        against,
+        found,
+    )?;
     walk_named(
         alloc,
         &fragment.node.selection_set.node,
-        condition.node.as_str(),
+        fragment.node.type_condition.node.as_str(),
         against,
         found,
     )

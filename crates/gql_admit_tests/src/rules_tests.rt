@@ -151,17 +151,26 @@ fn rules_answer(alloc: Global, types: &Types, text: &str) -> Made<String> {
     }
 }
 
+/// The first text of a table for which something else is told.
+pub fn first_wrong(
+    alloc: Global,
+    types: &Types,
+    table: &[(&'static str, &'static str)],
+) -> Made<Option<&'static str>> {
+    for (text, want) in table {
+        if rules_answer(alloc, types, *text)?.as_str() != *want {
+            return Ok(Some(*text));
+        }
+    }
+    Ok(None)
+}
+
 fn first_wrong_rules(
     alloc: Global,
     table: &[(&'static str, &'static str)],
 ) -> Made<Option<&'static str>> {
     let types = types(alloc)?;
-    for (text, want) in table {
-        if rules_answer(alloc, &types, *text)?.as_str() != *want {
-            return Ok(Some(*text));
-        }
-    }
-    Ok(None)
+    first_wrong(alloc, &types, table)
 }
 
 #[test]

@@ -9,4 +9,4 @@ returns c =
     all_listed c.args.against c.args.doc.now c.walk_document.new.found c.tell_circular.new.found c.sorted_once.result c.sorted_once.ensures
     (c.in_ok-walk_document.ensures
     ∙ ap (λ xs. xs ++ tells c.args.against (document_places c.args.against.site.now c.args.doc.now)) c.new-found.ensures)
-    c.requires c.in_ok-tell_circular.ensures
+    c.requires.fragments c.requires.built c.in_ok-tell_circular.ensures
