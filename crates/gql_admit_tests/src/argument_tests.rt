@@ -55,10 +55,7 @@ const ARGUMENTS: [(&str, &str); 12] = [
         "{ on { at } ... on Query { on { ... on A { at(n: 1, n: 1) } } } }",
         "Argument \"n\" of field \"at\" is required. 1:8; Argument \"n\" is given twice. 1:53; ",
     ),
-    (
-        "mutation { value @x }",
-        "",
-    ),
+    ("mutation { value @x }", ""),
 ];
 
 /// Documents over the same types, with the input objects `In { a: Int!, b: [Int] }` and `One { a: Int, b: String }`, of which the second
@@ -131,8 +128,10 @@ fn value(alloc: Global) -> Made<Field> {
 }
 
 fn add(alloc: Global) -> Made<Field> {
-    let field = Field::new(alloc, "add", TypeRef::named(alloc, "Int")?, 1)?
-        .argument(alloc, int_nn(alloc, "a")?)?;
+    let field = Field::new(alloc, "add", TypeRef::named(alloc, "Int")?, 1)?.argument(
+        alloc,
+        int_nn(alloc, "a")?,
+    )?;
     let one = Value::Number(Number::from_i64(1));
     field.argument(alloc, int_nn(alloc, "b")?.default_value(one))
 }
@@ -157,20 +156,26 @@ fn on(alloc: Global) -> Made<Field> {
 
 fn query(alloc: Global) -> Made<SchemaType> {
     let object = Object::new(alloc, "Query")?.field(alloc, value(alloc)?)?;
-    let object = object.field(alloc, add(alloc)?)?.field(alloc, find(alloc)?)?;
+    let object = object
+        .field(alloc, add(alloc)?)?
+        .field(alloc, find(alloc)?)?;
     Ok(SchemaType::Object(object.field(alloc, on(alloc)?)?))
 }
 
 fn object(alloc: Global) -> Made<SchemaType> {
-    let at = Field::new(alloc, "at", TypeRef::named(alloc, "Int")?, 4)?
-        .argument(alloc, int_nn(alloc, "n")?)?;
+    let at = Field::new(alloc, "at", TypeRef::named(alloc, "Int")?, 4)?.argument(
+        alloc,
+        int_nn(alloc, "n")?,
+    )?;
     let object = Object::new(alloc, "A")?.field(alloc, at)?;
     Ok(SchemaType::Object(object.implement(alloc, "I")?))
 }
 
 fn interface(alloc: Global) -> Made<SchemaType> {
-    let at = InterfaceField::new(alloc, "at", TypeRef::named(alloc, "Int")?)?
-        .argument(alloc, int_nn(alloc, "n")?)?;
+    let at = InterfaceField::new(alloc, "at", TypeRef::named(alloc, "Int")?)?.argument(
+        alloc,
+        int_nn(alloc, "n")?,
+    )?;
     Ok(SchemaType::Interface(Interface::new(alloc, "I")?.field(alloc, at)?))
 }
 
