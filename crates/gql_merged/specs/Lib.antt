@@ -12,4 +12,3 @@ pub mod Levels
 pub mod Merged
 pub mod MergedLaws
 pub mod Stored
-pub mod Tasks

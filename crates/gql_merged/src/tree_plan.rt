@@ -1,0 +1,106 @@
+ghost use Rattle.std.specs.Prelude.{ℕ, ◌≡◌, ◌≤◌, Some, length, map, slice_get};
+ghost use Rattle.gql_merged.specs.Entries.{laid};
+ghost use Rattle.gql_merged.specs.Fitting.{entries_in};
+ghost use Rattle.gql_merged.specs.Groups.{united};
+ghost use Rattle.gql_merged.specs.Tasks.{IsDeep, job_of_task};
+ghost use Rattle.gql_merged.specs.declared.task.Task.{Task as TaskOf};
+
+use crate::giving::fill_given;
+use crate::kept::Kept;
+use crate::level::Node;
+use crate::paths::{value_in, write_path};
+use crate::task::Task;
+use gql_base::{Made, PathSegment};
+use gql_doc::Field;
+use gql_engine::{Given, Plan};
+use gql_input::ObjectAccessor;
+use gql_request::QueryPathNode;
+use gql_resolve::ResolverContext;
+use std::alloc::Global;
+
+/// The tasks of merged execution, what is kept of those that were given something, in that order, and the path of one of them. The
+/// first so many are those of the root.
+#[derive(Drop)]
+pub struct TreePlan<'a, V> {
+    pub tasks: Vec<Task<'a, V>>,
+    pub kept: Vec<Kept<'a, V>>,
+    pub path: Vec<PathSegment>,
+    pub roots: usize,
+    pub ghost laid: { laid roots (entries_in kept.items) ≡ Some (length tasks.items) },
+    pub ghost deep: { (k : ℕ) (task : TaskOf V) → roots ≤ k → slice_get tasks.items k ≡ Some task
+        → IsDeep (job_of_task task) },
+}
+
+impl<'a, V: Drop> Plan<V> for TreePlan<'a, V> {
+    ghost use Rattle.std.specs.Prelude.{ℕ, ◌<◌, false, Some, List, length, slice_get, IfOk, OnOk};
+    ghost use Rattle.gql_engine.specs.Given.{beneath_given};
+    ghost use Rattle.gql_engine.specs.Plan.{HasMade};
+    ghost use Rattle.gql_engine.specs.declared.given.Given.{Given as GivenTo};
+    ghost use Rattle.gql_merged.specs.Fitting.{entries_in, HoldsGiven};
+    ghost use Rattle.gql_merged.specs.Jobs.{asked_by_job, Job, jobs_beneath};
+    ghost use Rattle.gql_merged.specs.Tasks.{IsAimed, jobs_in};
+    ghost use Rattle.gql_merged.proofs.BeneathLemmas.{never_roots};
+
+    ghost Task = { Job V };
+
+    ghost tasks = { λ plan. jobs_in plan.tasks.items };
+
+    ghost asks = { λ task. asked_by_job task };
+
+    ghost beneath = { λ task answer. jobs_beneath task answer };
+
+    ghost holds = { λ plan number given.
+        HoldsGiven (jobs_in plan.tasks.items) (entries_in plan.kept.items) number given };
+
+    ghost aims = { λ plan number. IsAimed plan.tasks.items plan.path.items number };
+
+    ghost never_roots = { λ task answer place below is. never_roots task answer place below is };
+
+    fn aim(&mut self, alloc: Global, number: usize) -> Made<()> {
+        let task = &self.tasks[number];
+        write_path(alloc, &task.parent.held, task.node.as_ref(), &mut self.path)
+    }
+
+    fn context<'c>(&'c self, number: usize) -> ResolverContext<'c, V> {
+        let task = &self.tasks[number];
+        let node = task.node.as_ref();
+        let args = ObjectAccessor::new(node.asks.arguments());
+        ResolverContext {
+            resolver: node.asks.resolver(),
+            task: number as u64,
+            args,
+            parent_value: value_in(&task.parent.held),
+            path_node: QueryPathNode {
+                segments: self.path.as_slice(),
+            },
+            item: item_at(node),
+            env: node.basis.env,
+            layers: node.basis.layers,
+        }
+    }
+
+    fn complete(&mut self, alloc: Global, number: usize, given: Given<V>) -> Made<usize> {
+        let first = self.tasks.len();
+        let parent = self.tasks[number].parent.clone()?;
+        let node = self.tasks[number].node.clone()?;
+        let filled = fill_given(alloc, &parent.held, node.as_ref(), given, &mut self.tasks)?;
+        let count = self.tasks.len() - first;
+        self.kept.push(Kept {
+            number,
+            first,
+            count,
+            filled,
+        })?;
+        Ok(count)
+    }
+}
+
+/// The field that stands for all occurrences.
+fn item_at<'c, 'a>(node: &'c Node<'a>) -> &'c Field
+    ensures { result.now ≡ (united node.entry.now.group).node }
+{
+    match &node.item {
+        Some(item) => item,
+        None => &node.group.first.node,
+    }
+}
