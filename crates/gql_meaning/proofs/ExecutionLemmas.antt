@@ -8,11 +8,11 @@ use Rattle.gql_base.specs.declared.value.Value.TheVariants as value
 use Rattle.gql_doc.specs.declared.document.Field.{Field}
 use Rattle.gql_doc.specs.declared.document.Positioned.{Positioned}
 use Rattle.gql_meaning.proofs.CompletionLemmas.{absent_fits, leaf_fits, shape_fits}
-use Rattle.gql_meaning.specs.Counted.{asked_count, count_at, one_if, parents_in, total}
+use Rattle.gql_meaning.specs.Counted.{asked_count, count_at, counting, one_if, parents_in, total}
 use Rattle.gql_meaning.specs.Execution.{answered_outcome, asking, asking_at, Asking, Execution, field_outcome, is_typename, named_outcome, setting_in, typename_outcome}
 use Rattle.gql_meaning.specs.Responses.{Asked, kept_in, kept_reading, query_merged, root_asking, world_after, world_of}
 use Rattle.gql_meaning.specs.TableSetting.{declared_arguments, field_in, objects_of}
-use Rattle.gql_place.specs.Answered.{answered}
+use Rattle.gql_place.specs.Answered.{answering}
 use Rattle.gql_place.specs.Filled.{objects_in}
 use Rattle.gql_place.specs.Laws.{AreFitting}
 use Rattle.gql_place.specs.declared.shape.Shape.{the_lemmas}
@@ -48,7 +48,7 @@ module _ {V : Type 0} (is_root : Bool) (execution : Execution) (answer : Call V 
 
   named_fits : (is_name : Bool) (object : List ℕ) (asked : Option (Asking V)) (objects : List (List ℕ)) (inner : List ℕ)
       → ((inner : List ℕ) → Contains (objects_in (answered_outcome is_root execution answer asked).shape) inner → Contains objects inner)
-      → Contains (objects_in (cond is_name (typename_outcome is_root execution object) (answered_outcome is_root execution answer asked)).shape) inner
+      → Contains (objects_in (cond is_name (typename_outcome object) (answered_outcome is_root execution answer asked)).shape) inner
       → Contains objects inner
   named_fits true object asked objects inner otherwise at = leaf_fits V objects (value.String object) inner at
   named_fits false object asked objects inner otherwise at = otherwise inner at
@@ -93,7 +93,7 @@ module _ {V : Type 0} (execution : Execution) (answer : Call V → Answer V) (on
   nothing_asked is_root object parent name arguments = rw (or_true execution.only_introspection (is_typename name) only) refl
 
   none_beneath : (is_name : Bool) (object : List ℕ) (asked : Option (Asking V)) → asked ≡ None
-      → parents_in (cond is_name (typename_outcome false execution object) (answered_outcome false execution answer asked)).shape ≡ []
+      → parents_in (cond is_name (typename_outcome object) (answered_outcome false execution answer asked)).shape ≡ []
   none_beneath true object asked none = parents-Leaf (value.String object)
   none_beneath false object asked none =
       ap (λ a. parents_in (answered_outcome false execution answer a).shape) none ∙ parents-Absent
@@ -117,7 +117,7 @@ module _ {V : Type 0} (execution : Execution) (answer : Call V → Answer V) (on
   asks_nothing zero asked = refl
   asks_nothing (suc levels) asked =
       none_in_all asked.object asked.parent
-      (λ f inner parent. grouped (kept_reading execution) (count_at execution answer) levels inner parent ((kept_reading execution).set f))
+      (λ f inner parent. grouped (counting execution answer) levels inner parent ((kept_reading execution).set f))
       (merged (kept_reading execution) ((kept_reading execution).fields asked.object (kept_in execution asked)))
 
   -- two functions of answers give a field the same outcome
@@ -126,14 +126,14 @@ module _ {V : Type 0} (execution : Execution) (answer : Call V → Answer V) (on
   outcomes_same other is_root object parent f =
       let arguments : List (List ℕ × Value) = constants execution.known (declared_arguments execution.schema object (name_of f)) (arguments_of f) in
       let none : asking is_root execution object parent (name_of f) arguments ≡ None = nothing_asked is_root object parent (name_of f) arguments in
-      ap (λ a. cond (is_typename (name_of f)) (typename_outcome is_root execution object) (answered_outcome is_root execution answer a)) none
-      ∙ sym (ap (λ a. cond (is_typename (name_of f)) (typename_outcome is_root execution object) (answered_outcome is_root execution other a)) none)
+      ap (λ a. cond (is_typename (name_of f)) (typename_outcome object) (answered_outcome is_root execution answer a)) none
+      ∙ sym (ap (λ a. cond (is_typename (name_of f)) (typename_outcome object) (answered_outcome is_root execution other a)) none)
 
   pub needs_no_answer : (other : Call V → Answer V) (levels : ℕ) (asked : Asked V) → query_merged execution answer levels asked ≡ query_merged execution other levels asked
   needs_no_answer other levels asked =
-      λ i. grouped (kept_reading execution)
-      (answered (λ field. field.pos) (λ object parent field. outcomes_same other false object parent field i)) levels asked.object
-      asked.parent (kept_in execution asked)
+      λ i. grouped
+      (answering (kept_reading execution) (λ field. field.pos) (λ object parent field. outcomes_same other false object parent field i)) levels
+      asked.object asked.parent (kept_in execution asked)
 
 module _ {V W : Type 0} (execution : Execution) (effect : Call V → W → W) (asked : Asked V) (only : execution.only_introspection ≡ true) where
   root_asks_nothing : (f : Positioned Field) → root_asking execution asked f ≡ None

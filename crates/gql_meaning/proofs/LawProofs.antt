@@ -10,7 +10,7 @@ use Rattle.gql_meaning.specs.Execution.{field_outcome, named_outcome, setting_in
 use Rattle.gql_meaning.specs.Laws.{CompletionFits, IntrospectionAsksNothing, IntrospectionChangesNoWorld, IntrospectionNeedsNoAnswer, MutationApartIsMerged, OnlyAnswersChangeWorlds, QueryApartIsMerged}
 use Rattle.gql_meaning.specs.Responses.{asking_keys, kept_in, kept_reading, root_asking, root_keys, world_after, world_of}
 use Rattle.gql_meaning.specs.TableSetting.{declared_arguments}
-use Rattle.gql_place.proofs.LawProofs.{answering, documents_apart_are_merged, mutation_places_apart_are_merged}
+use Rattle.gql_place.proofs.LawProofs.{is_answering, documents_apart_are_merged, mutation_places_apart_are_merged}
 use Rattle.gql_resolve.specs.declared.field_value.FieldValue.{FieldValue}
 use Rattle.gql_select.proofs.ConflictLemmas.{agree_from}
 use Rattle.gql_select.proofs.DocumentLemmas.{is_reading}
@@ -32,9 +32,9 @@ mutation_apart_is_merged V W E = λ execution answer effect told levels asked wo
     mutation_places_apart_are_merged (List ℕ) (FieldValue V) (Positioned Field) (Positioned Selection) W (kept_reading execution)
     (is_reading (kept_setting execution.known (setting_in execution))) (world_after execution effect asked) (λ field. field.pos)
     (λ w. field_outcome true execution (λ call. answer call w)) (λ w. field_outcome false execution (λ call. answer call w))
-    (λ w. answering execution.known (setting_in execution) (declared_arguments execution.schema) (named_outcome true execution (λ call. answer call w))
+    (λ w. is_answering execution.known (setting_in execution) (declared_arguments execution.schema) (named_outcome true execution (λ call. answer call w))
     (are_fitting true execution (λ call. answer call w)))
-    (λ w. answering execution.known (setting_in execution) (declared_arguments execution.schema) (named_outcome false execution (λ call. answer call w))
+    (λ w. is_answering execution.known (setting_in execution) (declared_arguments execution.schema) (named_outcome false execution (λ call. answer call w))
     (are_fitting false execution (λ call. answer call w)))
     levels asked.object asked.parent (kept_in execution asked) world
     (agree_kept execution.known (setting_in execution) (suc levels) asked.object asked.selections asked.selections

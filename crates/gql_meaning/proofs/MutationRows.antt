@@ -1,5 +1,5 @@
 -- A whole mutation, computed from a document to its response and its last world. The world is one number.
-use Rattle.std.proofs.Common.{rules, ◌≡◌, ℕ, pos, true, false, ◌+◌, ◌==◌, [], ◌∷◌, Some, None, unwrap_or, ap, ◌∙◌}
+use Rattle.std.proofs.Common.{rules, ◌≡◌, ℕ, pos, true, false, ◌+◌, ◌==◌, List, [], ◌∷◌, Some, None, unwrap_or, ap, ◌∙◌}
 use Rattle.std.specs.Prelude.{codes, if◌then◌else◌, option_and_then}
 use Rattle.gql_base.specs.Kinds.{unsigned_number_of}
 use Rattle.gql_base.specs.Pairs.{under}
@@ -9,24 +9,26 @@ use Rattle.gql_base.specs.declared.value.Value.{the_lemmas as value_lemmas}
 use Rattle.gql_base.specs.declared.value.Value.TheVariants as value
 use Rattle.gql_doc.specs.declared.document.DocValue.{the_lemmas as doc_lemmas}
 use Rattle.gql_doc.specs.declared.document.DocValue.TheVariants as doc
-use Rattle.gql_doc.specs.declared.document.Field.{out-Field, roll-Field}
+use Rattle.gql_doc.specs.declared.document.Field.{Field, out-Field, roll-Field}
 use Rattle.gql_doc.specs.declared.document.InlineFragment.{out-InlineFragment, roll-InlineFragment}
-use Rattle.gql_doc.specs.declared.document.Selection.{out-Selection}
+use Rattle.gql_doc.specs.declared.document.Positioned.{Positioned}
+use Rattle.gql_doc.specs.declared.document.Selection.{out-Selection, Selection}
 use Rattle.gql_doc.specs.declared.document.Selection.TheBlock.{shown-the_row-SelectionSet-items-2-0}
 use denote.Hole.Carrier.{out, roll, shown, hidden}
 use Rattle.gql_meaning.specs.Execution.{Execution, setting_in}
 use Rattle.gql_meaning.specs.Responses.{Asked, last_world, Members, mutation_merged, placed as place_of, Response, response, world_after}
+use Rattle.gql_place.specs.declared.place.Place.{Place}
 use Rattle.gql_place.specs.declared.place.Tree.{the_lemmas as tree_lemmas}
 use Rattle.gql_place.specs.declared.shape.Shape.{the_lemmas as shape_lemmas}
 use Rattle.gql_resolve.specs.Call.{Call}
 use Rattle.gql_resolve.specs.declared.answer.Answer.{Answer}
-use Rattle.gql_resolve.specs.declared.field_value.FieldValue.{the_lemmas as given_lemmas}
+use Rattle.gql_resolve.specs.declared.field_value.FieldValue.{FieldValue, the_lemmas as given_lemmas}
 use Rattle.gql_resolve.specs.declared.field_value.FieldValue.TheVariants as kind
 use Rattle.gql_schema.specs.TableReading.{TypeTable}
 use Rattle.gql_schema.specs.declared.scalar_rule.ScalarRule.TheVariants as rules_of
 use Rattle.gql_schema.specs.declared.schema_type.SchemaType.TheVariants as types
 use Rattle.gql_select.specs.Documents.{reading}
-use Rattle.gql_select.specs.Grouped.{serial_grouped, world_behind}
+use Rattle.gql_select.specs.Grouped.{Mutating, serial_grouped, world_behind}
 use Rattle.gql_select.specs.Kept.{kept}
 use Rattle.gql_select.specs.Reading.{merged}
 use Rattle.gql_meaning.proofs.Written.{answered_by, argument, at, given_field, gives_number, keeps_field, leaf, object_of, over_table, placed, Selections, set}
@@ -71,20 +73,21 @@ bumping = record { object = codes "Mutation"; parent = kind.Own 0; selections = 
 kept_bumps : kept cells.known bumps ≡ bumps
 kept_bumps = search (rules, keeps_field) depth 12
 
--- the members, without looking for `@skip` and `@include`
+-- how the mutation is answered, without looking for `@skip` and `@include`
+abbrev bumping_cells : Mutating (List ℕ) (FieldValue ℕ) (Positioned Field) (Positioned Selection) Place ℕ
+bumping_cells = record {
+  reading = reading (setting_in cells);
+  effect = world_after cells effect bumping;
+  root = λ cell. place_of cells true (λ call. answer call cell);
+  place = λ cell. place_of cells false (λ call. answer call cell);
+}
+
+-- the members, so read
 abbrev members : Members
-members =
-    serial_grouped (reading (setting_in cells)) (world_after cells effect bumping)
-    (λ cell. place_of cells true (λ call. answer call cell))
-    (λ cell. place_of cells false (λ call. answer call cell))
-    4 (codes "Mutation") (kind.Own 0) bumps 0
+members = serial_grouped bumping_cells 4 (codes "Mutation") (kind.Own 0) bumps 0
 
 members_are : mutation_merged cells effect answer 4 bumping 0 ≡ members
-members_are =
-    ap (λ left. serial_grouped (reading (setting_in cells)) (world_after cells effect bumping)
-    (λ cell. place_of cells true (λ call. answer call cell))
-    (λ cell. place_of cells false (λ call. answer call cell))
-    4 (codes "Mutation") (kind.Own 0) left 0) kept_bumps
+members_are = ap (λ left. serial_grouped bumping_cells 4 (codes "Mutation") (kind.Own 0) left 0) kept_bumps
 
 abbrev bumped : Response
 bumped = record {

@@ -13,7 +13,7 @@ use Rattle.gql_meaning.specs.Responses.{Members, response}
 use Rattle.gql_meaning.specs.TableSetting.{setting_of}
 use Rattle.gql_base.specs.declared.error.Error.{Error}
 use Rattle.gql_base.specs.declared.path_segment.PathSegment.TheVariants.{Field}
-use Rattle.gql_place.specs.Answered.{answered}
+use Rattle.gql_place.specs.Answered.{answering}
 use Rattle.gql_place.specs.Faults.{located}
 use Rattle.gql_place.specs.Filled.{Outcome}
 use Rattle.gql_place.specs.Join.{join}
@@ -135,7 +135,7 @@ typename_in_introspection : (answer : Call ℕ → Answer ℕ)
     → (named_outcome false (execution true) answer (codes "Q") own (codes "__typename") []).shape ≡ shape.Leaf (value.String (codes "Q"))
 typename_in_introspection answer = refl
 
-absent_in_introspection : (answer : Call ℕ → Answer ℕ) → named_outcome false (execution true) answer (codes "Q") own (codes "n") [] ≡ absent_outcome false (execution true)
+absent_in_introspection : (answer : Call ℕ → Answer ℕ) → named_outcome false (execution true) answer (codes "Q") own (codes "n") [] ≡ absent_outcome
 absent_in_introspection answer = refl
 
 -- the query root has the field of entities, where they are on, and other objects haven't
@@ -194,10 +194,10 @@ abbrev comes : ℕ → ℕ → Occurrence × List Occurrence → Outcome ℕ ℕ
 comes object parent f = record { non_null = false; added = []; headers = []; shape = shape_at f.0 }
 
 abbrev merged_members : Members
-merged_members = grouped doubled (answered (λ f. place) comes) 2 0 0 (o_first ∷ o_second ∷ [])
+merged_members = grouped (answering doubled (λ f. place) comes) 2 0 0 (o_first ∷ o_second ∷ [])
 
 abbrev apart_members : Members
-apart_members = respond doubled (answered (λ f. place) comes) join 2 0 0 (o_first ∷ o_second ∷ [])
+apart_members = respond (answering doubled (λ f. place) comes) join 2 0 0 (o_first ∷ o_second ∷ [])
 
 abbrev data_due : Value
 data_due = value.Object ((codes "o", value.Object ((codes "x", value.Number (pos 1)) ∷ (codes "y", value.Null) ∷ [])) ∷ [])

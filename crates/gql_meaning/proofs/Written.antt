@@ -31,7 +31,7 @@ use Rattle.gql_schema.specs.TableReading.{TypeTable}
 use Rattle.gql_schema.specs.declared.field.Field.{Field as ObjectField}
 use Rattle.gql_schema.specs.declared.schema_type.SchemaType.{SchemaType}
 use Rattle.gql_schema.specs.declared.schema_type.SchemaType.TheVariants as types
-use Rattle.gql_select.specs.Documents.{reading}
+use Rattle.gql_select.specs.Documents.{placing_by}
 use Rattle.gql_select.specs.Grouped.{grouped, respond}
 use Rattle.gql_select.specs.Kept.{if_kept, is_kept, kept, kept_fragments, kept_field, kept_if, kept_inline, kept_selection, kept_set, others}
 
@@ -136,12 +136,12 @@ apart_response execution answers selections =
 abbrev pub merged_of : Execution → List (Answer ℕ) → Selections → Response
 merged_of execution answers left =
     response (at 1)
-    (grouped (reading (setting_in execution)) (place_of execution false (by_number answers)) 4 (codes "Query") (kind.Own 0) left)
+    (grouped (placing_by (setting_in execution) (place_of execution false (by_number answers))) 4 (codes "Query") (kind.Own 0) left)
 
 abbrev pub apart_of : Execution → List (Answer ℕ) → Selections → Response
 apart_of execution answers left =
     response (at 1)
-    (respond (reading (setting_in execution)) (place_of execution false (by_number answers)) join 4 (codes "Query") (kind.Own 0) left)
+    (respond (placing_by (setting_in execution) (place_of execution false (by_number answers))) join 4 (codes "Query") (kind.Own 0) left)
 
 module _ (execution : Execution) (answers : List (Answer ℕ)) (selections left : Selections)
     (fragments_stay : kept_fragments execution.known execution.fragments ≡ execution.fragments)
@@ -149,13 +149,13 @@ module _ (execution : Execution) (answers : List (Answer ℕ)) (selections left 
   pub merged_is : merged_response execution answers selections ≡ merged_of execution answers left
   merged_is = λ i.
       response (at 1)
-      (grouped (reading (record (setting_in execution) { fragments = fragments_stay i })) (place_of execution false (by_number answers)) 4
+      (grouped (placing_by (record (setting_in execution) { fragments = fragments_stay i }) (place_of execution false (by_number answers))) 4
       (codes "Query") (kind.Own 0) (is_left i))
 
   pub apart_is : apart_response execution answers selections ≡ apart_of execution answers left
   apart_is = λ i.
       response (at 1)
-      (respond (reading (record (setting_in execution) { fragments = fragments_stay i })) (place_of execution false (by_number answers)) join 4
+      (respond (placing_by (record (setting_in execution) { fragments = fragments_stay i }) (place_of execution false (by_number answers))) join 4
       (codes "Query") (kind.Own 0) (is_left i))
 
 -- What is kept where nothing is to be skipped.

@@ -4,6 +4,7 @@ use Rattle.std.specs.List.{flat_map}
 use Rattle.gql_base.specs.Pairs.{values_of}
 use Rattle.gql_doc.specs.declared.document.Field.{Field}
 use Rattle.gql_doc.specs.declared.document.Positioned.{Positioned}
+use Rattle.gql_doc.specs.declared.document.Selection.{Selection}
 use Rattle.gql_meaning.specs.Execution.{Asking, Execution, field_asking, field_outcome}
 use Rattle.gql_meaning.specs.Responses.{Asked, kept_in, kept_reading}
 use Rattle.gql_place.specs.declared.shape.Shape.{Shape}
@@ -12,7 +13,7 @@ use Rattle.gql_place.specs.declared.shape.Shape.TheFolds.{fold-Shape}
 use Rattle.gql_resolve.specs.Call.{Call}
 use Rattle.gql_resolve.specs.declared.answer.Answer.{Answer}
 use Rattle.gql_resolve.specs.declared.field_value.FieldValue.{FieldValue}
-use Rattle.gql_select.specs.Grouped.{grouped}
+use Rattle.gql_select.specs.Grouped.{Beneath, grouped, Placing}
 
 -- the sum of numbers
 abbrev pub total : List ℕ → ℕ
@@ -39,14 +40,17 @@ module _ {V : Type 0} (execution : Execution) (answer : Call V → Answer V) whe
   one_if (Some asking) = 1
 
   -- what is asked for a field, and for all beneath it
-  abbrev pub count_at : List ℕ → FieldValue V → Positioned Field → (List ℕ → FieldValue V → List (List ℕ × ℕ)) → ℕ
+  abbrev pub count_at : List ℕ → FieldValue V → Positioned Field → Beneath (List ℕ) (FieldValue V) ℕ → ℕ
   count_at object parent field below =
       one_if (field_asking false execution object parent field)
       + total (map (λ inner. total (values_of (below inner.0 inner.1)))
       (parents_in (field_outcome false execution answer object parent field).shape))
 
+  -- fields become numbers as they become places
+  abbrev pub counting : Placing (List ℕ) (FieldValue V) (Positioned Field) (Positioned Selection) ℕ
+  counting = record { reading = kept_reading execution; place = count_at }
+
   -- the number of answers that a query asks
   abbrev pub asked_count : ℕ → Asked V → ℕ
   asked_count levels asked =
-      total (values_of (grouped (kept_reading execution) count_at levels asked.object asked.parent
-      (kept_in execution asked)))
+      total (values_of (grouped counting levels asked.object asked.parent (kept_in execution asked)))

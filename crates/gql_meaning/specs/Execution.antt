@@ -43,6 +43,16 @@ setting_in execution = setting_of execution.schema execution.fragments execution
 abbrev pub is_typename : List ℕ → Bool
 is_typename name = bytes_eq name (codes "__typename")
 
+module _ {V : Type 0} where
+  -- the name of an object, which is never null
+  abbrev pub typename_outcome : List ℕ → Outcome (List ℕ) (FieldValue V)
+  typename_outcome object =
+      record { non_null = true; added = []; headers = []; shape = shape.Leaf (value.String object) }
+
+  -- where nothing is asked nothing stands, which is null (admission lets no unknown field through)
+  abbrev pub absent_outcome : Outcome (List ℕ) (FieldValue V)
+  absent_outcome = record { non_null = false; added = []; headers = []; shape = shape.Absent }
+
 -- an answer that is asked: its call, and the type that it is completed at
 pub record Asking (V : Type 0) : Type 0 where
   pub call : Call V
@@ -69,15 +79,6 @@ module _ {V : Type 0} (is_root : Bool) (execution : Execution) where
   field_asking object parent field =
       asking object parent (name_of field)
       (constants execution.known (declared_arguments execution.schema object (name_of field)) (arguments_of field))
-
-  -- the name of an object, which is never null
-  abbrev pub typename_outcome : List ℕ → Outcome (List ℕ) (FieldValue V)
-  typename_outcome object =
-      record { non_null = true; added = []; headers = []; shape = shape.Leaf (value.String object) }
-
-  -- where nothing is asked nothing stands, which is null (admission lets no unknown field through)
-  abbrev pub absent_outcome : Outcome (List ℕ) (FieldValue V)
-  absent_outcome = record { non_null = false; added = []; headers = []; shape = shape.Absent }
 
   module _ (answer : Call V → Answer V) where
     -- what an answer comes to at its type, where one is asked

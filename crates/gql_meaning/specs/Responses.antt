@@ -20,7 +20,8 @@ use Rattle.gql_resolve.specs.Call.{Call}
 use Rattle.gql_resolve.specs.declared.answer.Answer.{Answer}
 use Rattle.gql_resolve.specs.declared.field_value.FieldValue.{FieldValue}
 use Rattle.gql_select.specs.Documents.{reading}
-use Rattle.gql_select.specs.Grouped.{grouped, respond, serial_grouped, serial_respond, world_behind}
+use Rattle.gql_select.specs.Grouped.{Beneath, grouped, Mutating, Placing, respond}
+use Rattle.gql_select.specs.Grouped.{serial_grouped, serial_respond, world_behind}
 use Rattle.gql_select.specs.Kept.{kept, kept_setting}
 use Rattle.gql_select.specs.Reading.{merged, Reading}
 
@@ -45,19 +46,21 @@ kept_in execution asked = kept execution.known asked.selections
 module _ {V : Type 0} (execution : Execution) where
   -- the place of an occurrence with an answer of its own, given what is beneath its objects
   abbrev pub placed : Bool → (Call V → Answer V) → List ℕ → FieldValue V → Positioned Field
-      → (List ℕ → FieldValue V → Members) → Place
+      → Beneath (List ℕ) (FieldValue V) Place → Place
   placed is_root answer = answered (λ field. field.pos) (field_outcome is_root execution answer)
+
+  -- how fields become places, by these answers
+  abbrev pub placing : (Call V → Answer V) → Placing (List ℕ) (FieldValue V) (Positioned Field) (Positioned Selection) Place
+  placing answer = record { reading = kept_reading execution; place = placed false answer }
 
   module _ (answer : Call V → Answer V) (levels : ℕ) (asked : Asked V) where
     -- ExecuteQuery: the members of the root, each key answered once
     abbrev pub query_merged : Members
-    query_merged = grouped (kept_reading execution) (placed false answer) levels asked.object asked.parent
-        (kept_in execution asked)
+    query_merged = grouped (placing answer) levels asked.object asked.parent (kept_in execution asked)
 
     -- the same, each occurrence answered apart
     abbrev pub query_apart : Members
-    query_apart = respond (kept_reading execution) (placed false answer) join levels asked.object asked.parent
-        (kept_in execution asked)
+    query_apart = respond (placing answer) join levels asked.object asked.parent (kept_in execution asked)
 
   -- what an occurrence at the root of a mutation asks
   abbrev pub root_asking : Asked V → Positioned Field → Option (Asking V)
@@ -90,20 +93,26 @@ module _ {V : Type 0} (execution : Execution) where
     abbrev pub world_behind_first : ℕ → Asked V → W → W
     world_behind_first count asked world = world_behind (world_after asked) world (take count (asking_keys asked))
 
+    -- how a mutation is answered: the root in each world, and what is beneath it
+    abbrev pub mutating : (Call V → W → Answer V) → Asked V
+        → Mutating (List ℕ) (FieldValue V) (Positioned Field) (Positioned Selection) Place W
+    mutating answer asked = record {
+      reading = kept_reading execution;
+      effect = world_after asked;
+      root = λ world. placed true (λ call. answer call world);
+      place = λ world. placed false (λ call. answer call world);
+    }
+
     module _ (answer : Call V → W → Answer V) (levels : ℕ) (asked : Asked V) (world : W) where
       -- ExecuteMutation: the root keys one after another, each answered in the world that those before it left
       abbrev pub mutation_merged : Members
       mutation_merged =
-          serial_grouped (kept_reading execution) (world_after asked) (λ w. placed true (λ call. answer call w))
-          (λ w. placed false (λ call. answer call w))
-          levels asked.object asked.parent (kept_in execution asked) world
+          serial_grouped (mutating answer asked) levels asked.object asked.parent (kept_in execution asked) world
 
       -- the same, each occurrence below the root answered apart
       abbrev pub mutation_apart : Members
       mutation_apart =
-          serial_respond (kept_reading execution) (world_after asked) (λ w. placed true (λ call. answer call w))
-          (λ w. placed false (λ call. answer call w))
-          join levels asked.object asked.parent (kept_in execution asked) world
+          serial_respond (mutating answer asked) join levels asked.object asked.parent (kept_in execution asked) world
 
 -- the place of a whole response: its data may be null
 abbrev pub root_place : Pos → Members → Place

@@ -61,7 +61,7 @@ module _ {V : Type 0} (is_root : Bool) (execution : Execution) (parent : FieldVa
 
     of_tests : (only is_name : Bool) (asking : Option (Asking V)) (a : Asks)
         → answered_outcome is_root execution answer asking ≡ outcome_by is_root execution answer object parent a
-        → cond is_name (typename_outcome is_root execution object) (answered_outcome is_root execution answer (cond (only || is_name) None asking))
+        → cond is_name (typename_outcome object) (answered_outcome is_root execution answer (cond (only || is_name) None asking))
         ≡ outcome_by is_root execution answer object parent (cond is_name asks.Typename (cond only asks.Nothing a))
     of_tests true true asking a is = refl
     of_tests true false asking a is = refl

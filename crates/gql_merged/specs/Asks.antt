@@ -58,8 +58,8 @@ asking_by is_root layers parent (asks.Call resolver ty arguments) = Some (record
 
 -- what is asked comes to this, with these answers: the object's name, nothing, or what the answer comes to at its type
 abbrev pub outcome_by : {V : Type 0} → Bool → Execution → (Call V → Answer V) → List ℕ → FieldValue V → Asks → Outcome (List ℕ) (FieldValue V)
-outcome_by is_root execution answer object parent asks.Typename = typename_outcome is_root execution object
-outcome_by is_root execution answer object parent asks.Nothing = absent_outcome is_root execution
+outcome_by is_root execution answer object parent asks.Typename = typename_outcome object
+outcome_by is_root execution answer object parent asks.Nothing = absent_outcome
 outcome_by is_root execution answer object parent (asks.Call resolver ty arguments) =
     outcome_at execution.schema.table ty
     (answer (record { is_root = is_root; resolver = resolver; parent = parent; arguments = arguments; layers = execution.layers }))

@@ -9,7 +9,7 @@ use Rattle.gql_resolve.specs.Call.{Call}
 use Rattle.gql_resolve.specs.declared.answer.Answer.{Answer}
 use Rattle.gql_resolve.specs.declared.field_value.FieldValue.{FieldValue}
 use Rattle.gql_select.specs.Collected.{own_selections}
-use Rattle.gql_select.specs.Documents.{reading}
+use Rattle.gql_select.specs.Documents.{placing_by}
 use Rattle.gql_select.specs.Grouped.{grouped}
 use Rattle.gql_merged.specs.Assembled.{place_of_job}
 use Rattle.gql_merged.specs.Basis.{execution_of, setting_by}
@@ -20,7 +20,7 @@ module _ {V : Type 0} (basis : Basis) (answer : Call V → Answer V) where
   -- the members of an object, each key answered once, so many levels of sets deep
   abbrev pub merged_members : ℕ → List ℕ → FieldValue V → List (Positioned Selection) → Members
   merged_members n object parent selections =
-      grouped (reading (setting_by basis)) (placed (execution_of basis) false answer) n object parent selections
+      grouped (placing_by (setting_by basis) (placed (execution_of basis) false answer)) n object parent selections
 
   -- those beneath a field
   abbrev pub merged_beneath : ℕ → Positioned Field → List ℕ → FieldValue V → Members

@@ -3,7 +3,7 @@ use Rattle.std.proofs.Common.{◌≡◌, ℕ, List, ap, sym, ◌∙◌}
 use Rattle.gql_base.specs.Pairs.{unite_all}
 use Rattle.gql_base.specs.declared.pos.Pos.{Pos}
 use Rattle.gql_place.specs.declared.place.Place.{Place}
-use Rattle.gql_place.specs.Answered.{answered, IsAnswering}
+use Rattle.gql_place.specs.Answered.{answering, IsAnswering}
 use Rattle.gql_place.specs.Filled.{Outcome, place_with}
 use Rattle.gql_select.specs.Grouped.{IsPlacing}
 use Rattle.gql_place.specs.Join.{join}
@@ -19,7 +19,7 @@ module _ {O P : Type 0} where
       ∙ (λ i. record { pos = one; non_null = outcome.non_null; added = outcome.added; headers = outcome.headers; tree = filled_both one other b c outcome.shape i })
 
 module _ {O P F X : Type 0} (reading : Reading O F X) (pos : F → Pos) (outcome : O → P → F → Outcome O P) (is : IsAnswering reading pos outcome) where
-  pub answered_places : IsPlacing reading (answered pos outcome) join
+  pub answered_places : IsPlacing (answering reading pos outcome) join
   answered_places = record {
     same = λ o p f b c same. λ i. record {
       pos = pos f;

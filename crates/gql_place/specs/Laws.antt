@@ -15,7 +15,7 @@ use Rattle.gql_select.specs.Documents.{reading}
 use Rattle.gql_select.specs.Grouped.{grouped, respond, serial_grouped, serial_respond}
 use Rattle.gql_select.specs.Kept.{kept, kept_setting}
 use Rattle.gql_select.specs.Reading.{IsReading, Reading}
-use Rattle.gql_place.specs.Answered.{answered, IsAnswering}
+use Rattle.gql_place.specs.Answered.{answering, mutating, IsAnswering}
 use Rattle.gql_place.specs.Filled.{Outcome, objects_in}
 use Rattle.gql_place.specs.Join.{join}
 use Rattle.gql_place.specs.KeysApart.{has_keys_apart}
@@ -27,8 +27,7 @@ PlacesApartAreMerged O P F X =
     (reading : Reading O F X) → IsReading reading → (pos : F → Pos) (outcome : O → P → F → Outcome O P)
     → IsAnswering reading pos outcome
     → (n : ℕ) (o : O) (p : P) (set : List X) → Agree reading n o set set
-    → respond reading (answered pos outcome) join n o p set
-    ≡ grouped reading (answered pos outcome) n o p set
+    → respond (answering reading pos outcome) join n o p set ≡ grouped (answering reading pos outcome) n o p set
 
 -- the same of a mutation, in whose worlds answers differ
 abbrev pub MutationPlacesApartAreMerged : (O P F X W : Type 0) → Type 0
@@ -37,10 +36,8 @@ MutationPlacesApartAreMerged O P F X W =
     (root outcome : W → O → P → F → Outcome O P)
     → ((world : W) → IsAnswering reading pos (root world)) → ((world : W) → IsAnswering reading pos (outcome world))
     → (n : ℕ) (o : O) (p : P) (set : List X) (world : W) → Agree reading (suc n) o set set
-    → serial_respond reading effect (λ w. answered pos (root w))
-    (λ w. answered pos (outcome w)) join n o p set world
-    ≡ serial_grouped reading effect (λ w. answered pos (root w))
-    (λ w. answered pos (outcome w)) n o p set world
+    → serial_respond (mutating reading effect pos root outcome) join n o p set world
+    ≡ serial_grouped (mutating reading effect pos root outcome) n o p set world
 
 -- what a request's fields come to: an answer is asked of an object, its value, a field's name and the values of its arguments
 module _ {P : Type 0} (answer : List ℕ → P → List ℕ → List (List ℕ × Value) → Outcome (List ℕ) P) where
@@ -68,9 +65,5 @@ DocumentsApartAreMerged P E =
     → AreFitting answer setting
     → (told : Positioned Field → E) (n : ℕ) (o : List ℕ) (p : P) (set : List (Positioned Selection))
     → conflicts (reading setting) told n o set ≡ []
-    → respond (reading (kept_setting known setting))
-    (answered (λ f. f.pos) (outcome_of answer known declared))
-    join n o p (kept known set)
-    ≡ grouped (reading (kept_setting known setting))
-    (answered (λ f. f.pos) (outcome_of answer known declared))
-    n o p (kept known set)
+    → respond (answering (reading (kept_setting known setting)) (λ f. f.pos) (outcome_of answer known declared)) join n o p (kept known set)
+    ≡ grouped (answering (reading (kept_setting known setting)) (λ f. f.pos) (outcome_of answer known declared)) n o p (kept known set)

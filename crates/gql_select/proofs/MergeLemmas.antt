@@ -7,7 +7,7 @@ use Rattle.std.proofs.lemmas.List.Elements.{Contains-append_right}
 use Rattle.std.proofs.lemmas.List.{append_assoc}
 use Rattle.gql_base.specs.Pairs.{under, unite, unite_all, HasDistinctNames}
 use Rattle.gql_select.specs.Reading.{Reading, IsReading, over, keyed, merged}
-use Rattle.gql_select.specs.Grouped.{grouped, respond, IsPlacing}
+use Rattle.gql_select.specs.Grouped.{Beneath, grouped, respond, respond_by, IsPlacing, Placing}
 use Rattle.gql_select.specs.Conflicts.{Agree}
 use Rattle.gql_select.proofs.UnitingLemmas.{EachUnder, Meet, Among, over_united, meet_united, meet_united_left, each_united, among_distinct, distinct_united, unite_all_into, unite_all-append}
 use Rattle.gql_select.proofs.AgreeLemmas.{in_left, in_right, agree_left_one, agree_left_two, agree_right_one, agree_right_two, agree_left, agree_right, agree_whole}
@@ -114,68 +114,68 @@ module _ {O F X : Type 0} (reading : Reading O F X) (is : IsReading reading) whe
     meet_in set agree (f ∷ fs) gs one other =
         (each_fits set agree f (one f (first_in f fs)) gs other, meet_in set agree fs gs (λ h at. one h (later_in f h fs at)) other)
 
-module _ {O P F X Pl : Type 0} (reading : Reading O F X) (is : IsReading reading) (place : O → P → F → (O → P → List (List ℕ × Pl)) → Pl)
-    (join : Pl → Pl → Pl) (placing : IsPlacing reading place join) where
+module _ {O P F X Pl : Type 0} (placing : Placing O P F X Pl) (is : IsReading placing.reading) (join : Pl → Pl → Pl)
+    (law : IsPlacing placing join) where
   -- the place of a field, and what is beneath it merged
   place_at : ℕ → O → P → F → Pl
-  place_at n o p f = place o p f (λ inner parent. grouped reading place n inner parent (reading.set f))
+  place_at n o p f = placing.place o p f (λ inner parent. grouped placing n inner parent (placing.reading.set f))
 
   module _ (n : ℕ) (o : O) (p : P)
-      (below : (inner : O) (parent : P) (xs ys : List X) → Agree reading n inner (xs ++ ys) (xs ++ ys)
-      → grouped reading place n inner parent (xs ++ ys) ≡ unite_all join (grouped reading place n inner parent xs) (grouped reading place n inner parent ys)) where
+      (below : (inner : O) (parent : P) (xs ys : List X) → Agree placing.reading n inner (xs ++ ys) (xs ++ ys)
+      → grouped placing n inner parent (xs ++ ys) ≡ unite_all join (grouped placing n inner parent xs) (grouped placing n inner parent ys)) where
     -- the place of two fields that fit is that of each, joined
-    place_both : (f g : F) → Fit reading is n o f g → place_at n o p (reading.both f g) ≡ join (place_at n o p f) (place_at n o p g)
+    place_both : (f g : F) → Fit placing.reading is n o f g → place_at n o p (placing.reading.both f g) ≡ join (place_at n o p f) (place_at n o p g)
     unfolding place_at
     place_both f g fit =
-        placing.same o p (reading.both f g) _ _
-        (λ inner parent at. ap (grouped reading place n inner parent) (is.set_of_both f g)
-        ∙ below inner parent (reading.set f) (reading.set g) (fit.beneath inner (subst (λ os. Contains os inner) (is.objects_of_both o f g) at)))
-        ∙ sym (placing.joins o p f g _ _ fit.alike)
+        law.same o p (placing.reading.both f g) _ _
+        (λ inner parent at. ap (grouped placing n inner parent) (is.set_of_both f g)
+        ∙ below inner parent (placing.reading.set f) (placing.reading.set g) (fit.beneath inner (subst (λ os. Contains os inner) (is.objects_of_both o f g) at)))
+        ∙ sym (law.joins o p f g _ _ fit.alike)
 
     -- the places of merged fields are the joined places of the fields
-    places_united : (ps qs : List (List ℕ × F)) → Meet (Fit reading is n o) ps qs → Among (Fit reading is n o) qs
-        → over (place_at n o p) (unite_all reading.both ps qs) ≡ unite_all join (over (place_at n o p) ps) (over (place_at n o p) qs)
-    places_united ps qs meet among = over_united reading.both (Fit reading is n o) (fit_left reading is n o) join (place_at n o p) place_both ps qs meet among
+    places_united : (ps qs : List (List ℕ × F)) → Meet (Fit placing.reading is n o) ps qs → Among (Fit placing.reading is n o) qs
+        → over (place_at n o p) (unite_all placing.reading.both ps qs) ≡ unite_all join (over (place_at n o p) ps) (over (place_at n o p) qs)
+    places_united ps qs meet among = over_united placing.reading.both (Fit placing.reading is n o) (fit_left placing.reading is n o) join (place_at n o p) place_both ps qs meet among
 
-    places_both : (xs ys : List X) → Agree reading (suc n) o (xs ++ ys) (xs ++ ys)
-        → grouped reading place (suc n) o p (xs ++ ys) ≡ unite_all join (grouped reading place (suc n) o p xs) (grouped reading place (suc n) o p ys)
+    places_both : (xs ys : List X) → Agree placing.reading (suc n) o (xs ++ ys) (xs ++ ys)
+        → grouped placing (suc n) o p (xs ++ ys) ≡ unite_all join (grouped placing (suc n) o p xs) (grouped placing (suc n) o p ys)
     unfolding place_at
     places_both xs ys agree =
         let v : F → Pl = place_at n o p in
-        let one : List F = reading.fields o xs in let two : List F = reading.fields o ys in
-        let R : F → F → Type 0 = Fit reading is n o in
-        let in_one : (f : F) → Contains one f → Contains (reading.fields o (xs ++ ys)) f = in_left reading is o xs ys in
-        let in_two : (f : F) → Contains two f → Contains (reading.fields o (xs ++ ys)) f = in_right reading is o xs ys in
-        let among_one : Among R (keyed reading one) = among_in reading is n o (xs ++ ys) agree one in_one in
-        let among_two : Among R (keyed reading two) = among_in reading is n o (xs ++ ys) agree two in_two in
-        let meet : Meet R (merged reading one) (keyed reading two)
-        = meet_united_left reading.both R (fit_left reading is n o) (keyed reading one) (keyed reading two) (meet_in reading is n o (xs ++ ys) agree one two in_one in_two) among_one in
-        let meets : Meet R (merged reading one) (merged reading two)
-        = meet_united reading.both R (fit_left reading is n o) (fit_right reading is n o) (merged reading one) (keyed reading two) meet among_two in
-        ap (λ fs. over v (merged reading fs)) (is.fields_of_both o xs ys)
-        ∙ ap (λ ps. over v (unite_all reading.both [] ps)) (keyed-append reading is one two)
-        ∙ ap (over v) (unite_all-append reading.both [] (keyed reading one) (keyed reading two)
-        ∙ sym (unite_all_into reading.both is.both_of_both (merged reading one) [] (keyed reading two) tt))
-        ∙ places_united (merged reading one) (merged reading two) meets (among_distinct R (merged reading two) (distinct_united reading.both [] (keyed reading two) tt))
+        let one : List F = placing.reading.fields o xs in let two : List F = placing.reading.fields o ys in
+        let R : F → F → Type 0 = Fit placing.reading is n o in
+        let in_one : (f : F) → Contains one f → Contains (placing.reading.fields o (xs ++ ys)) f = in_left placing.reading is o xs ys in
+        let in_two : (f : F) → Contains two f → Contains (placing.reading.fields o (xs ++ ys)) f = in_right placing.reading is o xs ys in
+        let among_one : Among R (keyed placing.reading one) = among_in placing.reading is n o (xs ++ ys) agree one in_one in
+        let among_two : Among R (keyed placing.reading two) = among_in placing.reading is n o (xs ++ ys) agree two in_two in
+        let meet : Meet R (merged placing.reading one) (keyed placing.reading two)
+        = meet_united_left placing.reading.both R (fit_left placing.reading is n o) (keyed placing.reading one) (keyed placing.reading two) (meet_in placing.reading is n o (xs ++ ys) agree one two in_one in_two) among_one in
+        let meets : Meet R (merged placing.reading one) (merged placing.reading two)
+        = meet_united placing.reading.both R (fit_left placing.reading is n o) (fit_right placing.reading is n o) (merged placing.reading one) (keyed placing.reading two) meet among_two in
+        ap (λ fs. over v (merged placing.reading fs)) (is.fields_of_both o xs ys)
+        ∙ ap (λ ps. over v (unite_all placing.reading.both [] ps)) (keyed-append placing.reading is one two)
+        ∙ ap (over v) (unite_all-append placing.reading.both [] (keyed placing.reading one) (keyed placing.reading two)
+        ∙ sym (unite_all_into placing.reading.both is.both_of_both (merged placing.reading one) [] (keyed placing.reading two) tt))
+        ∙ places_united (merged placing.reading one) (merged placing.reading two) meets (among_distinct R (merged placing.reading two) (distinct_united placing.reading.both [] (keyed placing.reading two) tt))
 
   -- merged execution of two sets that agree is that of each, joined
-  pub grouped_both : (n : ℕ) (o : O) (p : P) (xs ys : List X) → Agree reading n o (xs ++ ys) (xs ++ ys)
-      → grouped reading place n o p (xs ++ ys) ≡ unite_all join (grouped reading place n o p xs) (grouped reading place n o p ys)
+  pub grouped_both : (n : ℕ) (o : O) (p : P) (xs ys : List X) → Agree placing.reading n o (xs ++ ys) (xs ++ ys)
+      → grouped placing n o p (xs ++ ys) ≡ unite_all join (grouped placing n o p xs) (grouped placing n o p ys)
   grouped_both zero o p xs ys agree = refl
   grouped_both (suc n) o p xs ys agree = places_both n o p (grouped_both n) xs ys agree
 
-  over_same : {A : Type 0} (v w : F → A) (fs : List F) → ((f : F) → Contains fs f → v f ≡ w f) → over v (keyed reading fs) ≡ over w (keyed reading fs)
+  over_same : {A : Type 0} (v w : F → A) (fs : List F) → ((f : F) → Contains fs f → v f ≡ w f) → over v (keyed placing.reading fs) ≡ over w (keyed placing.reading fs)
   over_same v w [] same = refl
   over_same v w (f ∷ fs) same =
-      (λ i. (reading.key f, same f (first_in f fs) i) ∷ over_same v w fs (λ g at. same g (later_in f g fs at)) i)
+      (λ i. (placing.reading.key f, same f (first_in f fs) i) ∷ over_same v w fs (λ g at. same g (later_in f g fs at)) i)
 
   -- each occurrence answered apart and joined is each key answered once
-  pub respond_grouped : (n : ℕ) (o : O) (p : P) (set : List X) → Agree reading n o set set → respond reading place join n o p set ≡ grouped reading place n o p set
+  pub respond_grouped : (n : ℕ) (o : O) (p : P) (set : List X) → Agree placing.reading n o set set → respond placing join n o p set ≡ grouped placing n o p set
   unfolding place_at
   respond_grouped zero o p set agree = refl
   respond_grouped (suc n) o p set agree =
-      let fs : List F = reading.fields o set in
+      let fs : List F = placing.reading.fields o set in
       ap (unite_all join [])
-      (over_same (λ f. place o p f (λ inner parent. respond reading place join n inner parent (reading.set f))) (place_at n o p) fs
-      (λ f in_f. placing.same o p f _ _ (λ inner parent at. respond_grouped n inner parent (reading.set f) ((agree f f in_f in_f refl).1 inner at))))
-      ∙ sym (places_united n o p (grouped_both n) [] (keyed reading fs) tt (among_in reading is n o set agree fs (λ f at. at)))
+      (over_same (λ f. placing.place o p f (λ inner parent. respond placing join n inner parent (placing.reading.set f))) (place_at n o p) fs
+      (λ f in_f. law.same o p f _ _ (λ inner parent at. respond_grouped n inner parent (placing.reading.set f) ((agree f f in_f in_f refl).1 inner at))))
+      ∙ sym (places_united n o p (grouped_both n) [] (keyed placing.reading fs) tt (among_in placing.reading is n o set agree fs (λ f at. at)))

@@ -4,7 +4,7 @@ use Rattle.std.specs.List.{Contains, AllByRecursion}
 use Rattle.std.specs.Str.{bytes_eq}
 use Rattle.gql_base.specs.Pairs.{unite_all}
 use Rattle.gql_select.specs.Reading.{Reading, IsReading, keyed, merged}
-use Rattle.gql_select.specs.Grouped.{grouped, respond, IsPlacing, in_turn, serial_grouped, serial_respond}
+use Rattle.gql_select.specs.Grouped.{at_root, below_root, IsPlacing, in_turn, Mutating, serial_grouped, serial_respond}
 use Rattle.gql_select.specs.Conflicts.{Agree}
 use Rattle.gql_select.proofs.UnitingLemmas.{each_united}
 use Rattle.gql_select.proofs.MergeLemmas.{Fit, fit_left, among_in, first_in, later_in, respond_grouped}
@@ -39,13 +39,12 @@ in_turn_same effect one other S same world [] all = refl
 in_turn_same effect one other S same world (m ∷ ms) all =
     λ i. (m.0, same world (effect world m.1) m.1 all.0 i) ∷ in_turn_same effect one other S same (effect world m.1) ms all.1 i
 
-module _ {O P F X Pl W : Type 0} (reading : Reading O F X) (is : IsReading reading) (effect : W → F → W)
-    (root place : W → O → P → F → (O → P → List (List ℕ × Pl)) → Pl) (join : Pl → Pl → Pl)
-    (rooting : (w : W) → IsPlacing reading (root w) join) (placing : (w : W) → IsPlacing reading (place w) join) where
-  pub serial_same : (n : ℕ) (o : O) (p : P) (set : List X) (world : W) → Agree reading (suc n) o set set
-      → serial_respond reading effect root place join n o p set world ≡ serial_grouped reading effect root place n o p set world
+module _ {O P F X Pl W : Type 0} (mutating : Mutating O P F X Pl W) (is : IsReading mutating.reading) (join : Pl → Pl → Pl)
+    (rooting : (w : W) → IsPlacing (at_root mutating w) join) (placing : (w : W) → IsPlacing (below_root mutating w) join) where
+  pub serial_same : (n : ℕ) (o : O) (p : P) (set : List X) (world : W) → Agree mutating.reading (suc n) o set set
+      → serial_respond mutating join n o p set world ≡ serial_grouped mutating n o p set world
   serial_same n o p set world agree =
-      in_turn_same effect _ _ (AgreesBeneath reading is n o)
+      in_turn_same mutating.effect _ _ (AgreesBeneath mutating.reading is n o)
       (λ w v f beneath. (rooting w).same o p f _ _
-      (λ inner parent at. respond_grouped reading is (place v) join (placing v) n inner parent (reading.set f) (beneath inner at)))
-      world (merged reading (reading.fields o set)) (merged_agree reading is n o set agree)
+      (λ inner parent at. respond_grouped (below_root mutating v) is join (placing v) n inner parent (mutating.reading.set f) (beneath inner at)))
+      world (merged mutating.reading (mutating.reading.fields o set)) (merged_agree mutating.reading is n o set agree)

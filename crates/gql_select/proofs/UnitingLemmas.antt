@@ -127,6 +127,18 @@ module _ {T : Type 0} (j : T → T → T) where
   distinct_united rs [] d = d
   distinct_united rs (q ∷ qs) d = distinct_united (unite j rs q.0 q.1) qs (distinct_unite rs q.0 q.1 d)
 
+  -- pairs that don't have the first name leave the first pair as it is
+  behind_first : (p : List ℕ × T) (ps qs : List (List ℕ × T)) → under p.0 qs ≡ None → unite_all j (p ∷ ps) qs ≡ p ∷ unite_all j ps qs
+  behind_first p ps [] none = refl
+  behind_first p ps (q ∷ qs) none =
+      ap (λ rs. unite_all j rs qs) (unite_past p ps q.0 q.1 (flip_differs p.0 q.0 (absent_head p.0 q qs none)))
+      ∙ behind_first p (unite j ps q.0 q.1) qs (absent_tail p.0 q qs none)
+
+  -- pairs of distinct names have nothing to be joined
+  pub united_distinct : (qs : List (List ℕ × T)) → HasDistinctNames qs → unite_all j [] qs ≡ qs
+  united_distinct [] d = refl
+  united_distinct (q ∷ qs) d = behind_first q [] qs d.0 ∙ ap (λ rs. q ∷ rs) (united_distinct qs d.1)
+
   module _ (assoc : (a b c : T) → j (j a b) c ≡ j a (j b c)) where
     unite_into : (ps rs : List (List ℕ × T)) (k : List ℕ) (c : T) → HasDistinctNames rs
         → unite_all j ps (unite j rs k c) ≡ unite j (unite_all j ps rs) k c
@@ -148,6 +160,20 @@ module _ {T : Type 0} (j : T → T → T) where
     unite_all_into ps rs (q ∷ qs) d =
         unite_all_into ps (unite j rs q.0 q.1) qs (distinct_unite rs q.0 q.1 d)
         ∙ ap (λ xs. unite_all j xs qs) (unite_into ps rs q.0 q.1 d)
+
+module _ {A B : Type 0} (h : A → B) where
+  absent_over : (m : List ℕ) (ps : List (List ℕ × A)) → under m ps ≡ None → under m (over h ps) ≡ None
+  absent_over m [] none = refl
+  absent_over m (p ∷ ps) none =
+      either (bytes_eq m p.0) (under m (over h (p ∷ ps)) ≡ None)
+      (λ e. let found : under m (p ∷ ps) ≡ Some p.1 = rw e refl in cc)
+      (λ e. let past : under m (p ∷ ps) ≡ under m ps = rw e refl in
+      let rest : under m (over h ps) ≡ None = absent_over m ps (sym past ∙ none) in rw e rest)
+
+  -- changed values stand under the same names
+  pub distinct_over : (ps : List (List ℕ × A)) → HasDistinctNames ps → HasDistinctNames (over h ps)
+  distinct_over [] d = tt
+  distinct_over (p ∷ ps) d = (absent_over p.0 ps d.0, distinct_over ps d.1)
 
 -- a fact on each pair whose key is this one
 abbrev pub EachUnder : {T : Type 0} → List ℕ → (T → Type 0) → List (List ℕ × T) → Type 0

@@ -8,6 +8,7 @@ use Rattle.gql_doc.specs.declared.document.Selection.{Selection}
 use Rattle.gql_doc.specs.declared.document.SelectionSet.{SelectionSet, roll-SelectionSet}
 use Rattle.gql_select.specs.Alike.{alike, name_of}
 use Rattle.gql_select.specs.Collected.{Setting, collect, own_selections}
+use Rattle.gql_select.specs.Grouped.{Beneath, Placing}
 use Rattle.gql_select.specs.Reading.{Reading}
 
 -- a field with these selections for its own
@@ -32,3 +33,8 @@ reading setting = record {
   alike = alike;
   objects = λ object f. setting.beneath object (name_of f);
 }
+
+-- how the fields of a document become places, by the place of each on an object
+abbrev pub placing_by : {P Pl : Type 0} → Setting → (List ℕ → P → Positioned Field → Beneath (List ℕ) P Pl → Pl)
+    → Placing (List ℕ) P (Positioned Field) (Positioned Selection) Pl
+placing_by setting place = record { reading = reading setting; place = place }

@@ -8,10 +8,11 @@ use Rattle.gql_select.specs.Alike.{alike, arguments_of}
 use Rattle.gql_select.specs.Collected.{Setting}
 use Rattle.gql_select.specs.Conflicts.{Agree, conflicts}
 use Rattle.gql_select.specs.Constants.{constants, Declared}
-use Rattle.gql_select.specs.Documents.{reading}
-use Rattle.gql_select.specs.Grouped.{grouped, respond, IsPlacing, serial_grouped, serial_respond}
+use Rattle.gql_select.specs.Documents.{placing_by, reading}
+use Rattle.gql_select.specs.Grouped.{at_root, below_root, Beneath, grouped, respond, respond_by, IsPlacing, Mutating, Placing}
+use Rattle.gql_select.specs.Grouped.{serial_grouped, serial_respond}
 use Rattle.gql_select.specs.Kept.{kept, kept_setting}
-use Rattle.gql_select.specs.Reading.{IsReading, Reading}
+use Rattle.gql_select.specs.Reading.{IsReading, merged, Reading}
 
 -- a set without conflicts agrees with itself
 abbrev pub NoConflictAgrees : (O F X E : Type 0) → Type 0
@@ -20,23 +21,27 @@ NoConflictAgrees O F X E =
     → conflicts reading told n o set ≡ []
     → Agree reading n o set set
 
+-- merged execution is answering by groups, where a group is all occurrences of a key
+abbrev pub MergedGroupsAreGrouped : (O P F X Pl : Type 0) → Type 0
+MergedGroupsAreGrouped O P F X Pl =
+    (placing : Placing O P F X Pl) (join : Pl → Pl → Pl) (n : ℕ) (o : O) (p : P) (set : List X)
+    → respond_by placing join (merged placing.reading) n o p set ≡ grouped placing n o p set
+
 -- apart execution is merged execution, where the set agrees with itself
 abbrev pub ApartIsMerged : (O P F X Pl : Type 0) → Type 0
 ApartIsMerged O P F X Pl =
-    (reading : Reading O F X) → IsReading reading → (place : O → P → F → (O → P → List (List ℕ × Pl)) → Pl)
-    (join : Pl → Pl → Pl)
-    → IsPlacing reading place join → (n : ℕ) (o : O) (p : P) (set : List X) → Agree reading n o set set
-    → respond reading place join n o p set ≡ grouped reading place n o p set
+    (placing : Placing O P F X Pl) → IsReading placing.reading → (join : Pl → Pl → Pl) → IsPlacing placing join
+    → (n : ℕ) (o : O) (p : P) (set : List X) → Agree placing.reading n o set set
+    → respond placing join n o p set ≡ grouped placing n o p set
 
 -- the same of a mutation, whose root keys change the world one after another
 abbrev pub MutationApartIsMerged : (O P F X Pl W : Type 0) → Type 0
 MutationApartIsMerged O P F X Pl W =
-    (reading : Reading O F X) → IsReading reading → (effect : W → F → W)
-    (root place : W → O → P → F → (O → P → List (List ℕ × Pl)) → Pl) (join : Pl → Pl → Pl)
-    → ((world : W) → IsPlacing reading (root world) join) → ((world : W) → IsPlacing reading (place world) join)
-    → (n : ℕ) (o : O) (p : P) (set : List X) (world : W) → Agree reading (suc n) o set set
-    → serial_respond reading effect root place join n o p set world
-    ≡ serial_grouped reading effect root place n o p set world
+    (mutating : Mutating O P F X Pl W) → IsReading mutating.reading → (join : Pl → Pl → Pl)
+    → ((world : W) → IsPlacing (at_root mutating world) join)
+    → ((world : W) → IsPlacing (below_root mutating world) join)
+    → (n : ℕ) (o : O) (p : P) (set : List X) (world : W) → Agree mutating.reading (suc n) o set set
+    → serial_respond mutating join n o p set world ≡ serial_grouped mutating n o p set world
 
 -- the sets of documents are read as the laws above ask
 abbrev pub DocumentsAreRead : Type 0
@@ -58,10 +63,10 @@ KeptAgrees =
 -- apart execution of what is kept of a document is merged execution, where the document has no conflicts
 abbrev pub KeptApartIsMerged : (P Pl E : Type 0) → Type 0
 KeptApartIsMerged P Pl E =
-    (known : List ℕ → Value) (setting : Setting) (place : List ℕ → P → Positioned Field
-    → (List ℕ → P → List (List ℕ × Pl)) → Pl) (join : Pl → Pl → Pl)
-    → IsPlacing (reading (kept_setting known setting)) place join
+    (known : List ℕ → Value) (setting : Setting)
+    (place : List ℕ → P → Positioned Field → Beneath (List ℕ) P Pl → Pl) (join : Pl → Pl → Pl)
+    → IsPlacing (placing_by (kept_setting known setting) place) join
     → (told : Positioned Field → E) (n : ℕ) (o : List ℕ) (p : P) (set : List (Positioned Selection))
     → conflicts (reading setting) told n o set ≡ []
-    → respond (reading (kept_setting known setting)) place join n o p (kept known set)
-    ≡ grouped (reading (kept_setting known setting)) place n o p (kept known set)
+    → respond (placing_by (kept_setting known setting) place) join n o p (kept known set)
+    ≡ grouped (placing_by (kept_setting known setting) place) n o p (kept known set)

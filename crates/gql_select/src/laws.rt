@@ -1,12 +1,17 @@
 //! Laws on selections. Each is the contract of a function without parameters.
 
 ghost use Rattle.gql_select.specs.Laws.{ApartIsMerged, DocumentsAreRead, KeptAgrees};
-ghost use Rattle.gql_select.specs.Laws.{KeptApartIsMerged, MutationApartIsMerged, NoConflictAgrees};
-ghost use Rattle.gql_select.specs.Laws.{SameConstants};
+ghost use Rattle.gql_select.specs.Laws.{KeptApartIsMerged, MergedGroupsAreGrouped};
+ghost use Rattle.gql_select.specs.Laws.{MutationApartIsMerged, NoConflictAgrees, SameConstants};
 
 /// A set without conflicts between the fields of one key agrees with itself (GraphQL, October 2021, section 5.3.2).
 pub fn no_conflict_agrees<O, F, X, E>()
     ensures { NoConflictAgrees O F X E }
+{}
+
+/// Answering by groups is merged execution, where a group is all occurrences of a key: nothing is left to be joined.
+pub fn merged_groups_are_grouped<O, P, F, X, Pl>()
+    ensures { MergedGroupsAreGrouped O P F X Pl }
 {}
 
 /// Answering each occurrence of a field apart and joining the places is answering each key once, on merged sets
