@@ -1,12 +1,9 @@
-ghost use Rattle.std.specs.Prelude.{◌≡◌, false};
-ghost use Rattle.gql_resolve.specs.Call.{is_mutation};
-
 use gql_request::QueryEnv;
 use gql_resolve::Layers;
 use gql_schema::Types;
 
 /// What an execution stands on, but for its root, its answers and its world: the request, the types of its schema, the entities, and the
-/// data of the layers. Its operation is no mutation.
+/// data of the layers.
 #[derive(Clone, Copy)]
 pub struct Basis<'a> {
     pub env: &'a QueryEnv,
@@ -16,5 +13,4 @@ pub struct Basis<'a> {
     /// The resolver of entities, where there is one.
     pub entities: Option<u32>,
     pub layers: Layers<'a>,
-    pub ghost is_query: { is_mutation env.now.operation.node.ty ≡ false },
 }

@@ -83,14 +83,17 @@ impl<'a, V: Drop> Plan<V> for TreePlan<'a, V> {
         let first = self.tasks.len();
         let parent = self.tasks[number].parent.clone()?;
         let node = self.tasks[number].node.clone()?;
-        let filled = fill_given(alloc, &parent.held, node.as_ref(), given, &mut self.tasks)?;
-        let count = self.tasks.len() - first;
-        self.kept.push(Kept {
+        let mut more = Vec::new(alloc);
+        let filled = fill_given(alloc, &parent.held, node.as_ref(), given, &mut more)?;
+        let count = more.len();
+        self.kept.reserve(1)?;
+        self.tasks.append(&mut more)?;
+        self.kept.push_reserved(Kept {
             number,
             first,
             count,
             filled,
-        })?;
+        });
         Ok(count)
     }
 }
