@@ -21,7 +21,7 @@ use Rattle.gql_resolve.specs.declared.answer.Answer.{Answer}
 use Rattle.gql_resolve.specs.declared.field_value.FieldValue.{FieldValue}
 use Rattle.gql_select.specs.Reading.{over}
 use Rattle.gql_merged.specs.Asks.{asking_by, asks_of, outcome_by}
-use Rattle.gql_merged.specs.Assembled.{members_with, place_of_job, places_behind, places_with}
+use Rattle.gql_merged.specs.Assembled.{members_with, place_of_job, places_behind, places_behind_all, places_with}
 use Rattle.gql_merged.specs.Basis.{execution_of}
 use Rattle.gql_merged.specs.Jobs.{Job, job_of, jobs_by}
 use Rattle.gql_merged.specs.Levels.{Asked, asked_behind, asked_on}
@@ -76,6 +76,22 @@ module _ {V : Type 0} where
         one_more field.0 field.1 (asks_of (execution_of basis) spot.object field.1) (asked_on basis spot.object fields)
         (jobs_by spot (values_of (asked_on basis spot.object fields))) rest (over comes fields) (members_are fields rest)
         ∙ (λ i. (field.0, place_with field.1.pos (sym (outcome_is false (execution_of basis) spot.parent answer spot.object field.1) i) (below field.1)) ∷ over comes fields)
+
+module _ {V : Type 0} (basis : Basis) (spot : Spot V) (place : Job V → Place) where
+  left_one : (field : Positioned Field) (a : Asks) (jobs : List (Job V)) (rest : List Place)
+      → places_behind a (map place (job_of basis spot.path field (asking_by false (layers_of basis.layers) spot.parent a) ++ jobs) ++ rest) ≡ map place jobs ++ rest
+  left_one field asks.Typename jobs rest = refl
+  left_one field asks.Nothing jobs rest = refl
+  left_one field (asks.Call resolver ty arguments) jobs rest = refl
+
+  -- the places behind those of the tasks of an object are left
+  pub places_left : (fields : List (List ℕ × Positioned Field)) (rest : List Place)
+      → places_behind_all (values_of (asked_on basis spot.object fields)) (map place (jobs_by spot (values_of (asked_on basis spot.object fields))) ++ rest) ≡ rest
+  places_left [] rest = refl
+  places_left (field ∷ fields) rest =
+      ap (places_behind_all (values_of (asked_on basis spot.object fields)))
+      (left_one field.1 (asks_of (execution_of basis) spot.object field.1) (jobs_by spot (values_of (asked_on basis spot.object fields))) rest)
+      ∙ places_left fields rest
 
 -- each field has a place
 pub places_long : (object : List ℕ) (fields : List Asked) (places : List Place) → length (places_with object fields places) ≡ length fields

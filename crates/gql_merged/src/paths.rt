@@ -35,7 +35,7 @@ fn steps_in<'c, 'a, V>(held: &'c Held<'a, V>) -> &'c [Step<'a>]
 }
 
 /// The key of a field.
-#[tactic(auto, using(crate::proofs::LevelLemmas::key_with_others))]
+#[tactic(auto, using(crate::proofs::UnitingLemmas::key_with_others))]
 fn key_at<'a>(node: &Node<'a>) -> &'a str
     ensures { result.now ≡ key_text (united node.entry.now.group) }
 {

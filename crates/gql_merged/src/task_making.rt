@@ -12,6 +12,7 @@ use gql_base::Made;
 use std::rc::Rc;
 
 /// Makes the tasks of an object.
+#[tactic(auto, using(crate::proofs::TaskLemmas::tasks_more, crate::proofs::TaskLemmas::members_values))]
 pub(crate) fn make_tasks<'a, V: Drop>(
     parent: &Rc<Parent<'a, V>>,
     tasks: &mut Vec<Task<'a, V>>,

@@ -11,6 +11,7 @@ use gql_doc::{Field, Positioned, Selection};
 use std::alloc::Global;
 
 /// The field that stands for a group, where it has several occurrences.
+#[tactic(auto, using(crate::proofs::UnitingLemmas::item_none, crate::proofs::UnitingLemmas::item_some))]
 pub(crate) fn item_for(alloc: Global, group: &Group<'_>) -> Made<Option<Field>>
     ensures { IfOk result (λ item. item ≡ item_of group.now) }
 {
@@ -21,6 +22,7 @@ pub(crate) fn item_for(alloc: Global, group: &Group<'_>) -> Made<Option<Field>>
 }
 
 /// A first occurrence with the selections of others behind its own.
+#[tactic(auto, using(crate::proofs::UnitingLemmas::item_more))]
 fn united_item(
     alloc: Global,
     first: &Positioned<Field>,
