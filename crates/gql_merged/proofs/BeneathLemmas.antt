@@ -1,5 +1,5 @@
 -- The tasks beneath an answer, and the levels of its objects.
-use Rattle.std.proofs.Common.{◌≡◌, ℕ, zero, suc, ◌+◌, ◌<◌, ◌≤◌, Bool, true, false, cond, List, [], ◌∷◌, ◌++◌, length, map, Option, Some, None, slice_get, refl, ap, sym, subst, ◌∙◌, arith, length-append}
+use Rattle.std.proofs.Common.{◌≡◌, ℕ, zero, suc, ◌+◌, ◌<◌, ◌≤◌, Bool, true, false, cond, List, [], ◌∷◌, ◌++◌, length, map, Option, Some, None, slice_get, refl, ap, sym, subst, ◌∙◌, arith, append_assoc, length-append}
 use Rattle.std.specs.Prelude.{option_map}
 use Rattle.std.specs.List.{AllByRecursion, flat_map}
 use Rattle.std.specs.Cmp.Lexicographic.{bytes_decides}
@@ -28,7 +28,7 @@ use Rattle.gql_merged.specs.FieldsWithin.{collected}
 use Rattle.gql_merged.specs.Groups.{united}
 use Rattle.gql_merged.specs.Jobs.{asked_by_job, completed_by, Job, job_at, job_by, jobs_at, jobs_beneath, jobs_by, jobs_of}
 use Rattle.gql_merged.specs.Levels.{Asked, asked_in}
-use Rattle.gql_merged.specs.Parents.{spot_found}
+use Rattle.gql_merged.specs.Parents.{jobs_of_standing, spot_found, Standing, standing_at, standing_behind}
 use Rattle.gql_merged.specs.Steps.{path_of, segment_of}
 use Rattle.gql_merged.specs.Stored.{Spot, spots}
 use Rattle.gql_merged.specs.Tasks.{IsDeep}
@@ -39,8 +39,10 @@ use Rattle.gql_merged.specs.declared.basis.Basis.{Basis}
 use Rattle.gql_merged.specs.declared.level.Level.{Level}
 use Rattle.gql_merged.specs.declared.level.Node.{Node}
 use Rattle.gql_merged.specs.declared.parent.Found.{Found}
+use Rattle.gql_merged.specs.declared.parent.Parent.{Parent}
 use Rattle.gql_merged.proofs.JobLemmas.{level_jobs}
 use Rattle.gql_merged.proofs.NestLemmas.{collected_nest, every_both}
+use Rattle.gql_merged.proofs.TaskLemmas.{map_append}
 use Rattle.gql_merged.proofs.WithinLemmas.{both_within, every_map, merged_all}
 
 -- what holds of all holds of each
@@ -190,3 +192,37 @@ pub known_beneath : (node : Node) (levels : List (List ℕ × Rc Level Global)) 
     → AreBeneath node levels → option_map level_behind known ≡ option_map level_behind (under object levels) → known ≡ Some level → IsBeneath node object level.value
 known_beneath node levels object known level are same is =
     are.each object level.value (sym same ∙ ap (option_map level_behind) is)
+
+module _ {V : Type 0} (at : Spot V → Standing V) where
+  -- one more object has its fields
+  pub parents_more : (parents parents' : List (Rc (Parent V) Global)) (parent : Rc (Parent V) Global) (its rest : List (Found V)) (found : Found V) (all : List (Standing V))
+      → its ≡ found ∷ rest → parents' ≡ parents ++ parent ∷ [] → standing_behind parent ≡ at (spot_found found)
+      → map standing_behind parents ++ map at (map spot_found its) ≡ all
+      → map standing_behind parents' ++ map at (map spot_found rest) ≡ all
+  parents_more parents parents' parent its rest found all is added stands before =
+      let others = map at (map spot_found rest) in
+      ap (λ ps. map standing_behind ps ++ others) added
+      ∙ ap (λ ss. ss ++ others) (map_append standing_behind parents (parent ∷ []))
+      ∙ append_assoc (map standing_behind parents) (standing_behind parent ∷ []) others
+      ∙ ap (λ s. map standing_behind parents ++ s ∷ others) stands
+      ∙ ap (λ fs. map standing_behind parents ++ map at (map spot_found fs)) (sym is)
+      ∙ before
+
+  -- one more object has its tasks
+  pub placed_more : (jobs jobs' all : List (Job V)) (parent : Rc (Parent V) Global) (its rest : List (Found V)) (found : Found V)
+      → its ≡ found ∷ rest → jobs' ≡ jobs ++ jobs_of_standing (standing_behind parent) → standing_behind parent ≡ at (spot_found found)
+      → jobs ++ flat_map jobs_of_standing (map at (map spot_found its)) ≡ all
+      → jobs' ++ flat_map jobs_of_standing (map at (map spot_found rest)) ≡ all
+  placed_more jobs jobs' all parent its rest found is added stands before =
+      let others = flat_map jobs_of_standing (map at (map spot_found rest)) in
+      ap (λ js. js ++ others) added
+      ∙ append_assoc jobs (jobs_of_standing (standing_behind parent)) others
+      ∙ ap (λ s. jobs ++ (jobs_of_standing s ++ others)) stands
+      ∙ ap (λ fs. jobs ++ flat_map jobs_of_standing (map at (map spot_found fs))) (sym is)
+      ∙ before
+
+-- the tasks of objects are those of the definition
+pub placed_jobs : {V : Type 0} (basis : Basis) (selections : List (Positioned Selection)) (ss : List (Spot V))
+    → flat_map jobs_of_standing (map (standing_at basis selections) ss) ≡ flat_map (jobs_at basis selections) ss
+placed_jobs basis selections [] = refl
+placed_jobs basis selections (s ∷ ss) = λ i. level_jobs basis s selections i ++ placed_jobs basis selections ss i

@@ -5,6 +5,7 @@ use Rattle.std.specs.List.{flat_map, zip}
 use Rattle.std.specs.declared.alloc.Global.{Global}
 use Rattle.std.specs.declared.rc.Rc.{Rc}
 use Rattle.gql_base.specs.Pairs.{names_of, values_of}
+use Rattle.gql_base.specs.declared.path_segment.PathSegment.{PathSegment}
 use Rattle.gql_base.specs.declared.path_segment.PathSegment.TheVariants as segment
 use Rattle.gql_doc.specs.declared.document.Field.{Field}
 use Rattle.gql_doc.specs.declared.document.Positioned.{Positioned}
@@ -16,6 +17,7 @@ use Rattle.gql_merged.specs.Groups.{united}
 use Rattle.gql_merged.specs.Jobs.{Job, job_by, job_of, jobs_by}
 use Rattle.gql_merged.specs.Levels.{Asked, asked_behind, asked_by, members_of}
 use Rattle.gql_merged.specs.Parents.{path_to, standing_behind, standing_of, value_of}
+use Rattle.gql_merged.specs.Steps.{path_of, segment_of}
 use Rattle.gql_merged.specs.Stored.{Spot}
 use Rattle.gql_merged.specs.Tasks.{job_of_task, job_with, jobs_in}
 use Rattle.gql_merged.specs.declared.asks.Asks.{Asks}
@@ -24,6 +26,7 @@ use Rattle.gql_merged.specs.declared.basis.Basis.{Basis}
 use Rattle.gql_merged.specs.declared.level.Level.{Level}
 use Rattle.gql_merged.specs.declared.level.Node.{Node}
 use Rattle.gql_merged.specs.declared.parent.Parent.{Parent}
+use Rattle.gql_merged.specs.declared.step.Step.{Step}
 use Rattle.gql_merged.specs.declared.task.Task.{Task}
 
 pub map_append : {A B : Type 0} (f : A → B) (xs ys : List A) → map f (xs ++ ys) ≡ map f xs ++ map f ys
@@ -107,3 +110,12 @@ module _ {V : Type 0} where
       ∙ ap (λ js. first ++ (jobs_by spot front ++ js)) (sym (append-nil (job_by spot (asked_behind node))))
       ∙ ap (λ js. first ++ js) (sym (flat_append (job_by spot) front (asked_behind node ∷ [])))
       ∙ ap (λ fs. first ++ jobs_by spot fs) (sym next)
+
+-- one more step of a path
+pub path_more : (steps : List Step) (i : ℕ) (step : Step) (old new : List PathSegment) → i < length steps → step ≡ get_or steps i step
+    → old ≡ path_of (take i steps) → new ≡ old ++ segment_of step ∷ [] → new ≡ path_of (take (i + 1) steps)
+path_more steps i step old new within read before added =
+    added
+    ∙ ap (λ ss. ss ++ segment_of step ∷ []) before
+    ∙ sym (map_append segment_of (take i steps) (step ∷ []))
+    ∙ ap path_of (sym (take_more steps i step within ∙ ap (λ s. take i steps ++ s ∷ []) (sym read)))

@@ -15,6 +15,7 @@ pub mod Jobs
 pub mod Levels
 pub mod Merged
 pub mod MergedLaws
+pub mod NeverRoots
 pub mod Parents
 pub mod Run
 pub mod Standing

@@ -41,6 +41,7 @@ pub(crate) fn assemble<'a, V: Drop>(
 }
 
 /// So many places that are open.
+#[tactic(auto, using(crate::proofs::GatheredLemmas::open_more))]
 fn no_places(alloc: Global, count: usize) -> Made<Vec<Option<Place>>>
     ensures length { IfOk result (λ places. length places.items ≡ count) }
     ensures open { IfOk result (λ places. (k : ℕ) (o : Option Place)
@@ -89,6 +90,7 @@ fn put_if_open(places: &mut Vec<Option<Place>>, number: usize, place: Place)
 }
 
 /// The places that are there.
+#[tactic(auto, using(crate::proofs::GatheredLemmas::present_more))]
 fn all_present(alloc: Global, places: Vec<Option<Place>>) -> Made<VecDeque<Place>>
     ensures { IfOk result (λ made. made.items ≡ present places.items) }
 {
@@ -139,6 +141,7 @@ fn place_from<'a, V: Drop>(
 }
 
 /// The members of objects, of the places of their tasks.
+#[tactic(auto, using(crate::proofs::GatheredLemmas::members_more))]
 fn all_members<'a, V: Drop>(
     alloc: Global,
     parents: &[Rc<Parent<'a, V>>],

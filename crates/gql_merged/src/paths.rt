@@ -58,6 +58,7 @@ pub(crate) fn steps_with<'a, V>(
 }
 
 /// Writes the path of a field of an object over what stands in the buffer.
+#[tactic(auto, using(crate::proofs::TaskLemmas::path_more))]
 pub(crate) fn write_path<V>(
     alloc: Global,
     held: &Held<'_, V>,

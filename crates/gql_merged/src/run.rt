@@ -163,7 +163,7 @@ fn root_level<'a, V>(alloc: Global, scene: &Scene<'a, V>) -> Made<Level<'a>>
         entities: scene.entities,
         layers: scene.layers,
     };
-    let object = scene.object.name();
+    let object = scene.object.type_name();
     let selections = scene.env.operation.node.selection_set.node.items.as_slice();
     let fields = collect_fields(alloc, &basis, object, selections)?;
     level_of(alloc, &basis, object, fields)

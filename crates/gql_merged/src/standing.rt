@@ -18,6 +18,7 @@ use std::alloc::Global;
 use std::rc::Rc;
 
 /// Objects that were found beneath a field, each with its fields, and their tasks behind the others.
+#[tactic(auto, using(crate::proofs::BeneathLemmas::none_beneath, crate::proofs::BeneathLemmas::parents_more, crate::proofs::BeneathLemmas::placed_more))]
 pub(crate) fn place_found<'a, V: Drop>(
     alloc: Global,
     node: &Node<'a>,
@@ -67,6 +68,7 @@ fn parent_of<'a, V: Drop>(
 }
 
 /// The fields of the objects of a name beneath a field, which are made once.
+#[tactic(auto, using(crate::proofs::BeneathLemmas::known_beneath))]
 fn level_beneath<'a>(
     alloc: Global,
     node: &Node<'a>,
@@ -95,6 +97,7 @@ fn known_level<'a>(levels: &Pairs<Rc<Level<'a>>>, object: &str) -> Made<Option<R
 }
 
 /// Makes a level, and keeps it under its name.
+#[tactic(auto, using(crate::proofs::BeneathLemmas::more_beneath))]
 fn add_level<'a>(
     alloc: Global,
     node: &Node<'a>,

@@ -41,6 +41,7 @@ pub(crate) fn store<'a, V: Drop>(
 }
 
 /// Stores those of items, each at its index.
+#[tactic(auto, using(crate::proofs::StoredLemmas::found_more))]
 #[cycle(store)]
 fn store_items<'a, V: Drop>(
     alloc: Global,

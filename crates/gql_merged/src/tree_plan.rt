@@ -39,7 +39,7 @@ impl<'a, V: Drop> Plan<V> for TreePlan<'a, V> {
     ghost use Rattle.gql_merged.specs.Fitting.{entries_in, HoldsGiven};
     ghost use Rattle.gql_merged.specs.Jobs.{asked_by_job, Job, jobs_beneath};
     ghost use Rattle.gql_merged.specs.Tasks.{IsAimed, jobs_in};
-    ghost use Rattle.gql_merged.proofs.BeneathLemmas.{never_roots};
+    ghost use Rattle.gql_merged.specs.NeverRoots.{none_is_root};
 
     ghost Task = { Job V };
 
@@ -54,7 +54,7 @@ impl<'a, V: Drop> Plan<V> for TreePlan<'a, V> {
 
     ghost aims = { λ plan number. IsAimed plan.tasks.items plan.path.items number };
 
-    ghost never_roots = { λ task answer place below is. never_roots task answer place below is };
+    ghost never_roots = { λ task answer place below is. none_is_root task answer place below is };
 
     fn aim(&mut self, alloc: Global, number: usize) -> Made<()> {
         let task = &self.tasks[number];
@@ -79,7 +79,18 @@ impl<'a, V: Drop> Plan<V> for TreePlan<'a, V> {
         }
     }
 
-    fn complete(&mut self, alloc: Global, number: usize, given: Given<V>) -> Made<usize> {
+    fn complete(&mut self, alloc: Global, number: usize, given: Given<V>) -> Made<usize>
+        requires { number < length (jobs_in self.old.tasks.items) }
+        ensures made { (task : Job V)
+            → slice_get (jobs_in self.old.tasks.items) number ≡ Some task
+            → IfOk result (HasMade (jobs_in self.old.tasks.items) (jobs_in self.new.tasks.items)
+            (beneath_given jobs_beneath task given)) }
+        ensures holds { OnOk result (HoldsGiven (jobs_in self.new.tasks.items)
+            (entries_in self.new.kept.items) number given) }
+        ensures keeps { OnOk result ((other : ℕ) (g : GivenTo V) → (other ≡ number → ⊥)
+            → HoldsGiven (jobs_in self.old.tasks.items) (entries_in self.old.kept.items) other g
+            → HoldsGiven (jobs_in self.new.tasks.items) (entries_in self.new.kept.items) other g) }
+    {
         let first = self.tasks.len();
         let parent = self.tasks[number].parent.clone()?;
         let node = self.tasks[number].node.clone()?;
