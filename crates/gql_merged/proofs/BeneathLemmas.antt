@@ -40,6 +40,7 @@ use Rattle.gql_merged.specs.declared.level.Level.{Level}
 use Rattle.gql_merged.specs.declared.level.Node.{Node}
 use Rattle.gql_merged.specs.declared.parent.Found.{Found}
 use Rattle.gql_merged.specs.declared.parent.Parent.{Parent}
+use Rattle.gql_merged.specs.declared.step.Step.{Step}
 use Rattle.gql_merged.proofs.JobLemmas.{level_jobs}
 use Rattle.gql_merged.proofs.NestLemmas.{collected_nest, every_both}
 use Rattle.gql_merged.proofs.TaskLemmas.{map_append}
@@ -107,13 +108,13 @@ module _ {V : Type 0} where
   deep_at basis selections spot some =
       jobs_all IsDeep (λ field. Unit {0}) basis spot
       (λ field asking q. (let e = length-append spot.path (segment.Field (key_text field) ∷ []) in omega arith)) selections
-      (every_of (λ field. Unit {0}) (λ field. tt) _)
+      (every_of (λ field. Unit {0}) (λ field. tt) (values_of (merged (reading (setting_by basis)) (collected basis spot.object selections))))
 
   found_below : (found : List (Found V)) → AllByRecursion (λ (spot : Spot V). 0 < length spot.path) (map spot_found found)
   found_below [] = tt
   found_below (f ∷ found) = ((let e = long f.path.items in let b = f.below in omega arith), found_below found)
     where
-      long : (steps : List _) → length (path_of steps) ≡ length steps
+      long : (steps : List Step) → length (path_of steps) ≡ length steps
       long [] = refl
       long (s ∷ steps) = ap suc (long steps)
 

@@ -4,6 +4,7 @@ use Rattle.std.proofs.lemmas.List.{append-nil}
 use Rattle.std.specs.Prelude.{Option, Some, None, slice_get}
 use Rattle.std.specs.List.{AllByRecursion}
 use Rattle.std.specs.Option.{ForSome}
+use Rattle.gql_base.specs.Pairs.{values_of}
 use Rattle.gql_base.specs.declared.path_segment.PathSegment.TheVariants as segment
 use Rattle.gql_base.specs.declared.pos.Pos.{Pos}
 use Rattle.gql_doc.specs.Depth.{deep_from, operation_set}
@@ -30,10 +31,13 @@ use Rattle.gql_resolve.specs.declared.answer.Answer.{Answer}
 use Rattle.gql_resolve.specs.declared.record_entry.RecordEntry.{RecordEntry}
 use Rattle.gql_resolve.specs.declared.resolver_set.ResolverSet.{Ghosts as Resolving}
 use Rattle.gql_resolve.specs.declared.turns.Turns.{Ghosts as Choosing}
+use Rattle.gql_select.specs.Documents.{reading}
+use Rattle.gql_select.specs.Reading.{merged}
 use Rattle.gql_merged.specs.Assembled.{members_with}
 use Rattle.gql_merged.specs.Assembling.{AllHeld, beneath_due, IsAssembled, IsFilledDue, IsRight}
 use Rattle.gql_merged.specs.Basis.{setting_by}
 use Rattle.gql_merged.specs.Entries.{Entry}
+use Rattle.gql_merged.specs.FieldsWithin.{collected}
 use Rattle.gql_merged.specs.Fitting.{HoldsGiven, IsFilled}
 use Rattle.gql_merged.specs.Jobs.{Job, jobs_beneath}
 use Rattle.gql_merged.specs.Parents.{Standing, standing_at}
@@ -70,7 +74,8 @@ module _ {V : Type 0} (scene : Scene V) where
   -- the tasks of the root have paths of one segment
   root_short : AllByRecursion (λ (job : Job V). length job.path ≡ 1) (root_jobs scene)
   root_short = jobs_all (λ (job : Job V). length job.path ≡ 1) (λ field. Unit {0}) (basis_of scene) (root_spot scene)
-      (λ field asking q. refl) (root_selections scene) (every_of (λ field. Unit {0}) (λ field. tt) _)
+      (λ field asking q. refl) (root_selections scene)
+      (every_of (λ field. Unit {0}) (λ field. tt) (values_of (merged (reading (setting_by (basis_of scene))) (collected (basis_of scene) (root_spot scene).object (root_selections scene)))))
 
   -- the first tasks of a plan are those of the root
   pub roots_enough : (tasks : List (Task V)) (roots : ℕ) → KeepNumbers (root_jobs scene) (jobs_in tasks)

@@ -1,5 +1,5 @@
 -- The tasks of an object, made one after another.
-use Rattle.std.proofs.Common.{◌≡◌, ℕ, suc, ◌+◌, ◌<◌, true, false, List, [], ◌∷◌, ◌++◌, length, map, take, get_or, refl, ap, sym, ◌∙◌, append_assoc}
+use Rattle.std.proofs.Common.{◌≡◌, ℕ, suc, ◌+◌, ◌<◌, true, false, List, [], ◌∷◌, ◌++◌, length, map, take, get_or, refl, ap, sym, ◌∙◌, append_assoc, arith}
 use Rattle.std.proofs.lemmas.List.{append-nil, take_more}
 use Rattle.std.specs.List.{flat_map, zip}
 use Rattle.std.specs.declared.alloc.Global.{Global}
@@ -39,15 +39,15 @@ flat_append f (x ∷ one) other = ap (λ ys. f x ++ ys) (flat_append f one other
 
 zip_values : {T : Type 0} (names : List (List ℕ)) (values : List T) → length values ≡ length names → values_of (zip names values) ≡ values
 zip_values [] [] long = refl
-zip_values [] (v ∷ values) long = cc
-zip_values (n ∷ names) [] long = cc
-zip_values (n ∷ names) (v ∷ values) long = ap (λ vs. v ∷ vs) (zip_values names values (let e : length values ≡ length names = cc in e))
+zip_values [] (v ∷ values) long = absurd (omega arith)
+zip_values (n ∷ names) [] long = absurd (omega arith)
+zip_values (n ∷ names) (v ∷ values) long = ap (λ vs. v ∷ vs) (zip_values names values (let e : length values ≡ length names = omega arith in e))
 
 zip_names : {T : Type 0} (names : List (List ℕ)) (values : List T) → length values ≡ length names → names_of (zip names values) ≡ names
 zip_names [] [] long = refl
-zip_names [] (v ∷ values) long = cc
-zip_names (n ∷ names) [] long = cc
-zip_names (n ∷ names) (v ∷ values) long = ap (λ ns. n ∷ ns) (zip_names names values (let e : length values ≡ length names = cc in e))
+zip_names [] (v ∷ values) long = absurd (omega arith)
+zip_names (n ∷ names) [] long = absurd (omega arith)
+zip_names (n ∷ names) (v ∷ values) long = ap (λ ns. n ∷ ns) (zip_names names values (let e : length values ≡ length names = omega arith in e))
 
 map_length : {A B : Type 0} (f : A → B) (xs : List A) → length (map f xs) ≡ length xs
 map_length f [] = refl

@@ -1,5 +1,5 @@
 -- One field for several occurrences.
-use Rattle.std.proofs.Common.{◌≡◌, ℕ, suc, ◌+◌, ◌<◌, ◌==◌, true, false, List, [], ◌∷◌, ◌++◌, length, Some, None, take, get_or, refl, ap, sym, ◌∙◌}
+use Rattle.std.proofs.Common.{◌≡◌, ℕ, suc, ◌+◌, ◌<◌, ◌==◌, true, false, List, [], ◌∷◌, ◌++◌, length, Some, None, take, get_or, refl, ap, sym, ◌∙◌, arith, eqb-true}
 use Rattle.std.proofs.lemmas.List.{take_more}
 use Rattle.std.specs.Borrow.{Bor}
 use Rattle.gql_doc.specs.declared.document.Field.{Field, out-Field, out-roll-Field}
@@ -29,16 +29,17 @@ item_more first more i occurrence old new within read before added =
     ∙ ap (λ fs. (with_others first fs).node) (sym next)
 
 -- a group of one occurrence needs no other field
-pub item_none : (group : Group) → (length group.more.items == 0) ≡ true → None ≡ item_of group
-item_none group is = by group.more.items is
+pub item_none : (group : Group) (more : List (Bor (Positioned Field))) → more ≡ group.more.items → (length more == 0) ≡ true → None ≡ item_of group
+item_none group more same is = by more is ∙ ap (λ bs. item_among group.first.now (all_behind bs)) same
   where
     by : (more : List (Bor (Positioned Field))) → (length more == 0) ≡ true → None ≡ item_among group.first.now (all_behind more)
     by [] h = refl
-    by (x ∷ more) h = absurd (cc)
+    by (x ∷ more) h = absurd (omega (arith, eqb-true (length (x ∷ more)) 0 h))
 
 -- one of several is that of all
-pub item_some : (group : Group) (item : Field) → (length group.more.items == 0) ≡ false → item ≡ (united group).node → Some item ≡ item_of group
-item_some group item is item_is = ap Some item_is ∙ by group.more.items is
+pub item_some : (group : Group) (more : List (Bor (Positioned Field))) (item : Field) → more ≡ group.more.items → (length more == 0) ≡ false
+    → item ≡ (with_others group.first.now (all_behind more)).node → Some item ≡ item_of group
+item_some group more item same is item_is = ap Some item_is ∙ by more is ∙ ap (λ bs. item_among group.first.now (all_behind bs)) same
   where
     by : (more : List (Bor (Positioned Field))) → (length more == 0) ≡ false → Some (with_others group.first.now (all_behind more)).node ≡ item_among group.first.now (all_behind more)
     by [] h = absurd (cc)

@@ -15,10 +15,12 @@ use std::alloc::Global;
 pub(crate) fn item_for(alloc: Global, group: &Group<'_>) -> Made<Option<Field>>
     ensures { IfOk result (λ item. item ≡ item_of group.now) }
 {
-    if group.more.is_empty() {
+    let more = group.more.as_slice();
+    if more.is_empty() {
         return Ok(None);
     }
-    Ok(Some(united_item(alloc, group.first, group.more.as_slice())?))
+    let item = united_item(alloc, group.first, more)?;
+    Ok(Some(item))
 }
 
 /// A first occurrence with the selections of others behind its own.
