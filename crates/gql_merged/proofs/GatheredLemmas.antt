@@ -1,6 +1,7 @@
 -- Places and members, gathered one after another.
 use Rattle.std.proofs.Common.{◌≡◌, ℕ, zero, suc, ◌+◌, ◌<◌, List, [], ◌∷◌, ◌++◌, length, map, drop, get_or, Option, Some, None, slice_get, slice_set, refl, ap, sym, ◌∙◌, subst, arith, append_assoc, inl, inr}
 use Rattle.std.proofs.lemmas.List.{drop_more}
+use Rattle.std.specs.Prelude.{false, is_some, true}
 use Rattle.std.specs.List.{zip}
 use Rattle.std.specs.declared.alloc.Global.{Global}
 use Rattle.std.specs.declared.rc.Rc.{Rc}
@@ -85,3 +86,13 @@ members_more parents i parent made made' all m own own' within read added m_is o
     ∙ (λ k. made ++ (m_is ∙ level_members level level.object own) k ∷ members_each rest (left k))
     ∙ ap (λ ps. made ++ members_each (map standing_behind ps) own) (sym (drop_more parents i parent within ∙ ap (λ p. p ∷ drop (i + 1) parents) (sym read)))
     ∙ before
+
+pub put_if_none : {P : Type 0} (place : P) (places : List (Option P)) (n : ℕ) (o : Option P) → slice_get places n ≡ Some o → is_some o ≡ false
+    → slice_set places n (Some place) ≡ put_open place places n
+put_if_none place places n None is none = sym (put_none place places n is)
+put_if_none place places n (Some p) is none = cc
+
+pub put_if_some : {P : Type 0} (place : P) (places : List (Option P)) (n : ℕ) (o : Option P) → slice_get places n ≡ Some o → is_some o ≡ true
+    → places ≡ put_open place places n
+put_if_some place places n None is some = cc
+put_if_some place places n (Some p) is some = sym (put_some place places n p is)

@@ -1,5 +1,5 @@
 -- The tasks of an object, made one after another.
-use Rattle.std.proofs.Common.{◌≡◌, ℕ, suc, ◌+◌, ◌<◌, true, false, List, [], ◌∷◌, ◌++◌, length, map, take, get_or, refl, ap, sym, ◌∙◌, append_assoc, arith}
+use Rattle.std.proofs.Common.{◌≡◌, ℕ, zero, suc, ◌+◌, ◌<◌, ◌≤◌, true, false, List, [], ◌∷◌, ◌++◌, length, map, take, get_or, refl, ap, sym, ◌∙◌, append_assoc, arith}
 use Rattle.std.proofs.lemmas.List.{append-nil, take_more}
 use Rattle.std.specs.List.{flat_map, zip}
 use Rattle.std.specs.declared.alloc.Global.{Global}
@@ -16,7 +16,7 @@ use Rattle.gql_merged.specs.Asks.{asking_at, asking_by, is_call}
 use Rattle.gql_merged.specs.Groups.{united}
 use Rattle.gql_merged.specs.Jobs.{Job, job_by, job_of, jobs_by}
 use Rattle.gql_merged.specs.Levels.{Asked, asked_behind, asked_by, members_of}
-use Rattle.gql_merged.specs.Parents.{path_to, standing_behind, standing_of, value_of}
+use Rattle.gql_merged.specs.Parents.{jobs_of_standing, path_to, standing_behind, standing_of, value_of}
 use Rattle.gql_merged.specs.Steps.{path_of, segment_of}
 use Rattle.gql_merged.specs.Stored.{Spot}
 use Rattle.gql_merged.specs.Tasks.{job_of_task, job_with, jobs_in}
@@ -119,3 +119,17 @@ path_more steps i step old new within read before added =
     ∙ ap (λ ss. ss ++ segment_of step ∷ []) before
     ∙ sym (map_append segment_of (take i steps) (step ∷ []))
     ∙ ap path_of (sym (take_more steps i step within ∙ ap (λ s. take i steps ++ s ∷ []) (sym read)))
+
+take_past : {X : Type 0} (n : ℕ) (xs : List X) → length xs ≤ n → take n xs ≡ xs
+take_past zero [] past = refl
+take_past zero (x ∷ xs) past = absurd (omega arith)
+take_past (suc n) [] past = refl
+take_past (suc n) (x ∷ xs) past = ap (λ ys. x ∷ ys) (take_past n xs (omega arith))
+
+-- all fields were looked at
+pub tasks_end : {V : Type 0} (parent : Parent V) (nodes : List (Rc Node Global)) (i : ℕ) (first tasks : List (Job V)) → nodes ≡ parent.level.value.nodes.items → length nodes ≤ i
+    → tasks ≡ first ++ jobs_by (standing_of parent).spot (map asked_behind (take i nodes)) → tasks ≡ first ++ jobs_of_standing (standing_of parent)
+tasks_end parent nodes i first tasks same past is =
+    is
+    ∙ ap (λ ns. first ++ jobs_by (standing_of parent).spot (map asked_behind ns)) (take_past i nodes past ∙ same)
+    ∙ ap (λ fs. first ++ jobs_by (standing_of parent).spot fs) (sym (members_values parent.level.value))

@@ -27,7 +27,7 @@ pub(crate) fn assemble<'a, V: Drop>(
     roots: usize,
     count: usize,
 ) -> Made<VecDeque<Place>>
-    requires { laid roots (entries_in kept.entry.items) ≡ Some count }
+    requires { laid roots (entries_in kept.items) ≡ Some count }
     ensures { (jobs : List (Job V)) (answer : Call V → Answer V) → length jobs ≡ count
         → AllHeld answer jobs (entries_in kept.entry.items)
         → IfOk result (λ places. Paired (IsRight answer) (take roots jobs) places.items) }
@@ -60,8 +60,8 @@ fn put_place<'a, V: Drop>(
     kept: Kept<'a, V>,
     places: &mut Vec<Option<Place>>,
 ) -> Made<()>
-    requires number { kept.entry.number < kept.entry.first }
-    requires first { kept.entry.first ≤ length places.old.items }
+    requires number { kept.number < kept.first }
+    requires first { kept.first ≤ length places.old.items }
     ensures { OnOk result (places.new.items
         ≡ put_open (place_made kept.entry.filled (present (drop kept.entry.first places.old.items)))
         (take kept.entry.first places.old.items) kept.entry.number) }

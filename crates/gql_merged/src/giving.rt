@@ -30,7 +30,7 @@ pub(crate) fn fill_given<'a, V: Drop>(
     given: Given<V>,
     tasks: &mut Vec<Task<'a, V>>,
 ) -> Made<Filled<'a, V>>
-    requires { is_call node.entry.now.asks ≡ true }
+    requires { is_call node.now.asks ≡ true }
     ensures filled { IfOk result (λ filled. IsFilledWith given
         (job_with held.entry.now node.entry.now) filled) }
     ensures tasks { OnOk result (jobs_in tasks.new.items ≡ jobs_in tasks.old.items
@@ -52,7 +52,7 @@ fn fill_answer<'a, V: Drop>(
     answer: Answer<V>,
     tasks: &mut Vec<Task<'a, V>>,
 ) -> Made<Filled<'a, V>>
-    requires { is_call node.entry.now.asks ≡ true }
+    requires { is_call node.now.asks ≡ true }
     ensures filled { IfOk result (λ filled. IsFilled (job_with held.entry.now node.entry.now)
         answer filled) }
     ensures tasks { OnOk result (jobs_in tasks.new.items ≡ jobs_in tasks.old.items
@@ -113,7 +113,7 @@ fn fill_put<'a, V>(
     node: &Node<'a>,
     put: Result<Option<Value>, Error>,
 ) -> Filled<'a, V>
-    requires { is_call node.entry.now.asks ≡ true }
+    requires { is_call node.now.asks ≡ true }
     ensures { result.shape ≡ put_shape put }
 {
     Filled {

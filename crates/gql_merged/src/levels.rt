@@ -68,8 +68,8 @@ pub fn level_of<'a>(
     object: &str,
     fields: Vec<&'a Positioned<Field>>,
 ) -> Made<Level<'a>>
-    requires query { is_mutation basis.entry.now.env.now.operation.node.ty ≡ false }
-    requires nest { AllNest basis.entry.now.env.now (all_behind fields.entry.items) }
+    requires query { is_mutation basis.now.env.now.operation.node.ty ≡ false }
+    requires nest { AllNest basis.now.env.now (all_behind fields.items) }
     ensures object { IfOk result (λ level. level.object ≡ object.now) }
     ensures members { IfOk result (λ level. members_of level
         ≡ asked_on basis.entry.now object.now
@@ -92,8 +92,8 @@ fn nodes_of<'a>(
     object: &str,
     groups: Vec<Group<'a>>,
 ) -> Made<Vec<Rc<Node<'a>>>>
-    requires query { is_mutation basis.entry.now.env.now.operation.node.ty ≡ false }
-    requires nest { AllNest basis.entry.now.env.now (map united groups.entry.items) }
+    requires query { is_mutation basis.now.env.now.operation.node.ty ≡ false }
+    requires nest { AllNest basis.now.env.now (map united groups.items) }
     ensures { IfOk result (λ nodes. map asked_behind nodes.items
         ≡ map (asked_of basis.entry.now object.now) (map united groups.entry.items)) }
 {
@@ -108,8 +108,8 @@ fn nodes_of<'a>(
 /// A group with what it asks on an object: that is what its first occurrence asks.
 #[tactic(auto, using(crate::proofs::LevelLemmas::asked_first))]
 fn node_of<'a>(alloc: Global, basis: &Basis<'a>, object: &str, group: Group<'a>) -> Made<Node<'a>>
-    requires query { is_mutation basis.entry.now.env.now.operation.node.ty ≡ false }
-    requires nests { NestsIn basis.entry.now.env.now (field_set (united group.entry)) }
+    requires query { is_mutation basis.now.env.now.operation.node.ty ≡ false }
+    requires nests { NestsIn basis.now.env.now (field_set (united group)) }
     ensures { IfOk result (λ node. asked_by node
         ≡ asked_of basis.entry.now object.now (united group.entry)) }
 {

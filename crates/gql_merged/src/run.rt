@@ -132,7 +132,7 @@ pub fn run_merged_counted<R: ResolverSet, H: Rounds<R::Own>, P: Turns, S: Ledger
 
 /// The object at the root with its fields.
 fn root_of<'a, V: Drop>(alloc: Global, scene: &Scene<'a, V>) -> Made<Rc<Parent<'a, V>>>
-    requires { is_mutation scene.entry.now.env.now.operation.node.ty ≡ false }
+    requires { is_mutation scene.now.env.now.operation.node.ty ≡ false }
     ensures { IfOk result (λ root. standing_behind root
         ≡ standing_at (basis_of scene.entry.now) (root_selections scene.entry.now)
         (root_spot scene.entry.now)) }
@@ -150,7 +150,7 @@ fn root_of<'a, V: Drop>(alloc: Global, scene: &Scene<'a, V>) -> Made<Rc<Parent<'
 
 /// The fields of the root.
 fn root_level<'a, V>(alloc: Global, scene: &Scene<'a, V>) -> Made<Level<'a>>
-    requires { is_mutation scene.entry.now.env.now.operation.node.ty ≡ false }
+    requires { is_mutation scene.now.env.now.operation.node.ty ≡ false }
     ensures object { IfOk result (λ level. level.object ≡ (root_spot scene.entry.now).object) }
     ensures members { IfOk result (λ level. members_of level
         ≡ asked_in (basis_of scene.entry.now) (root_spot scene.entry.now).object

@@ -50,7 +50,7 @@ fn parent_of<'a, V: Drop>(
     found: Found<'a, V>,
     levels: &mut Pairs<Rc<Level<'a>>>,
 ) -> Made<Rc<Parent<'a, V>>>
-    requires { AreBeneath node.entry.now levels.old }
+    requires { AreBeneath node.now levels.old }
     ensures kept { OnOk result (AreBeneath node.entry.now levels.new) }
     ensures parent { IfOk result (λ parent. standing_behind parent
         ≡ standing_at node.entry.now.basis (own_selections (united node.entry.now.group))
@@ -75,7 +75,7 @@ fn level_beneath<'a>(
     object: &str,
     levels: &mut Pairs<Rc<Level<'a>>>,
 ) -> Made<Rc<Level<'a>>>
-    requires { AreBeneath node.entry.now levels.old }
+    requires { AreBeneath node.now levels.old }
     ensures kept { OnOk result (AreBeneath node.entry.now levels.new) }
     ensures level { IfOk result (λ level. IsBeneath node.entry.now object.now level.value) }
 {
@@ -104,7 +104,7 @@ fn add_level<'a>(
     object: &str,
     levels: &mut Pairs<Rc<Level<'a>>>,
 ) -> Made<Rc<Level<'a>>>
-    requires { AreBeneath node.entry.now levels.old }
+    requires { AreBeneath node.now levels.old }
     ensures kept { OnOk result (AreBeneath node.entry.now levels.new) }
     ensures level { IfOk result (λ level. IsBeneath node.entry.now object.now level.value) }
 {

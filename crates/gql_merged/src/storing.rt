@@ -1,5 +1,5 @@
 //! Completed answers, taken apart: their objects go into one list, and what is left has no object's value any more.
-ghost use Rattle.std.specs.Prelude.{◌≡◌, ◌<◌, ◌++◌, length, map, IfOk, OnOk};
+ghost use Rattle.std.specs.Prelude.{◌≡◌, ◌<◌, [], ◌∷◌, ◌++◌, length, map, IfOk, OnOk};
 ghost use Rattle.gql_merged.specs.Parents.{spot_found};
 ghost use Rattle.gql_merged.specs.Steps.{path_of};
 ghost use Rattle.gql_merged.specs.Stored.{bare, numbered, spots};
@@ -57,9 +57,10 @@ fn store_items<'a, V: Drop>(
 {
     let mut left = Items::with_capacity(alloc, items.len())?;
     for item in items.into_vec() {
+        let depth = path.len();
         path.push(Step::Index(left.len()))?;
         let stored = store(alloc, item, path, found)?;
-        path.pop();
+        path.truncate(depth);
         left.push(stored)?;
     }
     Ok(left)
@@ -73,7 +74,7 @@ fn add_found<'a, V: Drop>(
     path: &[Step<'a>],
     found: &mut Vec<Found<'a, V>>,
 ) -> Made<()>
-    requires { 0 < length path.entry.now }
+    requires { 0 < length path.now }
     ensures { OnOk result (map spot_found found.new.items ≡ map spot_found found.old.items
         ++ record { object = object; parent = value; path = path_of path.entry.now } ∷ []) }
 {
