@@ -74,7 +74,7 @@ module _ {V : Type 0} (answer : Call V → Answer V) where
         let others = map (merged_place basis answer n) (flat_map (jobs_at basis selections) ss) ++ rest in
         let split : map (merged_place basis answer n) (flat_map (jobs_at basis selections) (s ∷ ss)) ++ rest ≡ own_places s ++ others
         = ap (λ ps. ps ++ rest) (map_append (merged_place basis answer n) (jobs_at basis selections s) (flat_map (jobs_at basis selections) ss))
-          ∙ append_assoc (own_places s) (map (merged_place basis answer n) (flat_map (jobs_at basis selections) ss)) rest in
+        ∙ append_assoc (own_places s) (map (merged_place basis answer n) (flat_map (jobs_at basis selections) ss)) rest in
         ap (λ ps. members_with s.object (asked_in basis s.object selections) ps
         ∷ members_each (map (standing_at basis selections) ss) (places_behind_all (values_of (asked_in basis s.object selections)) ps)) split
         ∙ (λ i. members_merged basis answer n s selections others i ∷ members_each (map (standing_at basis selections) ss) (spot_left s others i))
@@ -89,13 +89,13 @@ module _ {V : Type 0} (answer : Call V → Answer V) where
       let c = completed_by job a in
       let sels = own_selections job.field in
       let members : members_each (map standing_behind filled.parents.items) own
-          ≡ map (λ (spot : Spot V). merged_members job.basis answer (suc n) spot.object spot.parent sels) (spots c job.path)
+      ≡ map (λ (spot : Spot V). merged_members job.basis answer (suc n) spot.object spot.parent sels) (spots c job.path)
       = (λ i. members_each (fits.parents_are i) ((own_is ∙ sym (append-nil (map (merged_place job.basis answer n) (jobs_beneath job a)))) i))
-        ∙ each_merged job.basis n sels (spots c job.path) [] in
+      ∙ each_merged job.basis n sels (spots c job.path) [] in
       let tree : tree_with job.field.pos (bare c) (map (λ (spot : Spot V). merged_members job.basis answer (suc n) spot.object spot.parent sels) (spots c job.path))
-          ≡ fill job.field.pos (merged_beneath job.basis answer (suc n) job.field) c
+      ≡ fill job.field.pos (merged_beneath job.basis answer (suc n) job.field) c
       = ap (λ ms. tree_with job.field.pos (bare c) ms) (sym (append-nil (map (λ (spot : Spot V). merged_members job.basis answer (suc n) spot.object spot.parent sels) (spots c job.path))))
-        ∙ ap (λ (m : Made). m.tree) (filled_is job.field.pos (merged_beneath job.basis answer (suc n) job.field) c job.path []) in
+      ∙ ap (λ (m : Made). m.tree) (filled_is job.field.pos (merged_beneath job.basis answer (suc n) job.field) c job.path []) in
       λ i. record {
         pos = fits.pos_is i;
         non_null = fits.non_null_is i;

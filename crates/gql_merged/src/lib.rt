@@ -40,4 +40,3 @@ pub use level::{Level, Node};
 pub use levels::{fields_beneath, level_of};
 pub use members::members_at;
 pub use run::{run_merged, run_merged_counted};
-

@@ -25,11 +25,7 @@ pub(crate) fn item_for(alloc: Global, group: &Group<'_>) -> Made<Option<Field>>
 
 /// A first occurrence with the selections of others behind its own.
 #[tactic(auto, using(crate::proofs::UnitingLemmas::item_more))]
-fn united_item(
-    alloc: Global,
-    first: &Positioned<Field>,
-    more: &[&Positioned<Field>],
-) -> Made<Field>
+fn united_item(alloc: Global, first: &Positioned<Field>, more: &[&Positioned<Field>]) -> Made<Field>
     ensures { IfOk result (λ item. item ≡ (with_others first.now (all_behind more.now)).node) }
 {
     let mut item = first.node.try_clone(alloc)?;

@@ -43,7 +43,7 @@ pub finish-requires : goal.finish-requires
 finish-requires g c =
     let asked : jobs_in c.in_ok-plan.plan.tasks.items ≡ root_jobs c.args.scene.now
     = c.in_ok-plan.ensures ∙ ap jobs_of_standing c.in_ok-root.ensures
-      ∙ level_jobs (basis_of c.args.scene.now) (root_spot c.args.scene.now) (root_selections c.args.scene.now) in
+    ∙ level_jobs (basis_of c.args.scene.now) (root_spot c.args.scene.now) (root_selections c.args.scene.now) in
     let n_is : c.len.result ≡ length (jobs_in c.in_ok-plan.plan.tasks.items)
     = c.len.ensures ∙ c.in_ok-plan.plan.tasks.ok.0 ∙ sym (length-map c.in_ok-plan.plan.tasks.items job_of_task) in
     record {
@@ -57,7 +57,7 @@ pub returns-in_err-finish-clause-stopped : goal.returns-in_err-finish-clause-sto
 returns-in_err-finish-clause-stopped g c = λ law calm.
     let asked : jobs_in c.in_ok-plan.plan.tasks.items ≡ root_jobs c.args.scene.now
     = c.in_ok-plan.ensures ∙ ap jobs_of_standing c.in_ok-root.ensures
-      ∙ level_jobs (basis_of c.args.scene.now) (root_spot c.args.scene.now) (root_selections c.args.scene.now) in
+    ∙ level_jobs (basis_of c.args.scene.now) (root_spot c.args.scene.now) (root_selections c.args.scene.now) in
     let n_is : c.len.result ≡ length (jobs_in c.in_ok-plan.plan.tasks.items)
     = c.len.ensures ∙ c.in_ok-plan.plan.tasks.ok.0 ∙ sym (length-map c.in_ok-plan.plan.tasks.items job_of_task) in
     let old = seen c.args.resolvers.now c.args.turns.now in
@@ -77,7 +77,7 @@ pub returns-in_err-place_of_root-clause-stopped : goal.returns-in_err-place_of_r
 returns-in_err-place_of_root-clause-stopped g c = λ law calm.
     let asked : jobs_in c.in_ok-plan.plan.tasks.items ≡ root_jobs c.args.scene.now
     = c.in_ok-plan.ensures ∙ ap jobs_of_standing c.in_ok-root.ensures
-      ∙ level_jobs (basis_of c.args.scene.now) (root_spot c.args.scene.now) (root_selections c.args.scene.now) in
+    ∙ level_jobs (basis_of c.args.scene.now) (root_spot c.args.scene.now) (root_selections c.args.scene.now) in
     let n_is : c.len.result ≡ length (jobs_in c.in_ok-plan.plan.tasks.items)
     = c.len.ensures ∙ c.in_ok-plan.plan.tasks.ok.0 ∙ sym (length-map c.in_ok-plan.plan.tasks.items job_of_task) in
     let old = seen c.args.resolvers.now c.args.turns.now in
@@ -108,7 +108,7 @@ pub returns-clause-places : goal.returns-clause-places
 returns-clause-places g c = λ law calm n nests.
     let asked : jobs_in c.in_ok-plan.plan.tasks.items ≡ root_jobs c.args.scene.now
     = c.in_ok-plan.ensures ∙ ap jobs_of_standing c.in_ok-root.ensures
-      ∙ level_jobs (basis_of c.args.scene.now) (root_spot c.args.scene.now) (root_selections c.args.scene.now) in
+    ∙ level_jobs (basis_of c.args.scene.now) (root_spot c.args.scene.now) (root_selections c.args.scene.now) in
     let n_is : c.len.result ≡ length (jobs_in c.in_ok-plan.plan.tasks.items)
     = c.len.ensures ∙ c.in_ok-plan.plan.tasks.ok.0 ∙ sym (length-map c.in_ok-plan.plan.tasks.items job_of_task) in
     let old = seen c.args.resolvers.now c.args.turns.now in
@@ -142,7 +142,7 @@ pub returns-clause-record : goal.returns-clause-record
 returns-clause-record g c = λ law calm.
     let asked : jobs_in c.in_ok-plan.plan.tasks.items ≡ root_jobs c.args.scene.now
     = c.in_ok-plan.ensures ∙ ap jobs_of_standing c.in_ok-root.ensures
-      ∙ level_jobs (basis_of c.args.scene.now) (root_spot c.args.scene.now) (root_selections c.args.scene.now) in
+    ∙ level_jobs (basis_of c.args.scene.now) (root_spot c.args.scene.now) (root_selections c.args.scene.now) in
     let n_is : c.len.result ≡ length (jobs_in c.in_ok-plan.plan.tasks.items)
     = c.len.ensures ∙ c.in_ok-plan.plan.tasks.ok.0 ∙ sym (length-map c.in_ok-plan.plan.tasks.items job_of_task) in
     let old = seen c.args.resolvers.now c.args.turns.now in
@@ -173,7 +173,7 @@ pub returns-in_err-finish-clause-unfinished : goal.returns-in_err-finish-clause-
 returns-in_err-finish-clause-unfinished g c =
     let asked : jobs_in c.in_ok-plan.plan.tasks.items ≡ root_jobs c.args.scene.now
     = c.in_ok-plan.ensures ∙ ap jobs_of_standing c.in_ok-root.ensures
-      ∙ level_jobs (basis_of c.args.scene.now) (root_spot c.args.scene.now) (root_selections c.args.scene.now) in
+    ∙ level_jobs (basis_of c.args.scene.now) (root_spot c.args.scene.now) (root_selections c.args.scene.now) in
     on_err c.from_residual-in_err-finish.result _
     (subst (λ ts. RoundsStopped asked_by_job g.H.Rounds ts c.args.hooks.now c.finish.new.hooks) asked
     (stopped_rounds c.len.result c.in_err-finish.ensures.stretch.ended.enters c.in_ok-arena.ensures.states))
@@ -182,7 +182,7 @@ pub returns-in_err-place_of_root-clause-unfinished : goal.returns-in_err-place_o
 returns-in_err-place_of_root-clause-unfinished g c =
     let asked : jobs_in c.in_ok-plan.plan.tasks.items ≡ root_jobs c.args.scene.now
     = c.in_ok-plan.ensures ∙ ap jobs_of_standing c.in_ok-root.ensures
-      ∙ level_jobs (basis_of c.args.scene.now) (root_spot c.args.scene.now) (root_selections c.args.scene.now) in
+    ∙ level_jobs (basis_of c.args.scene.now) (root_spot c.args.scene.now) (root_selections c.args.scene.now) in
     on_err c.from_residual-in_err-place_of_root.result _
     (subst (λ ts. RoundsStopped asked_by_job g.H.Rounds ts c.args.hooks.now c.finish.new.hooks) asked
     (stopped_rounds c.len.result (so_far_enters_whole c.in_ok-finish.ensures.stretch.went.passed.enters) c.in_ok-arena.ensures.states))
@@ -191,7 +191,7 @@ pub returns-clause-rounds : goal.returns-clause-rounds
 returns-clause-rounds g c =
     let asked : jobs_in c.in_ok-plan.plan.tasks.items ≡ root_jobs c.args.scene.now
     = c.in_ok-plan.ensures ∙ ap jobs_of_standing c.in_ok-root.ensures
-      ∙ level_jobs (basis_of c.args.scene.now) (root_spot c.args.scene.now) (root_selections c.args.scene.now) in
+    ∙ level_jobs (basis_of c.args.scene.now) (root_spot c.args.scene.now) (root_selections c.args.scene.now) in
     let went = c.in_ok-finish.ensures.stretch.went in
     subst (λ ts. RoundsWhole asked_by_job g.H.Rounds ts c.args.hooks.now c.finish.new.hooks) asked
     (whole_rounds c.len.result went.passed.enters c.in_ok-arena.ensures.states (all_answered went.sound c.in_ok-finish.ensures.answered))
