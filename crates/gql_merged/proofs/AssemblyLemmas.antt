@@ -20,6 +20,11 @@ take_long zero xs within = refl
 take_long (suc n) [] within = absurd (omega arith)
 take_long (suc n) (x ∷ xs) within = ap suc (take_long n xs (omega arith))
 
+-- what has no length has no items
+pub no_length : {X : Type 0} (xs : List X) → length xs ≡ 0 → xs ≡ []
+no_length [] none = refl
+no_length (x ∷ xs) none = absurd (omega arith)
+
 put_long : {P : Type 0} (place : P) (os : List (Option P)) (n : ℕ) → length (put_open place os n) ≡ length os
 put_long place [] n = refl
 put_long place (None ∷ os) zero = refl

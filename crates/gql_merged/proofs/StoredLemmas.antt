@@ -1,5 +1,5 @@
 -- The objects of completed answers, stored one after another.
-use Rattle.std.proofs.Common.{rules, ◌≡◌, ℕ, zero, suc, ◌+◌, Bool, List, [], ◌∷◌, ◌++◌, length, map, refl, ap, sym, ◌∙◌, subst, arith, append_assoc, length-append}
+use Rattle.std.proofs.Common.{rules, ◌≡◌, ℕ, zero, suc, ◌+◌, Bool, List, [], ◌∷◌, ◌++◌, length, map, take, refl, ap, sym, ◌∙◌, subst, arith, append_assoc, length-append}
 use Rattle.std.proofs.lemmas.List.{append-nil}
 use Rattle.gql_base.specs.declared.error.Error.{Error}
 use Rattle.gql_base.specs.declared.path_segment.PathSegment.{PathSegment}
@@ -70,3 +70,22 @@ module _ (V : Type 0) where
       ∙ ap (λ p. found ++ (spots item p ++ others)) at
       ∙ ap (λ xs. found ++ numbered (length left) (map spots xs) (path_of steps)) (sym is)
       ∙ before
+
+  -- one more item is bare
+  pub bare_more : (left left' all : List Bare) (its rest : List (Completed V)) (item : Completed V) (b : Bare) → its ≡ item ∷ rest → left' ≡ left ++ b ∷ [] → b ≡ bare item
+      → left ++ map bare its ≡ all → left' ++ map bare rest ≡ all
+  bare_more left left' all its rest item b is left_is bare_is before =
+      ap (λ bs. bs ++ map bare rest) left_is
+      ∙ append_assoc left (b ∷ []) (map bare rest)
+      ∙ ap (λ x. left ++ x ∷ map bare rest) bare_is
+      ∙ ap (λ xs. left ++ map bare xs) (sym is)
+      ∙ before
+
+take_front : {X : Type 0} (xs ys : List X) → take (length xs) (xs ++ ys) ≡ xs
+take_front [] ys = refl
+take_front (x ∷ xs) ys = ap (λ zs. x ∷ zs) (take_front xs ys)
+
+-- a step that was added is taken off
+pub steps_kept : (steps pushed stored new : List Step) (step : Step) (n : ℕ) → pushed ≡ steps ++ step ∷ [] → stored ≡ pushed → n ≡ length steps → new ≡ take n stored → new ≡ steps
+steps_kept steps pushed stored new step n added same long cut =
+    cut ∙ (λ i. take (long i) ((same ∙ added) i)) ∙ take_front steps (step ∷ [])
