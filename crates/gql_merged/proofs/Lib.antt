@@ -12,6 +12,7 @@ pub mod JobLemmas
 pub mod LevelLemmas
 pub mod MergedLemmas
 pub mod NestLemmas
+pub mod NodesLemmas
 pub mod PlacedLemmas
 pub mod PlanLemmas
 pub mod RunLemmas

@@ -37,7 +37,7 @@ pub flat_append : {X Y : Type 0} (f : X → List Y) (one other : List X) → fla
 flat_append f [] other = refl
 flat_append f (x ∷ one) other = ap (λ ys. f x ++ ys) (flat_append f one other) ∙ sym (append_assoc (f x) (flat_map f one) (flat_map f other))
 
-zip_values : {T : Type 0} (names : List (List ℕ)) (values : List T) → length values ≡ length names → values_of (zip names values) ≡ values
+pub zip_values : {T : Type 0} (names : List (List ℕ)) (values : List T) → length values ≡ length names → values_of (zip names values) ≡ values
 zip_values [] [] long = refl
 zip_values [] (v ∷ values) long = absurd (omega arith)
 zip_values (n ∷ names) [] long = absurd (omega arith)
@@ -49,7 +49,7 @@ zip_names [] (v ∷ values) long = absurd (omega arith)
 zip_names (n ∷ names) [] long = absurd (omega arith)
 zip_names (n ∷ names) (v ∷ values) long = ap (λ ns. n ∷ ns) (zip_names names values (let e : length values ≡ length names = omega arith in e))
 
-map_length : {A B : Type 0} (f : A → B) (xs : List A) → length (map f xs) ≡ length xs
+pub map_length : {A B : Type 0} (f : A → B) (xs : List A) → length (map f xs) ≡ length xs
 map_length f [] = refl
 map_length f (x ∷ xs) = ap suc (map_length f xs)
 
