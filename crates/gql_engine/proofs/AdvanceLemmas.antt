@@ -2,6 +2,7 @@
 use Rattle.std.proofs.Common.{ℕ, ◌≡◌, ◌+◌, ◌^◌, ◌≤◌, List, [], ◌∷◌, ◌++◌, length, get_or, refl, sym, ap, subst, ◌∙◌, arith, inl, inr}
 use Rattle.std.specs.Prelude.{Some, option_map, slice_get, slice_set, true, false, Result, Ok, Err, OnErr, map}
 use Rattle.std.specs.Option.{ForSome}
+use Rattle.gql_request.specs.declared.resolve_info.ResolveInfo.{ResolveInfo}
 use Rattle.gql_resolve.specs.Call.{Call, call_of}
 use Rattle.gql_resolve.specs.Record.{with_more, entry_of}
 use Rattle.gql_resolve.specs.declared.answer.Answer.{Answer}
@@ -14,9 +15,10 @@ use Rattle.gql_engine.specs.Arena.{marks_of, made_of, fresh_states, started, tot
 use Rattle.gql_engine.specs.Given.{beneath_given}
 use Rattle.gql_engine.specs.Pace.{to_come}
 use Rattle.gql_engine.specs.Parts.{Parts, Moment, choice_by, due_by, delay_by, stage, subject}
-use Rattle.gql_engine.specs.Plan.{IsContextOf}
+use Rattle.gql_engine.specs.Plan.{IsContextOf, IsInfoOf}
 use Rattle.gql_engine.specs.Progress.{IsSound, Agrees, Passed, Progress, Went, Ended, story_of}
 use Rattle.gql_engine.specs.Record.{Ran, waiting_from}
+use Rattle.gql_engine.specs.Rounds.{event_of}
 use Rattle.gql_engine.specs.Turn.{StartsWaiting, KeepsWaiting, begins_now, enters_now, BeginsAtMost, EntersAtMost}
 use Rattle.gql_engine.proofs.Lists.{get_append_left, get_set_other, set_set}
 use Rattle.gql_engine.proofs.NearerLemmas.{nearer_settled}
@@ -34,10 +36,11 @@ on_err (Err e) P p = p
 
 module _ {R Own World Future L H P : Type 0} (e : Parts R Own World Future L H P) where
   -- a task is taken up, by the choice of the turns
-  pub record Taken (old : Moment R Future L H P) (turns : P) (number : ℕ) (was : State Future) (context : ResolverContext Own) : Type 0 where
+  pub record Taken (old : Moment R Future L H P) (turns : P) (number : ℕ) (was : State Future) (context : ResolverContext Own) (info : ResolveInfo) : Type 0 where
     pub sound : IsSound e old
     pub pick : Pick e.root e.set.is_for (subject e) (e.plan.tasks old.plan) old.states number was
     pub context_is : IsContextOf number (e.plan.asks pick.task) context
+    pub info_is : IsInfoOf (e.plan.asks pick.task) info
     pub chosen : ForSome (e.turns.state old.turns) (λ s. slice_get (waiting_from 0 (marks_of old.states)) (e.turns.choice s (length (waiting_from 0 (marks_of old.states)))) ≡ Some number)
     pub turns_is : e.turns.state turns ≡ option_map (λ s. e.turns.after s (length (waiting_from 0 (marks_of old.states)))) (e.turns.state old.turns)
 
@@ -56,19 +59,21 @@ module _ {R Own World Future L H P : Type 0} {e : Parts R Own World Future L H P
   pub sound_of : (m : Moment R Future L H P) → Stands e.root e.set.is_for (subject e) (e.plan.holds m.plan) (e.plan.tasks m.plan) m.states m.waiting → IsSound e m
   sound_of m s = record { lengths = s.lengths; waits = s.waits; fits = s.fits }
 
-  pub taken : {old : Moment R Future L H P} (turns : P) (place number : ℕ) (was : State Future) (context : ResolverContext Own)
+  pub taken : {old : Moment R Future L H P} (turns : P) (place number : ℕ) (was : State Future) (context : ResolverContext Own) (info : ResolveInfo)
       → IsSound e old → slice_get old.waiting place ≡ Some number → was ≡ get_or old.states number was
       → ((task : e.plan.Task) → slice_get (e.plan.tasks old.plan) number ≡ Some task → IsContextOf number (e.plan.asks task) context)
+      → ((task : e.plan.Task) → slice_get (e.plan.tasks old.plan) number ≡ Some task → IsInfoOf (e.plan.asks task) info)
       → ForSome (e.turns.state old.turns) (λ s. place ≡ e.turns.choice s (length old.waiting))
       → e.turns.state turns ≡ option_map (λ s. e.turns.after s (length old.waiting)) (e.turns.state old.turns)
-      → Taken e old turns number was context
-  taken {old = old} turns place number was context sound stood read contexts choices turns_is =
+      → Taken e old turns number was context info
+  taken {old = old} turns place number was context info sound stood read contexts infos choices turns_is =
       let pick = picked place number was (stands sound) stood read in
       let count : length old.waiting ≡ length (waiting_from 0 (marks_of old.states)) = ap length sound.waits in
       record {
         sound = sound;
         pick = pick;
         context_is = contexts pick.task pick.task_is;
+        info_is = infos pick.task pick.task_is;
         chosen = λ s is. subst (λ ns. slice_get ns (e.turns.choice s (length (waiting_from 0 (marks_of old.states)))) ≡ Some number) sound.waits
             (subst (λ k. slice_get old.waiting (e.turns.choice s k) ≡ Some number) count (subst (λ p. slice_get old.waiting p ≡ Some number) (choices s is) stood));
         turns_is = turns_is ∙ ap (λ k. option_map (λ s. e.turns.after s k) (e.turns.state old.turns)) count;
@@ -88,7 +93,7 @@ module _ {R Own World Future L H P : Type 0} {e : Parts R Own World Future L H P
   keeps_on call state.Fresh new is = absurd is
   keeps_on call state.Done new is = absurd is
 
-  module _ {old : Moment R Future L H P} {turns : P} {number : ℕ} {was : State Future} {context : ResolverContext Own} (t : Taken e old turns number was context) where
+  module _ {old : Moment R Future L H P} {turns : P} {number : ℕ} {was : State Future} {context : ResolverContext Own} {info : ResolveInfo} (t : Taken e old turns number was context info) where
     pub undone : was ≡ state.Done → ⊥
     undone = open_undone e.set.is_for (e.plan.asks t.pick.task).call was t.pick.open_is
 
@@ -124,7 +129,7 @@ module _ {R Own World Future L H P : Type 0} {e : Parts R Own World Future L H P
 
     -- what the hooks and the steps show of a turn that ended well
     pub record Shows (hooks : H) (steps : ℕ) : Type 0 where
-      pub told_is : e.hooks.told hooks ≡ with_more (e.hooks.told old.hooks) (map e.hooks.entered (enters_now context was))
+      pub told_is : e.hooks.told hooks ≡ with_more (e.hooks.told old.hooks) (map (event_of e.hooks) (enters_now context info was))
       pub stepped : e.hooks.are_quiet old.hooks → steps ≡ old.steps + length (begins_now context.task was)
 
     went_waiting : (set : R) (hooks : H) (steps : ℕ) (new : State Future) → Shows hooks steps → Waits e (call_of context) new
@@ -143,7 +148,7 @@ module _ {R Own World Future L H P : Type 0} {e : Parts R Own World Future L H P
               done = get_set_other old.states number n (state.Waiting w.future) (λ same. elsewhere n same is) ∙ is;
               held = λ given held. held;
             };
-            enters = enters_waiting old number t.pick.task was context t.pick.task_is t.pick.old_is t.context_is
+            enters = enters_waiting old number t.pick.task was context info t.pick.task_is t.pick.old_is t.context_is t.info_is
                 (pending set hooks steps (state.Waiting w.future)) w.future shows.told_is refl refl;
             stepped = λ calm. stepped_waits Future old.states number context.task was (state.Waiting w.future) old.steps steps t.pick.old_is undone refl (shows.stepped calm);
             progress = λ law calm answers agrees. record {
@@ -182,17 +187,6 @@ module _ {R Own World Future L H P : Type 0} {e : Parts R Own World Future L H P
       pub holding : e.plan.holds plan number given
       pub keeps : (other : ℕ) (g : Given Own) → (other ≡ number → ⊥) → e.plan.holds old.plan other g → e.plan.holds plan other g
 
-    pub completed_by : (plan : L) (given : Given Own) (count : ℕ)
-        → ((task : e.plan.Task) → slice_get (e.plan.tasks old.plan) number ≡ Some task
-        → (e.plan.tasks plan ≡ e.plan.tasks old.plan ++ beneath_given e.plan.beneath task given) × (count ≡ length (beneath_given e.plan.beneath task given)))
-        → e.plan.holds plan number given
-        → ((other : ℕ) (g : Given Own) → (other ≡ number → ⊥) → e.plan.holds old.plan other g → e.plan.holds plan other g)
-        → Completed plan given count
-    completed_by plan given count made holding keeps =
-        let m = made t.pick.task t.pick.task_is in
-        record { made = m.0; count_is = m.1; holding = holding; keeps = keeps }
-
-    -- the same where the number isn't told
     pub completed_with : (plan : L) (given : Given Own)
         → ((task : e.plan.Task) → slice_get (e.plan.tasks old.plan) number ≡ Some task
         → e.plan.tasks plan ≡ e.plan.tasks old.plan ++ beneath_given e.plan.beneath task given)
@@ -278,7 +272,7 @@ module _ {R Own World Future L H P : Type 0} {e : Parts R Own World Future L H P
         → (e.hooks.are_quiet old.hooks → e.set.begun new.set ≡ with_more (e.set.begun old.set) (begins_now context.task was))
         → Passed e old new
     passed_answered new shows now given count made states_is turns_is given_is paid told_is begun_is = record {
-      enters = enters_answer old number t.pick.task was context t.pick.task_is t.pick.old_is t.context_is new (beneath_given e.plan.beneath t.pick.task given) count
+      enters = enters_answer old number t.pick.task was context info t.pick.task_is t.pick.old_is t.context_is t.info_is new (beneath_given e.plan.beneath t.pick.task given) count
           shows.told_is made.made (states_is ∙ ap (λ ss. ss ++ fresh_states count) (set_set old.states number now state.Done));
       stepped = λ calm. subst (λ ss. new.steps + total started old.states ≡ old.steps + total started ss)
           (sym (states_is ∙ ap (λ ss. ss ++ fresh_states count) (set_set old.states number now state.Done)))
@@ -296,12 +290,12 @@ module _ {R Own World Future L H P : Type 0} {e : Parts R Own World Future L H P
 
     -- memory was wanting before the entry of the turn
     pub ended_before : (new : Moment R Future L H P)
-        → EntersAtMost (map e.hooks.entered (enters_now context was)) (e.hooks.told old.hooks) (e.hooks.told new.hooks)
+        → EntersAtMost (map (event_of e.hooks) (enters_now context info was)) (e.hooks.told old.hooks) (e.hooks.told new.hooks)
         → (e.hooks.are_quiet old.hooks → e.set.told new.set ≡ with_more (e.set.told old.set) [])
         → (e.hooks.are_quiet old.hooks → BeginsAtMost context.task (e.set.begun old.set) (e.set.begun new.set))
         → Ended e old new
     ended_before new most told_is begins = record {
-      enters = so_far_enters old number t.pick.task was context t.pick.task_is t.pick.old_is t.context_is new.hooks most;
+      enters = so_far_enters old number t.pick.task was context info t.pick.task_is t.pick.old_is t.context_is t.info_is new.hooks most;
       stopped = λ law calm answers agrees. elim (begins calm) [
         | inl same ↦ stopped_before (choice_by e.turns) (story_of (subject e) answers) (stage e old) (e.set.told new.set) (e.set.begun new.set) []
             (told_is calm ∙ with_more_none (e.set.told old.set)) (omega arith) (same ∙ sym (with_more_none (e.set.begun old.set)))
@@ -313,13 +307,13 @@ module _ {R Own World Future L H P : Type 0} {e : Parts R Own World Future L H P
 
     -- memory was wanting after it
     pub ended_after : (new : Moment R Future L H P)
-        → e.hooks.told new.hooks ≡ with_more (e.hooks.told old.hooks) (map e.hooks.entered (enters_now context was))
+        → e.hooks.told new.hooks ≡ with_more (e.hooks.told old.hooks) (map (event_of e.hooks) (enters_now context info was))
         → (e.set.is_paced old.set → e.hooks.are_quiet old.hooks → to_come e.set.number (delay_by e.set old.set context.resolver) was ≡ true ∷ [])
         → (e.hooks.are_quiet old.hooks → e.set.told new.set ≡ with_more (e.set.told old.set) (entry_of context true ∷ []))
         → (e.hooks.are_quiet old.hooks → e.set.begun new.set ≡ with_more (e.set.begun old.set) (begins_now context.task was))
         → Ended e old new
     ended_after new entered_is paid told_is begun_is = record {
-      enters = so_far_entered old number t.pick.task was context t.pick.task_is t.pick.old_is t.context_is new.hooks entered_is;
+      enters = so_far_entered old number t.pick.task was context info t.pick.task_is t.pick.old_is t.context_is t.info_is new.hooks entered_is;
       stopped = λ law calm answers agrees. stopped_after Own e.plan.Task Future e.turns.State (choice_by e.turns) e.plan.asks e.plan.beneath answers
           (e.turns.state old.turns) (e.turns.state turns) (e.plan.tasks old.plan) old.states number t.pick.task was context chosen_by
           (e.set.told old.set) (e.set.told new.set) (e.set.begun old.set) (e.set.begun new.set) (begun_is calm) true (told_is calm);

@@ -16,7 +16,9 @@ pub mod RootRunLemmas
 pub mod RootWorld
 pub mod RoundLemmas
 pub mod RunLemmas
+pub mod SendLemmas
 pub mod SoundLemmas
 pub mod StepLemmas
 pub mod TurnLemmas
+pub mod TurningSteps
 pub mod UponLemmas

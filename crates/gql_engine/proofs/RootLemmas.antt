@@ -5,6 +5,7 @@ use Rattle.std.specs.declared.alloc.AllocError.{AllocError}
 use Rattle.gql_base.specs.declared.no_memory.NoMemory.{NoMemory}
 use Rattle.gql_resolve.specs.Call.{call_of}
 use Rattle.gql_resolve.specs.declared.answer.Answer.{Answer}
+use Rattle.gql_request.specs.declared.resolve_info.ResolveInfo.{ResolveInfo}
 use Rattle.gql_resolve.specs.declared.resolver_context.ResolverContext.{ResolverContext}
 use Rattle.gql_engine.specs.declared.arena.State.{State}
 use Rattle.gql_engine.specs.declared.arena.State.TheVariants as state
@@ -90,7 +91,7 @@ module _ {R Own World Future L H P : Type 0} {e : Parts R Own World Future L H P
     ];
   }
 
-  module _ {old : Moment R Future L H P} {turns : P} {number : ℕ} {was : State Future} {context : ResolverContext Own} (t : Taken e old turns number was context) where
+  module _ {old : Moment R Future L H P} {turns : P} {number : ℕ} {was : State Future} {context : ResolverContext Own} {info : ResolveInfo} (t : Taken e old turns number was context info) where
     -- where the root waits alone, all others have their answers
     others_done : length old.waiting ≡ 1 → (n : ℕ) (s : State Future) → (n ≡ number → ⊥) → slice_get old.states n ≡ Some s → state.Done ≡ s
     others_done one n s differs is = done_mark s (alone 0 (marks_of old.states) number n (mark_of was) (mark_of s)
@@ -143,12 +144,12 @@ given_world E effect world new (Put put) turned = inl (refl, turned)
 
 module _ {R Own World Future L H P : Type 0} {e : Parts R Own World Future L H P} where
   -- a plan that was aimed at the root
-  pub root_aimed : {first : Moment R Future L H P} {plan : L} {turns : P} {number : ℕ} {was : State Future} {context : ResolverContext Own}
-      → Upon e first plan turns number was context → RootWaits e first (with_plan first plan)
+  pub root_aimed : {first : Moment R Future L H P} {plan : L} {turns : P} {number : ℕ} {was : State Future} {context : ResolverContext Own} {info : ResolveInfo}
+      → Upon e first plan turns number was context info → RootWaits e first (with_plan first plan)
   root_aimed u = record { kept = u.kept; went = u.aimed; waits = refl }
 
   -- the world after the answer of a root's resolver
-  pub effect_answered : {old : Moment R Future L H P} {turns : P} {number : ℕ} {was : State Future} {context : ResolverContext Own} (t : Taken e old turns number was context)
+  pub effect_answered : {old : Moment R Future L H P} {turns : P} {number : ℕ} {was : State Future} {context : ResolverContext Own} {info : ResolveInfo} (t : Taken e old turns number was context info)
       (new : Moment R Future L H P) (place : ℕ) → slice_get old.waiting place ≡ Some number → (given : Given Own) → given ≡ Answered (due_by e.set old.set (call_of context))
       → e.set.world new.set ≡ world_turned {E = AllocError} true (effect_by e.set old.set (call_of context)) (e.set.world old.set) (Ok (turn.Answered given))
       → LeavesEffect e old new
@@ -156,7 +157,7 @@ module _ {R Own World Future L H P : Type 0} {e : Parts R Own World Future L H P
       (answered_world AllocError (effect_by e.set old.set (call_of context)) (e.set.world old.set) (e.set.world new.set) (due_by e.set old.set (call_of context)) given is turned)
 
   -- the world after the answer of a root, where it isn't known what was given
-  pub effect_given : {old : Moment R Future L H P} {turns : P} {number : ℕ} {was : State Future} {context : ResolverContext Own} (t : Taken e old turns number was context)
+  pub effect_given : {old : Moment R Future L H P} {turns : P} {number : ℕ} {was : State Future} {context : ResolverContext Own} {info : ResolveInfo} (t : Taken e old turns number was context info)
       (new : Moment R Future L H P) (place : ℕ) → slice_get old.waiting place ≡ Some number → (roots : ℕ) (given : Given Own) → roots ≡ roots_given given
       → e.set.world new.set ≡ world_turned {E = AllocError} true (effect_by e.set old.set (call_of context)) (e.set.world old.set) (Ok (turn.Answered given))
       → ((roots ≡ 0) × (e.set.world new.set ≡ e.set.world old.set)) ⊎ ((roots ≡ 1) × LeavesEffect e old new)

@@ -5,40 +5,41 @@ use Rattle.std.proofs.lemmas.List.{map-append}
 use Rattle.std.proofs.lemmas.List.Elements.{All-nil, All-cons, All-append, All-weaker}
 use Rattle.std.specs.Prelude.{Option, Some, None, ◌⊎◌, slice_get, slice_set}
 use Rattle.gql_resolve.specs.Record.{with_more}
+use Rattle.gql_request.specs.declared.resolve_info.ResolveInfo.{ResolveInfo}
 use Rattle.gql_resolve.specs.declared.resolver_context.ResolverContext.{ResolverContext}
 use Rattle.gql_engine.specs.declared.arena.State.{State}
 use Rattle.gql_engine.specs.declared.arena.State.TheVariants as state
 use Rattle.gql_engine.specs.declared.rounds.Rounds.{Ghosts as Hooking}
 use Rattle.gql_engine.specs.Arena.{fresh_states}
 use Rattle.gql_engine.specs.Parts.{Parts, Moment}
-use Rattle.gql_engine.specs.Plan.{Asking, IsContextOf}
+use Rattle.gql_engine.specs.Plan.{Asking, IsContextOf, IsInfoOf}
 use Rattle.gql_engine.specs.Progress.{Enters, EntersSoFar}
-use Rattle.gql_engine.specs.Rounds.{IsOneOf, KeepNumbers, ToldRounds, RoundsWhole, RoundsStopped, times, to_enter, to_enter_at}
-use Rattle.gql_engine.specs.Turn.{EntersAtMost, enters_now}
+use Rattle.gql_engine.specs.Rounds.{IsOneOf, KeepNumbers, ToldRounds, RoundsWhole, RoundsStopped, event_of, times, to_enter, to_enter_at}
+use Rattle.gql_engine.specs.Turn.{EntersAtMost, Round, enters_now}
 use Rattle.gql_engine.proofs.Lists.{get_set_same, get_set_other, get_append_left, get_within}
 use Rattle.gql_engine.proofs.RecordLemmas.{with_more_none, with_more_append}
 
 module _ (V : Type 0) where
-  times_append : (k : ℕ) (one other : List (ResolverContext V)) → times k (one ++ other) ≡ times k one + times k other
+  times_append : (k : ℕ) (one other : List (Round V)) → times k (one ++ other) ≡ times k one + times k other
   times_append k [] other = omega arith
-  times_append k (c ∷ one) other = let h = times_append k one other in omega arith
+  times_append k (r ∷ one) other = let h = times_append k one other in omega arith
 
-  times_here : (k : ℕ) (c : ResolverContext V) → c.task ≡ k → times k (c ∷ []) ≡ 1
-  times_here k c is = ap (λ b. (if b then 1 else 0) + 0) (eq-eqb c.task k is)
+  times_here : (k : ℕ) (r : Round V) → r.context.task ≡ k → times k (r ∷ []) ≡ 1
+  times_here k r is = ap (λ b. (if b then 1 else 0) + 0) (eq-eqb r.context.task k is)
 
-  times_elsewhere : (k : ℕ) (c : ResolverContext V) → (c.task ≡ k → ⊥) → times k (c ∷ []) ≡ 0
-  times_elsewhere k c differs = ap (λ b. (if b then 1 else 0) + 0) (ne_eqb c.task k differs)
+  times_elsewhere : (k : ℕ) (r : Round V) → (r.context.task ≡ k → ⊥) → times k (r ∷ []) ≡ 0
+  times_elsewhere k r differs = ap (λ b. (if b then 1 else 0) + 0) (ne_eqb r.context.task k differs)
 
   -- the rounds of a turn are those that were to come of its task
-  times_now : (F : Type 0) (k : ℕ) (c : ResolverContext V) (s : State F) → c.task ≡ k → times k (enters_now c s) ≡ to_enter s
-  times_now F k c state.Fresh is = times_here k c is
-  times_now F k c (state.Waiting f) is = refl
-  times_now F k c state.Done is = refl
+  times_now : (F : Type 0) (k : ℕ) (c : ResolverContext V) (i : ResolveInfo) (s : State F) → c.task ≡ k → times k (enters_now c i s) ≡ to_enter s
+  times_now F k c i state.Fresh is = times_here k (record { context = c; info = i }) is
+  times_now F k c i (state.Waiting f) is = refl
+  times_now F k c i state.Done is = refl
 
-  times_other : (F : Type 0) (k : ℕ) (c : ResolverContext V) (s : State F) → (c.task ≡ k → ⊥) → times k (enters_now c s) ≡ 0
-  times_other F k c state.Fresh differs = times_elsewhere k c differs
-  times_other F k c (state.Waiting f) differs = refl
-  times_other F k c state.Done differs = refl
+  times_other : (F : Type 0) (k : ℕ) (c : ResolverContext V) (i : ResolveInfo) (s : State F) → (c.task ≡ k → ⊥) → times k (enters_now c i s) ≡ 0
+  times_other F k c i state.Fresh differs = times_elsewhere k (record { context = c; info = i }) differs
+  times_other F k c i (state.Waiting f) differs = refl
+  times_other F k c i state.Done differs = refl
 
 -- of fresh tasks as much is to come as of those that aren't made yet
 module _ (F : Type 0) where
@@ -54,28 +55,28 @@ module _ (F : Type 0) where
   enter_more (s ∷ states) n zero = refl
   enter_more (s ∷ states) n (suc k) = enter_more states n k
 
-own_later : {V Task : Type 0} {asks : Task → Asking V} {made made' : List Task} → KeepNumbers made made' → (c : ResolverContext V)
-    → IsOneOf asks made c → IsOneOf asks made' c
-own_later stays c own = record { task = own.task; there = stays c.task own.task own.there; context_is = own.context_is }
+own_later : {V Task : Type 0} {asks : Task → Asking V} {made made' : List Task} → KeepNumbers made made' → (r : Round V)
+    → IsOneOf asks made r → IsOneOf asks made' r
+own_later stays r own = record { task = own.task; there = stays r.context.task own.task own.there; context_is = own.context_is; info_is = own.info_is }
 
-module _ {V Task H : Type 0} {asks : Task → Asking V} {hooks : Hooking H V} where
+module _ {V Task H : Type 0} {asks : Task → Asking V} {hooks : Hooking H} where
   rounds_none : (made : List Task) (old : H) → ToldRounds asks hooks made old old
-  rounds_none made old = record { contexts = []; told_is = sym (with_more_none (hooks.told old)); own = All-nil (IsOneOf asks made) }
+  rounds_none made old = record { entered = []; told_is = sym (with_more_none (hooks.told old)); own = All-nil (IsOneOf asks made) }
 
   pub no_rounds : (tasks : List Task) (old : H) → RoundsStopped asks hooks tasks old old
   unfolding rounds_none
   no_rounds tasks old = record { made = tasks; stays = λ k task is. is; rounds = rounds_none tasks old; once = λ k. omega arith }
 
-  rounds_now : (F : Type 0) (made : List Task) (old new : H) (number : ℕ) (task : Task) (context : ResolverContext V) (s : State F)
-      → slice_get made number ≡ Some task → IsContextOf number (asks task) context
-      → hooks.told new ≡ with_more (hooks.told old) (map hooks.entered (enters_now context s)) → ToldRounds asks hooks made old new
-  rounds_now F made old new number task context s task_is context_is told_is = record {
-    contexts = enters_now context s;
+  rounds_now : (F : Type 0) (made : List Task) (old new : H) (number : ℕ) (task : Task) (context : ResolverContext V) (info : ResolveInfo) (s : State F)
+      → slice_get made number ≡ Some task → IsContextOf number (asks task) context → IsInfoOf (asks task) info
+      → hooks.told new ≡ with_more (hooks.told old) (map (event_of hooks) (enters_now context info s)) → ToldRounds asks hooks made old new
+  rounds_now F made old new number task context info s task_is context_is info_is told_is = record {
+    entered = enters_now context info s;
     told_is = told_is;
     own = own s;
   }
     where
-      one : IsOneOf asks made context
+      one : IsOneOf asks made (record { context = context; info = info })
       one = record {
         task = task;
         there = ap (slice_get made) context_is.task_is ∙ task_is;
@@ -86,22 +87,23 @@ module _ {V Task H : Type 0} {asks : Task → Asking V} {hooks : Hooking H V} wh
           item_is = context_is.item_is;
           env_is = context_is.env_is;
         };
+        info_is = info_is;
       }
 
-      own : (s : State F) → Rattle.std.specs.Prelude.All (IsOneOf asks made) (enters_now context s)
-      own state.Fresh = All-cons (IsOneOf asks made) context [] one (All-nil (IsOneOf asks made))
+      own : (s : State F) → Rattle.std.specs.Prelude.All (IsOneOf asks made) (enters_now context info s)
+      own state.Fresh = All-cons (IsOneOf asks made) (record { context = context; info = info }) [] one (All-nil (IsOneOf asks made))
       own (state.Waiting f) = All-nil (IsOneOf asks made)
       own state.Done = All-nil (IsOneOf asks made)
 
   rounds_trans : {made made' : List Task} {old middle new : H} → KeepNumbers made made'
       → ToldRounds asks hooks made old middle → ToldRounds asks hooks made' middle new → ToldRounds asks hooks made' old new
   rounds_trans {made = made} {made' = made'} {old = old} stays one other = record {
-    contexts = one.contexts ++ other.contexts;
-    told_is = other.told_is ∙ ap (λ t. with_more t (map hooks.entered other.contexts)) one.told_is
-        ∙ with_more_append (hooks.told old) (map hooks.entered one.contexts) (map hooks.entered other.contexts)
-        ∙ ap (with_more (hooks.told old)) (sym (map-append hooks.entered one.contexts other.contexts));
-    own = All-append (IsOneOf asks made') one.contexts other.contexts
-        (All-weaker (IsOneOf asks made) (IsOneOf asks made') (own_later stays) one.contexts one.own) other.own;
+    entered = one.entered ++ other.entered;
+    told_is = other.told_is ∙ ap (λ t. with_more t (map (event_of hooks) other.entered)) one.told_is
+        ∙ with_more_append (hooks.told old) (map (event_of hooks) one.entered) (map (event_of hooks) other.entered)
+        ∙ ap (with_more (hooks.told old)) (sym (map-append (event_of hooks) one.entered other.entered));
+    own = All-append (IsOneOf asks made') one.entered other.entered
+        (All-weaker (IsOneOf asks made) (IsOneOf asks made') (own_later stays) one.entered one.own) other.own;
   }
 
 module _ {R Own World Future L H P : Type 0} {e : Parts R Own World Future L H P} where
@@ -110,7 +112,7 @@ module _ {R Own World Future L H P : Type 0} {e : Parts R Own World Future L H P
   enters_none old new tasks_is states_is hooks_is = record {
     stays = λ k task is. ap (λ ts. slice_get ts k) tasks_is ∙ is;
     rounds = record {
-      contexts = [];
+      entered = [];
       told_is = ap e.hooks.told hooks_is ∙ sym (with_more_none (e.hooks.told old.hooks));
       own = All-nil (IsOneOf e.plan.asks (e.plan.tasks new.plan));
     };
@@ -125,7 +127,7 @@ module _ {R Own World Future L H P : Type 0} {e : Parts R Own World Future L H P
     once = λ k.
         let first = one.once k in
         let second = other.once k in
-        let both = times_append Own k one.rounds.contexts other.rounds.contexts in
+        let both = times_append Own k one.rounds.entered other.rounds.entered in
         omega arith;
   }
 
@@ -138,7 +140,7 @@ module _ {R Own World Future L H P : Type 0} {e : Parts R Own World Future L H P
     once = λ k.
         let first = one.once k in
         let second = other.once k in
-        let both = times_append Own k one.rounds.contexts other.rounds.contexts in
+        let both = times_append Own k one.rounds.entered other.rounds.entered in
         omega arith;
   }
 
@@ -151,34 +153,34 @@ module _ {R Own World Future L H P : Type 0} {e : Parts R Own World Future L H P
     once = λ k. omega arith;
   }
 
-  module _ (old : Moment R Future L H P) (number : ℕ) (task : e.plan.Task) (was : State Future) (context : ResolverContext Own)
+  module _ (old : Moment R Future L H P) (number : ℕ) (task : e.plan.Task) (was : State Future) (context : ResolverContext Own) (info : ResolveInfo)
       (task_is : slice_get (e.plan.tasks old.plan) number ≡ Some task) (was_is : slice_get old.states number ≡ Some was)
-      (context_is : IsContextOf number (e.plan.asks task) context) where
+      (context_is : IsContextOf number (e.plan.asks task) context) (info_is : IsInfoOf (e.plan.asks task) info) where
     -- a turn enters the hooks of its task where they were to be entered, and those of no other
     pub one_enters : (new : Moment R Future L H P) (now : State Future)
-        → e.hooks.told new.hooks ≡ with_more (e.hooks.told old.hooks) (map e.hooks.entered (enters_now context was))
+        → e.hooks.told new.hooks ≡ with_more (e.hooks.told old.hooks) (map (event_of e.hooks) (enters_now context info was))
         → KeepNumbers (e.plan.tasks old.plan) (e.plan.tasks new.plan) → slice_get new.states number ≡ Some now → to_enter now ≡ 0
         → ((k : ℕ) → (k ≡ number → ⊥) → to_enter_at (slice_get old.states k) ≡ to_enter_at (slice_get new.states k))
         → Enters e old new
     unfolding rounds_now
     one_enters new now told_is stays now_is over others = record {
       stays = stays;
-      rounds = rounds_now Future (e.plan.tasks new.plan) old.hooks new.hooks number task context was (stays number task task_is) context_is told_is;
+      rounds = rounds_now Future (e.plan.tasks new.plan) old.hooks new.hooks number task context info was (stays number task task_is) context_is info_is told_is;
       once = λ k. elim (cases_eq k number) [
         | inl same ↦ here k same
-        | inr differs ↦ (let a = others k differs in let b = times_other Own Future k context was (λ f. differs (sym f ∙ context_is.task_is)) in omega arith)
+        | inr differs ↦ (let a = others k differs in let b = times_other Own Future k context info was (λ f. differs (sym f ∙ context_is.task_is)) in omega arith)
       ];
     }
       where
-        here : (k : ℕ) → k ≡ number → to_enter_at (slice_get old.states k) ≡ times k (enters_now context was) + to_enter_at (slice_get new.states k)
+        here : (k : ℕ) → k ≡ number → to_enter_at (slice_get old.states k) ≡ times k (enters_now context info was) + to_enter_at (slice_get new.states k)
         here k same =
             let a : to_enter_at (slice_get old.states k) ≡ to_enter was = ap (λ j. to_enter_at (slice_get old.states j)) same ∙ ap to_enter_at was_is in
             let b : to_enter_at (slice_get new.states k) ≡ 0 = ap (λ j. to_enter_at (slice_get new.states j)) same ∙ ap to_enter_at now_is ∙ over in
-            let d = times_now Own Future k context was (context_is.task_is ∙ sym same) in
+            let d = times_now Own Future k context info was (context_is.task_is ∙ sym same) in
             omega arith
 
     pub enters_waiting : (new : Moment R Future L H P) (future : Future)
-        → e.hooks.told new.hooks ≡ with_more (e.hooks.told old.hooks) (map e.hooks.entered (enters_now context was))
+        → e.hooks.told new.hooks ≡ with_more (e.hooks.told old.hooks) (map (event_of e.hooks) (enters_now context info was))
         → e.plan.tasks new.plan ≡ e.plan.tasks old.plan → new.states ≡ slice_set old.states number (state.Waiting future)
         → Enters e old new
     enters_waiting new future told_is tasks_is states_is = one_enters new (state.Waiting future) told_is
@@ -187,7 +189,7 @@ module _ {R Own World Future L H P : Type 0} {e : Parts R Own World Future L H P
         (λ k differs. ap to_enter_at (sym (get_set_other old.states number k (state.Waiting future) differs) ∙ ap (λ ss. slice_get ss k) (sym states_is)))
 
     pub enters_answer : (new : Moment R Future L H P) (more : List e.plan.Task) (count : ℕ)
-        → e.hooks.told new.hooks ≡ with_more (e.hooks.told old.hooks) (map e.hooks.entered (enters_now context was))
+        → e.hooks.told new.hooks ≡ with_more (e.hooks.told old.hooks) (map (event_of e.hooks) (enters_now context info was))
         → e.plan.tasks new.plan ≡ e.plan.tasks old.plan ++ more → new.states ≡ slice_set old.states number state.Done ++ fresh_states count
         → Enters e old new
     enters_answer new more count told_is tasks_is states_is = one_enters new state.Done told_is
@@ -200,28 +202,28 @@ module _ {R Own World Future L H P : Type 0} {e : Parts R Own World Future L H P
         ∙ ap (λ ss. to_enter_at (slice_get ss k)) (sym states_is))
 
     -- where memory was wanting after the round
-    pub so_far_entered : (hooks : H) → e.hooks.told hooks ≡ with_more (e.hooks.told old.hooks) (map e.hooks.entered (enters_now context was))
+    pub so_far_entered : (hooks : H) → e.hooks.told hooks ≡ with_more (e.hooks.told old.hooks) (map (event_of e.hooks) (enters_now context info was))
         → EntersSoFar e old hooks
     unfolding rounds_now
     so_far_entered hooks told_is = record {
       made = e.plan.tasks old.plan;
       stays = λ k t is. is;
-      rounds = rounds_now Future (e.plan.tasks old.plan) old.hooks hooks number task context was task_is context_is told_is;
+      rounds = rounds_now Future (e.plan.tasks old.plan) old.hooks hooks number task context info was task_is context_is info_is told_is;
       once = λ k. elim (cases_eq k number) [
         | inl same ↦ (let a : to_enter_at (slice_get old.states k) ≡ to_enter was = ap (λ j. to_enter_at (slice_get old.states j)) same ∙ ap to_enter_at was_is in
-            let d = times_now Own Future k context was (context_is.task_is ∙ sym same) in omega arith)
-        | inr differs ↦ (let b = times_other Own Future k context was (λ f. differs (sym f ∙ context_is.task_is)) in omega arith)
+            let d = times_now Own Future k context info was (context_is.task_is ∙ sym same) in omega arith)
+        | inr differs ↦ (let b = times_other Own Future k context info was (λ f. differs (sym f ∙ context_is.task_is)) in omega arith)
       ];
     }
 
     -- where it was wanting in the round, or later in the turn
-    pub so_far_enters : (hooks : H) → EntersAtMost (map e.hooks.entered (enters_now context was)) (e.hooks.told old.hooks) (e.hooks.told hooks)
+    pub so_far_enters : (hooks : H) → EntersAtMost (map (event_of e.hooks) (enters_now context info was)) (e.hooks.told old.hooks) (e.hooks.told hooks)
         → EntersSoFar e old hooks
     so_far_enters hooks most = elim most [
       | inl same ↦ record {
         made = e.plan.tasks old.plan;
         stays = λ k t is. is;
-        rounds = record { contexts = []; told_is = same ∙ sym (with_more_none (e.hooks.told old.hooks)); own = All-nil (IsOneOf e.plan.asks (e.plan.tasks old.plan)) };
+        rounds = record { entered = []; told_is = same ∙ sym (with_more_none (e.hooks.told old.hooks)); own = All-nil (IsOneOf e.plan.asks (e.plan.tasks old.plan)) };
         once = λ k. omega arith;
       }
       | inr one ↦ so_far_entered hooks one

@@ -2,11 +2,12 @@
 use Rattle.std.proofs.Common.{ℕ, ◌≡◌, ◌<◌, length, get_or, arith}
 use Rattle.std.specs.Prelude.{Some, option_map, slice_get, Result, Ok, Err, IsErrAnd}
 use Rattle.std.specs.Option.{ForSome}
+use Rattle.gql_request.specs.declared.resolve_info.ResolveInfo.{ResolveInfo}
 use Rattle.gql_resolve.specs.declared.resolver_context.ResolverContext.{ResolverContext}
 use Rattle.gql_engine.specs.declared.arena.State.{State}
 use Rattle.gql_engine.specs.declared.given.Given.{Given}
 use Rattle.gql_engine.specs.Parts.{Parts, Moment}
-use Rattle.gql_engine.specs.Plan.{IsContextOf}
+use Rattle.gql_engine.specs.Plan.{IsContextOf, IsInfoOf}
 use Rattle.gql_engine.specs.Progress.{IsSound, Kept, Went, Ended, Stretch}
 use Rattle.gql_engine.proofs.AdvanceLemmas.{Taken, stands, taken}
 use Rattle.gql_engine.proofs.AimLemmas.{with_plan, kept_aimed, went_aimed}
@@ -14,23 +15,24 @@ use Rattle.gql_engine.proofs.PickLemmas.{picked_within}
 
 module _ {R Own World Future L H P : Type 0} (e : Parts R Own World Future L H P) where
   -- a plan is aimed at the task that the turns chose, and the task is taken up
-  pub record Upon (first : Moment R Future L H P) (plan : L) (turns : P) (number : ℕ) (was : State Future) (context : ResolverContext Own) : Type 0 where
+  pub record Upon (first : Moment R Future L H P) (plan : L) (turns : P) (number : ℕ) (was : State Future) (context : ResolverContext Own) (info : ResolveInfo) : Type 0 where
     pub kept : Kept e first (with_plan first plan)
     pub aimed : Went e first (with_plan first plan)
-    pub taken : Taken e (with_plan first plan) turns number was context
+    pub taken : Taken e (with_plan first plan) turns number was context info
 
 module _ {R Own World Future L H P : Type 0} {e : Parts R Own World Future L H P} where
-  pub upon : (first : Moment R Future L H P) (plan : L) (turns : P) (place number : ℕ) (was : State Future) (context : ResolverContext Own)
+  pub upon : (first : Moment R Future L H P) (plan : L) (turns : P) (place number : ℕ) (was : State Future) (context : ResolverContext Own) (info : ResolveInfo)
       → e.plan.tasks plan ≡ e.plan.tasks first.plan
       → ((other : ℕ) (g : Given Own) → e.plan.holds first.plan other g → e.plan.holds plan other g)
       → IsSound e first → slice_get first.waiting place ≡ Some number → was ≡ get_or first.states number was
       → ((task : e.plan.Task) → slice_get (e.plan.tasks plan) number ≡ Some task → IsContextOf number (e.plan.asks task) context)
+      → ((task : e.plan.Task) → slice_get (e.plan.tasks plan) number ≡ Some task → IsInfoOf (e.plan.asks task) info)
       → ForSome (e.turns.state first.turns) (λ s. place ≡ e.turns.choice s (length first.waiting))
       → e.turns.state turns ≡ option_map (λ s. e.turns.after s (length first.waiting)) (e.turns.state first.turns)
-      → Upon e first plan turns number was context
-  upon first plan turns place number was context tasks_is keeps sound stood read contexts choices turns_is =
+      → Upon e first plan turns number was context info
+  upon first plan turns place number was context info tasks_is keeps sound stood read contexts infos choices turns_is =
       let aimed = went_aimed first plan tasks_is keeps sound in
-      record { kept = kept_aimed first plan; aimed = aimed; taken = taken turns place number was context aimed.sound stood read contexts choices turns_is }
+      record { kept = kept_aimed first plan; aimed = aimed; taken = taken turns place number was context info aimed.sound stood read contexts infos choices turns_is }
 
   -- the number that was picked is that of a task
   pub within : (first : Moment R Future L H P) (place number : ℕ) → IsSound e first → slice_get first.waiting place ≡ Some number

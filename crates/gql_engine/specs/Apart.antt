@@ -19,7 +19,7 @@ use Rattle.gql_resolve.specs.Call.{Call, is_mutation, is_single}
 use Rattle.gql_resolve.specs.Layers.{layers_of}
 use Rattle.gql_resolve.specs.declared.answer.Answer.{Answer}
 use Rattle.gql_schema.specs.Field.{field_type, resolver_of}
-use Rattle.gql_schema.specs.Object.{fields_of}
+use Rattle.gql_schema.specs.Object.{fields_of, object_name}
 use Rattle.gql_schema.specs.declared.field.Field.{Field as SchemaField}
 use Rattle.gql_engine.specs.Arena.{Subject, Work, subject_of}
 use Rattle.gql_engine.specs.Completion.{tree_given}
@@ -51,7 +51,6 @@ pub record Asked (V : Type 0) : Type 0 where
   pub asks : Asking V
   pub key : List ℕ
   pub place : Pos
-  pub ty : TypeRef
 
 -- what an occurrence of a declared field asks
 abbrev pub asking_of : {V : Type 0} → Scene V → Positioned Field → SchemaField → Asking V
@@ -66,6 +65,8 @@ asking_of scene occurrence declared = record {
   segments = path_of occurrence;
   item = occurrence.node;
   env = scene.env.now;
+  parent = object_name scene.object.now;
+  ty = field_type declared;
 }
 
 -- such an occurrence as a task
@@ -74,7 +75,6 @@ asked_of scene occurrence declared = record {
   asks = asking_of scene occurrence declared;
   key = key_text occurrence;
   place = occurrence.pos;
-  ty = field_type declared;
 }
 
 -- an occurrence is asked where the object has its field
@@ -121,7 +121,7 @@ place_with place ty given = record {
 
 -- the place of a task with what it was given
 abbrev pub place_given : {V : Type 0} → Asked V → Given V → Place
-place_given task given = place_with task.place task.ty given
+place_given task given = place_with task.place task.asks.ty given
 
 -- the place of an occurrence with its answer
 abbrev pub place_of : {V : Type 0} → Asked V → Answer V → Place

@@ -16,13 +16,13 @@ use Rattle.gql_engine.specs.Record.{Choice, Stage}
 pub record Parts (R Own World Future L H P : Type 0) : Type 1 where
   pub set : Resolving R Own World Future
   pub plan : Planning L Own
-  pub hooks : Hooking H Own
+  pub hooks : Hooking H
   pub turns : Choosing P
   pub root : Bool
 
 module _ {R Own World Future L H P : Type 0} (set : Resolving R Own World Future) where
   -- the parts, as a contract names them; no open task is a root of a mutation
-  abbrev pub parts : Planning L Own → Hooking H Own → Choosing P → Parts R Own World Future L H P
+  abbrev pub parts : Planning L Own → Hooking H → Choosing P → Parts R Own World Future L H P
   parts plan hooks turns = record {
     set = set;
     plan = plan;
@@ -32,7 +32,7 @@ module _ {R Own World Future L H P : Type 0} (set : Resolving R Own World Future
   }
 
   -- those of the phase that answers a root of a mutation: it alone is open
-  abbrev pub root_parts : Planning L Own → Hooking H Own → Choosing P
+  abbrev pub root_parts : Planning L Own → Hooking H → Choosing P
       → Parts R Own World Future L H P
   root_parts plan hooks turns = record {
     set = set;

@@ -97,14 +97,14 @@ module _ {R Own World Future L H P : Type 0} (e : Parts R Own World Future L H P
     pub stays : KeepNumbers (e.plan.tasks old.plan) (e.plan.tasks new.plan)
     pub rounds : ToldRounds e.plan.asks e.hooks (e.plan.tasks new.plan) old.hooks new.hooks
     pub once : (k : ℕ) → to_enter_at (slice_get old.states k)
-        ≡ times k rounds.contexts + to_enter_at (slice_get new.states k)
+        ≡ times k rounds.entered + to_enter_at (slice_get new.states k)
 
   -- the same where memory was wanting: once at most
   pub record EntersSoFar (old : Moment R Future L H P) (hooks : H) : Type 0 where
     pub made : List e.plan.Task
     pub stays : KeepNumbers (e.plan.tasks old.plan) made
     pub rounds : ToldRounds e.plan.asks e.hooks made old.hooks hooks
-    pub once : (k : ℕ) → times k rounds.contexts ≤ to_enter_at (slice_get old.states k)
+    pub once : (k : ℕ) → times k rounds.entered ≤ to_enter_at (slice_get old.states k)
 
   -- a task that has its answer keeps it
   pub record StaysDone (old new : Moment R Future L H P) (number : ℕ) : Type 0 where

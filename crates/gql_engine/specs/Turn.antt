@@ -1,14 +1,15 @@
 -- What one turn does to the task that it takes.
 use Rattle.std.specs.Prelude.{ℕ, ◌≡◌, ◌<◌, List, [], ◌∷◌, ◌⊎◌, Option, Result, Ok, Err}
 use Rattle.std.specs.Prelude.{true, false}
+use Rattle.gql_request.specs.declared.entered.Entered.{Entered}
+use Rattle.gql_request.specs.declared.entered.Entered.TheVariants as entered
+use Rattle.gql_request.specs.declared.resolve_info.ResolveInfo.{ResolveInfo}
 use Rattle.gql_resolve.specs.declared.answer.Answer.{Answer}
 use Rattle.gql_resolve.specs.declared.record_entry.RecordEntry.{RecordEntry}
 use Rattle.gql_resolve.specs.declared.resolver_context.ResolverContext.{ResolverContext}
 use Rattle.gql_resolve.specs.declared.resolver_set.ResolverSet.{Ghosts as Resolving}
 use Rattle.gql_resolve.specs.Call.{Call}
 use Rattle.gql_resolve.specs.Record.{entry_of, with_more}
-use Rattle.gql_engine.specs.declared.rounds.Entered.{Entered}
-use Rattle.gql_engine.specs.declared.rounds.Entered.TheVariants as entered
 use Rattle.gql_engine.specs.declared.given.Given.TheVariants.{Answered, Put}
 use Rattle.gql_engine.specs.declared.arena.State.{State}
 use Rattle.gql_engine.specs.declared.arena.State.TheVariants as state
@@ -77,11 +78,16 @@ begins_now task state.Fresh = task ∷ []
 begins_now task (state.Waiting future) = []
 begins_now task state.Done = []
 
--- the rounds of a turn, by their contexts: a fresh task's hooks are entered, once
-abbrev pub enters_now : {V F : Type 0} → ResolverContext V → State F → List (ResolverContext V)
-enters_now context state.Fresh = context ∷ []
-enters_now context (state.Waiting future) = []
-enters_now context state.Done = []
+-- a round of the hooks of a task: the context of its resolver, and what they are told of it
+pub record Round (V : Type 0) : Type 0 where
+  pub context : ResolverContext V
+  pub info : ResolveInfo
+
+-- the rounds of a turn: a fresh task's hooks are entered, once
+abbrev pub enters_now : {V F : Type 0} → ResolverContext V → ResolveInfo → State F → List (Round V)
+enters_now context info state.Fresh = record { context = context; info = info } ∷ []
+enters_now context info (state.Waiting future) = []
+enters_now context info state.Done = []
 
 -- where memory was wanting, they may not have been
 abbrev pub EntersAtMost : {Event : Type 0} → List Event → Option (List Event) → Option (List Event)

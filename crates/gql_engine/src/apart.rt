@@ -85,7 +85,7 @@ fn run_on_blank<R: ResolverSet, P: Turns, S: Ledger>(
 
 /// The same with the rounds of any hooks, where each start of a resolver that answered is a step.
 /// The hooks of each task are entered once, before its resolver is started.
-pub fn run_apart_counted<R: ResolverSet, H: Rounds<R::Own>, P: Turns, S: Ledger>(
+pub fn run_apart_counted<R: ResolverSet, H: Rounds, P: Turns, S: Ledger>(
     alloc: Global,
     scene: &Scene<'_, R::Own>,
     resolvers: &mut R,
@@ -125,7 +125,7 @@ pub fn run_apart_counted<R: ResolverSet, H: Rounds<R::Own>, P: Turns, S: Ledger>
 /// The place of a mutation with one root key over a flat object. The key's task is answered alone,
 /// with its effect on the world; all that goes on does so in the world after it. Want of memory
 /// tells the root where its effect stands.
-pub fn run_root<R: ResolverSet, H: Rounds<R::Own>, P: Turns, S: Ledger>(
+pub fn run_root<R: ResolverSet, H: Rounds, P: Turns, S: Ledger>(
     alloc: Global,
     scene: &Scene<'_, R::Own>,
     resolvers: &mut R,

@@ -1,4 +1,6 @@
 ghost use Rattle.std.specs.Prelude.{◌≡◌, [], false};
+ghost use Rattle.std.specs.Option.{option_copied};
+ghost use Rattle.gql_engine.specs.Plan.{alias_in};
 
 use crate::given::Given;
 use crate::occurrence::Occurrence;
@@ -6,15 +8,16 @@ use crate::placing::place_at;
 use crate::plan::Plan;
 use crate::scene::Scene;
 use gql_base::{Made, Pairs, PathSegment, Text, Value};
+use gql_doc::Field;
 use gql_input::ObjectAccessor;
-use gql_request::QueryPathNode;
+use gql_request::{QueryPathNode, ResolveInfo};
 use gql_resolve::ResolverContext;
 use std::alloc::Global;
 
 /// The occurrences of a flat object's fields, each with its place once it is answered, and the path
 /// to one of them.
 #[derive(Drop)]
-pub struct ApartPlan<'a, V> {
+pub(crate) struct ApartPlan<'a, V> {
     pub scene: &'a Scene<'a, V>,
     pub arguments: Pairs<Value>,
     pub occurrences: Vec<Occurrence<'a>>,
@@ -69,6 +72,21 @@ impl<'a, V: Drop> Plan<V> for ApartPlan<'a, V> {
         }
     }
 
+    fn info<'c>(&'c self, number: usize) -> ResolveInfo<'c> {
+        let occurrence = &self.occurrences[number];
+        let field = &occurrence.item.node;
+        ResolveInfo {
+            path_node: QueryPathNode {
+                segments: self.path.as_slice(),
+            },
+            parent_type: self.scene.object.type_name(),
+            return_type: occurrence.declared.ty(),
+            name: field.name.node.as_str(),
+            alias: alias_of(field),
+            field,
+        }
+    }
+
     fn complete(&mut self, alloc: Global, number: usize, given: Given<V>) -> Made<usize>
         requires { number < length (all_seen self.old.scene.now self.old.occurrences.items) }
         ensures made { (task : Asked V)
@@ -86,5 +104,15 @@ impl<'a, V: Drop> Plan<V> for ApartPlan<'a, V> {
         let place = place_at(alloc, occurrence, given)?;
         self.occurrences[number].place = Some(place);
         Ok(0)
+    }
+}
+
+/// The alias of a field, where it has one.
+fn alias_of(field: &Field) -> Option<&str>
+    ensures { option_copied result ≡ alias_in field.now }
+{
+    match &field.alias {
+        Some(alias) => Some(alias.node.as_str()),
+        None => None,
     }
 }

@@ -19,7 +19,7 @@ pub struct Arena<F> {
 
 /// What one turn gave: what the task is given, its first pending poll, or a later one.
 #[derive(Debug, Drop)]
-pub enum Turn<V> {
+pub(crate) enum Turn<V> {
     Answered(Given<V>),
     Begun,
     Pending,

@@ -23,12 +23,12 @@ mod turning;
 mod waiting;
 
 pub use apart::{run_apart, run_apart_counted, run_root};
-pub use arena::{Arena, State, Turn};
+pub use arena::{Arena, State};
 pub use completion::takes_value;
 pub use given::Given;
 pub use plan::Plan;
 pub use root::answer_root;
-pub use rounds::{Entered, Rounds};
+pub use rounds::Rounds;
 pub use scene::Scene;
 pub use scheduler::finish;
 pub use settling::fresh_arena;

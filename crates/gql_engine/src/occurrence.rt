@@ -8,7 +8,7 @@ use gql_request::QueryEnv;
 
 /// A field of the object where it stands in a query, and its place once it is answered.
 #[derive(Drop)]
-pub struct Occurrence<'a> {
+pub(crate) struct Occurrence<'a> {
     pub item: &'a Positioned<Field>,
     pub declared: &'a gql_schema::Field,
     pub env: &'a QueryEnv,

@@ -1,11 +1,12 @@
 ghost use Rattle.std.specs.Prelude.{ℕ, false, ◌≡◌, ◌<◌, List, Some, length, slice_get, OnOk, IfOk};
 ghost use Rattle.gql_resolve.specs.declared.answer.Answer.{Answer};
 ghost use Rattle.gql_engine.specs.Given.{beneath_given};
-ghost use Rattle.gql_engine.specs.Plan.{Asking, HasMade, IsContextOf};
+ghost use Rattle.gql_engine.specs.Plan.{Asking, HasMade, IsContextOf, IsInfoOf};
 ghost use Rattle.gql_engine.specs.declared.given.Given.{Given};
 
 use crate::given::Given;
 use gql_base::Made;
+use gql_request::ResolveInfo;
 use gql_resolve::ResolverContext;
 use std::alloc::Global;
 
@@ -44,6 +45,13 @@ pub trait Plan<V> {
         requires aimed { aims self.now number }
         ensures { (task : Task) → slice_get (tasks self.now) number ≡ Some task
             → IsContextOf number (asks task) result };
+
+    /// What hooks are told of the task at which the path is aimed.
+    fn info<'a>(&'a self, number: usize) -> ResolveInfo<'a>
+        requires within { number < length (tasks self.now) }
+        requires aimed { aims self.now number }
+        ensures { (task : Task) → slice_get (tasks self.now) number ≡ Some task
+            → IsInfoOf (asks task) result };
 
     /// Keeps what a task was given, makes the tasks beneath, and tells their number.
     fn complete(&mut self, alloc: Global, number: usize, given: Given<V>) -> Made<usize>

@@ -29,7 +29,7 @@ pub(crate) enum Reached {
 
 /// Answers the one task that waits, as a root of a mutation: its effect on the world comes with its
 /// answer. Want of memory tells the root where its effect stands.
-pub fn answer_root<R: ResolverSet, L: Plan<R::Own>, H: Rounds<R::Own>, P: Turns, S: Ledger>(
+pub fn answer_root<R: ResolverSet, L: Plan<R::Own>, H: Rounds, P: Turns, S: Ledger>(
     alloc: Global,
     plan: &mut L,
     arena: &mut Arena<R::Future>,
@@ -56,7 +56,7 @@ pub fn answer_root<R: ResolverSet, L: Plan<R::Own>, H: Rounds<R::Own>, P: Turns,
 }
 
 /// Turns until the root has begun or has its answer. True where it has.
-fn reach_root<R: ResolverSet, L: Plan<R::Own>, H: Rounds<R::Own>, P: Turns, S: Ledger>(
+fn reach_root<R: ResolverSet, L: Plan<R::Own>, H: Rounds, P: Turns, S: Ledger>(
     alloc: Global,
     plan: &mut L,
     arena: &mut Arena<R::Future>,
@@ -84,7 +84,7 @@ fn reach_root<R: ResolverSet, L: Plan<R::Own>, H: Rounds<R::Own>, P: Turns, S: L
 }
 
 /// One turn of the root, which waits alone.
-fn advance_root<R: ResolverSet, L: Plan<R::Own>, H: Rounds<R::Own>, P: Turns, S: Ledger>(
+fn advance_root<R: ResolverSet, L: Plan<R::Own>, H: Rounds, P: Turns, S: Ledger>(
     alloc: Global,
     plan: &mut L,
     arena: &mut Arena<R::Future>,
@@ -106,6 +106,7 @@ fn advance_root<R: ResolverSet, L: Plan<R::Own>, H: Rounds<R::Own>, P: Turns, S:
     plan.aim(alloc, picked.number)?;
     let turn = {
         let context = plan.context(picked.number);
+        let info = plan.info(picked.number);
         take_turn(
             true,
             alloc,
@@ -113,6 +114,7 @@ fn advance_root<R: ResolverSet, L: Plan<R::Own>, H: Rounds<R::Own>, P: Turns, S:
             hooks,
             &mut arena.states[picked.number],
             &context,
+            &info,
             steps,
         )?
     };

@@ -3,26 +3,20 @@ ghost use Rattle.gql_resolve.specs.Record.{with_more};
 ghost use Rattle.gql_engine.specs.Turn.{GoesOn, happened};
 
 use gql_base::{Error, Made, Value};
-use gql_request::Hooks;
-use gql_resolve::ResolverContext;
-
-/// Whether hooks let the work go on, or answer in its place.
-#[derive(Debug, Drop)]
-pub enum Entered<T> {
-    Go,
-    Answer(T),
-}
+use gql_request::{Entered, ExtensionContext, Hooks, ResolveInfo};
 
 /// The rounds of the hooks of a task: what the engine knows of hooks.
-pub trait Rounds<V> {
+pub trait Rounds {
     ghost use Rattle.std.specs.Prelude.{List, Option};
-    ghost use Rattle.gql_resolve.specs.declared.resolver_context.ResolverContext.{ResolverContext};
+    ghost use Rattle.gql_request.specs.declared.extension_context.ExtensionContext.{ExtensionContext};
+    ghost use Rattle.gql_request.specs.declared.resolve_info.ResolveInfo.{ResolveInfo};
 
     /// What hooks tell of a round.
     ghost Event: { Type 0 };
 
-    /// The event of the round before a task's resolver.
-    ghost entered: { ResolverContext V → Event };
+    /// The event of the round before a task's resolver, by the data that hooks see and what they are
+    /// told of the task.
+    ghost entered: { ExtensionContext → ResolveInfo → Event };
 
     /// The events that the hooks have told, where they tell them.
     ghost told: { Self → Option (List Event) };
@@ -34,20 +28,21 @@ pub trait Rounds<V> {
     /// answer: a leaf, nothing, or a fault.
     fn enter(
         &mut self,
-        context: &ResolverContext<'_, V>,
+        ctx: &ExtensionContext<'_>,
+        info: &ResolveInfo<'_>,
     ) -> Made<Entered<Result<Option<Value>, Error>>>
         ensures quiet { are_quiet self.old → are_quiet self.new × GoesOn result }
         ensures told { told self.new
-            ≡ with_more (told self.old) (happened result (entered context.now)) };
+            ≡ with_more (told self.old) (happened result (entered ctx.now info.now)) };
 }
 
 /// The empty list of hooks, the only one so far, lets each task go on.
-impl<V> Rounds<V> for Hooks {
+impl Rounds for Hooks {
     ghost use Rattle.std.specs.Prelude.{None};
 
     ghost Event = { Unit {0} };
 
-    ghost entered = { λ context. tt };
+    ghost entered = { λ ctx info. tt };
 
     ghost told = { λ hooks. None };
 
@@ -55,7 +50,8 @@ impl<V> Rounds<V> for Hooks {
 
     fn enter(
         &mut self,
-        _context: &ResolverContext<'_, V>,
+        _ctx: &ExtensionContext<'_>,
+        _info: &ResolveInfo<'_>,
     ) -> Made<Entered<Result<Option<Value>, Error>>>
         ensures { GoesOn result }
     {

@@ -4,10 +4,10 @@ ghost use Rattle.gql_engine.specs.Parts.{parts, at, outside};
 ghost use Rattle.gql_engine.specs.Progress.{IsSound, Stretch};
 
 use crate::arena::{Arena, Turn};
+use crate::keeping::keep_given;
 use crate::picking::pick_task;
 use crate::plan::Plan;
 use crate::rounds::Rounds;
-use crate::settling::settle;
 use crate::turning::take_turn;
 use gql_base::{Made, Steps};
 use gql_resolve::{ResolverSet, Turns};
@@ -16,7 +16,7 @@ use std::sync::ledger::Ledger;
 
 /// One turn: picks one of the tasks that wait, aims the plan at it, takes it up, and keeps its
 /// answer where it has one. True where a task has begun or has its answer.
-fn advance<R: ResolverSet, L: Plan<R::Own>, H: Rounds<R::Own>, P: Turns, S: Ledger>(
+fn advance<R: ResolverSet, L: Plan<R::Own>, H: Rounds, P: Turns, S: Ledger>(
     alloc: Global,
     plan: &mut L,
     arena: &mut Arena<R::Future>,
@@ -39,6 +39,7 @@ fn advance<R: ResolverSet, L: Plan<R::Own>, H: Rounds<R::Own>, P: Turns, S: Ledg
     plan.aim(alloc, picked.number)?;
     let turn = {
         let context = plan.context(picked.number);
+        let info = plan.info(picked.number);
         take_turn(
             false,
             alloc,
@@ -46,6 +47,7 @@ fn advance<R: ResolverSet, L: Plan<R::Own>, H: Rounds<R::Own>, P: Turns, S: Ledg
             hooks,
             &mut arena.states[picked.number],
             &context,
+            &info,
             steps,
         )?
     };
@@ -53,15 +55,14 @@ fn advance<R: ResolverSet, L: Plan<R::Own>, H: Rounds<R::Own>, P: Turns, S: Ledg
         Turn::Begun => Ok(true),
         Turn::Pending => Ok(false),
         Turn::Answered(given) => {
-            let count = plan.complete(alloc, picked.number, given)?;
-            settle(arena, picked.place, picked.number, count)?;
+            keep_given(alloc, plan, arena, picked, given)?;
             Ok(true)
         }
     }
 }
 
 /// Turns until a task has begun or has its answer.
-fn reach_event<R: ResolverSet, L: Plan<R::Own>, H: Rounds<R::Own>, P: Turns, S: Ledger>(
+fn reach_event<R: ResolverSet, L: Plan<R::Own>, H: Rounds, P: Turns, S: Ledger>(
     alloc: Global,
     plan: &mut L,
     arena: &mut Arena<R::Future>,
@@ -87,7 +88,7 @@ fn reach_event<R: ResolverSet, L: Plan<R::Own>, H: Rounds<R::Own>, P: Turns, S: 
 }
 
 /// Turns until every task has its answer.
-pub fn finish<R: ResolverSet, L: Plan<R::Own>, H: Rounds<R::Own>, P: Turns, S: Ledger>(
+pub fn finish<R: ResolverSet, L: Plan<R::Own>, H: Rounds, P: Turns, S: Ledger>(
     alloc: Global,
     plan: &mut L,
     arena: &mut Arena<R::Future>,

@@ -10,7 +10,12 @@ use std::alloc::Global;
 
 /// Notes that a task, which stands at a place of those that wait, has its answer, and that tasks
 /// are made beneath it.
-pub fn settle<F: Drop>(arena: &mut Arena<F>, place: usize, number: usize, count: usize) -> Made<()>
+pub(crate) fn settle<F: Drop>(
+    arena: &mut Arena<F>,
+    place: usize,
+    number: usize,
+    count: usize,
+) -> Made<()>
     requires waits { arena.old.waiting
         ≡ waiting_from 0 (slice_set (marks_of arena.old.states.items) number begun) }
     requires stands { slice_get arena.old.waiting place ≡ Some number }

@@ -6,6 +6,7 @@ ghost use Rattle.gql_resolve.specs.Call.{call_of};
 ghost use Rattle.gql_engine.specs.Pace.{TurnPaced};
 ghost use Rattle.gql_engine.specs.Parts.{due_by, delay_by};
 ghost use Rattle.gql_engine.specs.Root.{effect_by, world_polled, world_turned, PollsRightly};
+ghost use Rattle.gql_engine.specs.Rounds.{data_seen, event_of};
 ghost use Rattle.gql_engine.specs.Steps.{IsCounted};
 ghost use Rattle.gql_engine.specs.Turn.{BeginsAtMost, EntersAtMost, IsNoPut, IsOpen, PutKeeps};
 ghost use Rattle.gql_engine.specs.Turn.{TurnOf, AnswersRightly, told_by_turn, begins_now};
@@ -13,23 +14,25 @@ ghost use Rattle.gql_engine.specs.Turn.{enters_now};
 
 use crate::arena::{State, Turn};
 use crate::given::Given;
-use crate::rounds::{Entered, Rounds};
+use crate::rounds::Rounds;
 use gql_base::{Items, Made, Steps};
-use gql_resolve::{Answer, FieldFuture, FieldValue, Polled, ResolverContext, ResolverSet};
+use gql_request::{Entered, ExtensionContext, ResolveInfo};
+use gql_resolve::{Answer, FieldFuture, FieldValue, Layers, Polled, ResolverContext, ResolverSet};
 use std::alloc::Global;
 use std::sync::ledger::Ledger;
 
 /// Takes up a task: begins it where it is fresh, and polls its future, as that of a root of a
 /// mutation or of another task. The world stays, but for the effect of a root that its resolver
 /// answered.
-#[tactic(auto, using(crate::proofs::RecordLemmas::with_more_none, crate::proofs::StepLemmas::none_counted))]
-pub fn take_turn<R: ResolverSet, H: Rounds<R::Own>, S: Ledger>(
+#[tactic(auto, using(crate::proofs::TurningSteps::later_steps))]
+pub(crate) fn take_turn<R: ResolverSet, H: Rounds, S: Ledger>(
     root: bool,
     alloc: Global,
     resolvers: &mut R,
     hooks: &mut H,
     state: &mut State<R::Future>,
     context: &ResolverContext<'_, R::Own>,
+    info: &ResolveInfo<'_>,
     steps: &mut Steps<S>,
 ) -> Made<Turn<R::Own>>
     requires open { IsOpen R.is_for (call_of context.now) state.old }
@@ -43,9 +46,11 @@ pub fn take_turn<R: ResolverSet, H: Rounds<R::Own>, S: Ledger>(
         (R.world resolvers.old) result }
     ensures quiet { H.are_quiet hooks.old → H.are_quiet hooks.new }
     ensures entered { OnOk result (H.told hooks.new
-        ≡ with_more (H.told hooks.old) (map H.entered (enters_now context.now state.old))) }
+        ≡ with_more (H.told hooks.old)
+        (map (event_of H.Rounds) (enters_now context.now info.now state.old))) }
     ensures unentered { OnErr result (EntersAtMost
-        (map H.entered (enters_now context.now state.old)) (H.told hooks.old) (H.told hooks.new)) }
+        (map (event_of H.Rounds) (enters_now context.now info.now state.old))
+        (H.told hooks.old) (H.told hooks.new)) }
     ensures put { PutKeeps resolvers.old resolvers.new result }
     ensures answer { R.is_lawful resolvers.old → H.are_quiet hooks.old → AnswersRightly
         (due_by R.ResolverSet resolvers.old (call_of context.now)) result }
@@ -65,7 +70,7 @@ pub fn take_turn<R: ResolverSet, H: Rounds<R::Own>, S: Ledger>(
         (steps.new ≡ steps.old + length (begins_now context.now.task state.old)) }
 {
     match state {
-        State::Fresh => begin(root, alloc, resolvers, hooks, state, context, steps),
+        State::Fresh => begin(root, alloc, resolvers, hooks, state, context, info, steps),
         State::Waiting(future) => match poll_as(root, alloc, resolvers, future, context)? {
             Polled::Ready(answer) => Ok(Turn::Answered(Given::Answered(answer))),
             Polled::Pending => Ok(Turn::Pending),
@@ -75,14 +80,15 @@ pub fn take_turn<R: ResolverSet, H: Rounds<R::Own>, S: Ledger>(
 }
 
 /// The first turn of a task: the hooks, the start, and the first poll of a future.
-#[tactic(auto, using(crate::proofs::RecordLemmas::with_more_none, crate::proofs::GivenLemmas::no_put, crate::proofs::StepLemmas::none_counted, crate::proofs::StepLemmas::one_counted, crate::proofs::RootWorld::started_world))]
-fn begin<R: ResolverSet, H: Rounds<R::Own>, S: Ledger>(
+#[tactic(auto, using(crate::proofs::TurningSteps::first_steps))]
+fn begin<R: ResolverSet, H: Rounds, S: Ledger>(
     root: bool,
     alloc: Global,
     resolvers: &mut R,
     hooks: &mut H,
     state: &mut State<R::Future>,
     context: &ResolverContext<'_, R::Own>,
+    info: &ResolveInfo<'_>,
     steps: &mut Steps<S>,
 ) -> Made<Turn<R::Own>>
     requires { (call_of context.now).is_root ≡ root }
@@ -94,10 +100,11 @@ fn begin<R: ResolverSet, H: Rounds<R::Own>, S: Ledger>(
         (effect_by R.ResolverSet resolvers.old (call_of context.now))
         (R.world resolvers.old) result }
     ensures quiet { H.are_quiet hooks.old → H.are_quiet hooks.new }
-    ensures entered { OnOk result
-        (H.told hooks.new ≡ with_more (H.told hooks.old) (H.entered context.now ∷ [])) }
-    ensures unentered { OnErr result
-        (EntersAtMost (H.entered context.now ∷ []) (H.told hooks.old) (H.told hooks.new)) }
+    ensures entered { OnOk result (H.told hooks.new ≡ with_more (H.told hooks.old)
+        (H.entered (data_seen context.now.layers) info.now ∷ [])) }
+    ensures unentered { OnErr result (EntersAtMost
+        (H.entered (data_seen context.now.layers) info.now ∷ [])
+        (H.told hooks.old) (H.told hooks.new)) }
     ensures put { PutKeeps resolvers.old resolvers.new result }
     ensures answer { R.is_lawful resolvers.old → H.are_quiet hooks.old → AnswersRightly
         (due_by R.ResolverSet resolvers.old (call_of context.now)) result }
@@ -115,7 +122,7 @@ fn begin<R: ResolverSet, H: Rounds<R::Own>, S: Ledger>(
         steps.old steps.new }
     ensures stepped { H.are_quiet hooks.old → OnOk result (steps.new ≡ steps.old + 1) }
 {
-    match hooks.enter(context)? {
+    match hooks.enter(&data_for_hooks(context.layers), info)? {
         Entered::Answer(put) => Ok(Turn::Answered(Given::Put(put))),
         Entered::Go => {
             let started = resolvers.start(alloc, context)?;
@@ -170,7 +177,7 @@ fn poll_first<R: ResolverSet>(
 }
 
 /// Polls a future, as that of a root of a mutation or of another task.
-#[tactic(auto, using(crate::proofs::RootWorld::polled_root, crate::proofs::RootWorld::polled_other, crate::proofs::RootWorld::answered_root, crate::proofs::RootWorld::answered_other))]
+#[tactic(auto, using(crate::proofs::TurningSteps::poll_steps))]
 fn poll_as<R: ResolverSet>(
     root: bool,
     alloc: Global,
@@ -209,5 +216,16 @@ fn answer_of<V>(alloc: Global, value: Option<FieldValue<V>>) -> Answer<V>
         result: Ok(value),
         added: Items::new(alloc),
         headers: Items::new(alloc),
+    }
+}
+
+/// What hooks see of the data of an execution: the layers without what hooks added.
+fn data_for_hooks<'a>(layers: Layers<'a>) -> ExtensionContext<'a>
+    ensures { result ≡ data_seen layers.entry }
+{
+    ExtensionContext {
+        schema_data: layers.schema,
+        session_data: layers.session,
+        query_data: Some(layers.query),
     }
 }

@@ -31,7 +31,7 @@ impl Model for Waiting {
 
 impl Waiting {
     /// No numbers.
-    pub fn new(alloc: Global) -> Waiting
+    pub(crate) fn new(alloc: Global) -> Waiting
         ensures { result ≡ [] }
     {
         Waiting {
@@ -41,21 +41,21 @@ impl Waiting {
     }
 
     /// How many numbers there are.
-    pub fn len(&self) -> usize
+    pub(crate) fn len(&self) -> usize
         ensures { result ≡ length self.now }
     {
         self.count
     }
 
     /// Whether there are none.
-    pub fn is_empty(&self) -> bool
+    pub(crate) fn is_empty(&self) -> bool
         ensures { IsTrue result ↔ (self.now ≡ []) }
     {
         self.count == 0
     }
 
     /// The number at a place.
-    pub fn at(&self, place: usize) -> usize
+    pub(crate) fn at(&self, place: usize) -> usize
         requires { place < length self.now }
         ensures { slice_get self.now place ≡ Some result }
     {
@@ -64,7 +64,7 @@ impl Waiting {
     }
 
     /// Adds a number at the end.
-    pub fn push(&mut self, number: usize) -> Result<(), AllocError>
+    pub(crate) fn push(&mut self, number: usize) -> Result<(), AllocError>
         ensures pushed { OnOk result (self.new ≡ self.old ++ number ∷ []) }
         ensures same { OnErr result (self.new ≡ self.old) }
     {
@@ -77,7 +77,7 @@ impl Waiting {
     }
 
     /// Takes the number at a place out.
-    pub fn take(&mut self, place: usize)
+    pub(crate) fn take(&mut self, place: usize)
         requires { place < length self.old }
         ensures { self.new ≡ remove self.old place }
     {

@@ -2,6 +2,10 @@
 #![tactic(auto)]
 
 #[cfg(test)]
+mod making;
+#[cfg(test)]
 mod meeting;
+#[cfg(test)]
+mod telling;
 #[cfg(test)]
 mod tests;

@@ -6,4 +6,7 @@ mod answer_tests;
 #[cfg(test)]
 mod bench_tests;
 #[cfg(test)]
+mod place;
+mod shared;
+#[cfg(test)]
 mod type_tests;

@@ -54,7 +54,7 @@ module _ {V : Type 0} where
     by_asks field a = place_with field.pos (outcome_by false (execution_of basis) answer spot.object spot.parent a) (below field)
 
     abbrev own_jobs : Positioned Field → Asks → List (Job V)
-    own_jobs field a = job_of basis spot.path field (asking_by false (layers_of basis.layers) spot.parent a)
+    own_jobs field a = job_of basis spot field (asking_by false (layers_of basis.layers) spot.parent a)
 
     one_more : (key : List ℕ) (field : Positioned Field) (a : Asks) (members : List (List ℕ × Asked)) (jobs : List (Job V)) (rest : List Place) (all : Members)
         → members_with spot.object members (map placed jobs ++ rest) ≡ all
@@ -79,7 +79,7 @@ module _ {V : Type 0} where
 
 module _ {V : Type 0} (basis : Basis) (spot : Spot V) (place : Job V → Place) where
   left_one : (field : Positioned Field) (a : Asks) (jobs : List (Job V)) (rest : List Place)
-      → places_behind a (map place (job_of basis spot.path field (asking_by false (layers_of basis.layers) spot.parent a) ++ jobs) ++ rest) ≡ map place jobs ++ rest
+      → places_behind a (map place (job_of basis spot field (asking_by false (layers_of basis.layers) spot.parent a) ++ jobs) ++ rest) ≡ map place jobs ++ rest
   left_one field asks.Typename jobs rest = refl
   left_one field asks.Nothing jobs rest = refl
   left_one field (asks.Call resolver ty arguments) jobs rest = refl

@@ -62,34 +62,12 @@ every_of P each [] = tt
 every_of P each (x ∷ xs) = (each x, every_of P each xs)
 
 module _ {V : Type 0} where
-  -- no task is a root of a mutation
-  not_root : (spot : Spot V) (basis : Basis) (field : Positioned Field) (a : Asks)
-      → AllByRecursion (λ (job : Job V). job.asking.call.is_root ≡ false) (job_by spot (record { basis = basis; field = field; asks = a }))
-  not_root spot basis field asks.Typename = tt
-  not_root spot basis field asks.Nothing = tt
-  not_root spot basis field (asks.Call resolver ty arguments) = (refl, tt)
-
-  pub no_roots : (basis : Basis) (selections : List (Positioned Selection)) (spot : Spot V)
-      → AllByRecursion (λ (job : Job V). job.asking.call.is_root ≡ false) (jobs_at basis selections spot)
-  no_roots basis selections spot =
-      subst (AllByRecursion (λ (job : Job V). job.asking.call.is_root ≡ false)) (level_jobs basis spot selections)
-      (every_flat (λ (job : Job V). job.asking.call.is_root ≡ false) (λ asked. Unit {0}) (job_by spot) (λ asked h. not_root spot asked.basis asked.field asked.asks)
-      (values_of (asked_in basis spot.object selections)) (every_of (λ asked. Unit {0}) (λ asked. tt) (values_of (asked_in basis spot.object selections))))
-
-  pub never_roots : (job : Job V) (answer : Answer V) (place : ℕ) (below : Job V) → slice_get (jobs_beneath job answer) place ≡ Some below
-      → (asked_by_job below).call.is_root ≡ false
-  never_roots job answer place below is =
-      every_at (λ (j : Job V). j.asking.call.is_root ≡ false) (jobs_beneath job answer) place below
-      (every_flat (λ (j : Job V). j.asking.call.is_root ≡ false) (λ spot. Unit {0}) (jobs_at job.basis (own_selections job.field))
-      (λ spot h. no_roots job.basis (own_selections job.field) spot) (spots (completed_by job answer) job.path)
-      (every_of (λ spot. Unit {0}) (λ spot. tt) (spots (completed_by job answer) job.path))) is
-
   -- what is known of fields holds of the tasks that they make
   module _ (P : Job V → Type 0) (Q : Positioned Field → Type 0) (basis : Basis) (spot : Spot V)
       (makes : (field : Positioned Field) (asking : Asking V) → Q field
-      → P (record { basis = basis; field = field; asking = asking; path = spot.path ++ segment.Field (key_text field) ∷ [] })) where
+      → P (record { basis = basis; object = spot.object; field = field; asking = asking; path = spot.path ++ segment.Field (key_text field) ∷ [] })) where
     job_one : (field : Positioned Field) (asking : Option (Asking V)) → Q field
-        → AllByRecursion P (job_at basis (spot.path ++ segment.Field (key_text field) ∷ []) field asking)
+        → AllByRecursion P (job_at basis spot.object (spot.path ++ segment.Field (key_text field) ∷ []) field asking)
     job_one field None q = tt
     job_one field (Some asking) q = (makes field asking q, tt)
 

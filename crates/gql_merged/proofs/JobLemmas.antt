@@ -18,7 +18,7 @@ module _ {V : Type 0} (basis : Basis) (spot : Spot V) where
   pub jobs_by_is : (members : List (List ℕ × Positioned Field)) → jobs_by spot (values_of (asked_on basis spot.object members)) ≡ jobs_of basis spot members
   jobs_by_is [] = refl
   jobs_by_is (member ∷ members) =
-      λ i. job_of basis spot.path member.1 (sym (asking_is false (execution_of basis) spot.parent spot.object member.1) i) ++ jobs_by_is members i
+      λ i. job_of basis spot member.1 (sym (asking_is false (execution_of basis) spot.parent spot.object member.1) i) ++ jobs_by_is members i
 
 -- the tasks that a level makes for a value are those of its object by the definition
 pub level_jobs : {V : Type 0} (basis : Basis) (spot : Spot V) (selections : List (Positioned Selection))

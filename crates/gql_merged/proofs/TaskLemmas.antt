@@ -67,7 +67,7 @@ members_names level = zip_names (names_of level.keys) (map asked_behind level.no
 module _ {V : Type 0} where
   called : (basis : Basis) (spot : Spot V) (field : Positioned Field) (a : Asks) → is_call a ≡ true
       → job_by spot (record { basis = basis; field = field; asks = a })
-      ≡ record { basis = basis; field = field; asking = asking_at (layers_of basis.layers) spot.parent a; path = spot.path ++ segment.Field (key_text field) ∷ [] } ∷ []
+      ≡ record { basis = basis; object = spot.object; field = field; asking = asking_at (layers_of basis.layers) spot.parent a; path = spot.path ++ segment.Field (key_text field) ∷ [] } ∷ []
   called basis spot field asks.Typename is = cc
   called basis spot field asks.Nothing is = cc
   called basis spot field (asks.Call resolver ty arguments) is = refl
@@ -85,7 +85,7 @@ module _ {V : Type 0} where
   one_task tasks tasks' task parent node added parent_is node_is calls =
       ap jobs_in added
       ∙ map_append job_of_task tasks (task ∷ [])
-      ∙ (λ i. jobs_in tasks ++ job_with (parent_is i).held (node_is i) ∷ [])
+      ∙ (λ i. jobs_in tasks ++ job_with (parent_is i) (node_is i) ∷ [])
       ∙ ap (λ js. jobs_in tasks ++ js) (sym (called node.basis (standing_of parent).spot (united node.group) node.asks calls))
 
   -- another one is none

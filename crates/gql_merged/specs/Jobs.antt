@@ -25,10 +25,11 @@ use Rattle.gql_engine.specs.Path.{key_text}
 use Rattle.gql_engine.specs.Plan.{Asking as Asks}
 use Rattle.gql_merged.specs.Stored.{Spot, spots}
 
--- a task: what the execution stands on, a field, merged over its occurrences, with the call that it asks, the type of its answer, and
--- its path
+-- a task: what the execution stands on, the name of an object, a field of it, merged over its occurrences, with the call that it asks,
+-- the type of its answer, and its path
 pub record Job (V : Type 0) : Type 0 where
   pub basis : Basis
+  pub object : List ℕ
   pub field : Positioned Field
   pub asking : Asking V
   pub path : List PathSegment
@@ -36,21 +37,30 @@ pub record Job (V : Type 0) : Type 0 where
 module _ {V : Type 0} where
   -- what a task asks
   abbrev pub asked_by_job : Job V → Asks V
-  asked_by_job job = record { call = job.asking.call; segments = job.path; item = job.field.node; env = job.basis.env.now }
+  asked_by_job job = record {
+    call = job.asking.call;
+    segments = job.path;
+    item = job.field.node;
+    env = job.basis.env.now;
+    parent = job.object;
+    ty = job.asking.ty;
+  }
 
-  -- the task of a field at a path, where it asks an answer
-  abbrev pub job_at : Basis → List PathSegment → Positioned Field → Option (Asking V) → List (Job V)
-  job_at basis path field None = []
-  job_at basis path field (Some asking) = record { basis = basis; field = field; asking = asking; path = path } ∷ []
+  -- the task of a field of an object of this name at a path, where it asks an answer
+  abbrev pub job_at : Basis → List ℕ → List PathSegment → Positioned Field → Option (Asking V) → List (Job V)
+  job_at basis object path field None = []
+  job_at basis object path field (Some asking) =
+      record { basis = basis; object = object; field = field; asking = asking; path = path } ∷ []
 
-  -- the task of a field of an object at a path
-  abbrev pub job_of : Basis → List PathSegment → Positioned Field → Option (Asking V) → List (Job V)
-  job_of basis path field asking = job_at basis (path ++ segment.Field (key_text field) ∷ []) field asking
+  -- the task of a field of an object
+  abbrev pub job_of : Basis → Spot V → Positioned Field → Option (Asking V) → List (Job V)
+  job_of basis spot field asking =
+      job_at basis spot.object (spot.path ++ segment.Field (key_text field) ∷ []) field asking
 
   -- the tasks of these fields of an object, in their order
   abbrev pub jobs_of : Basis → Spot V → List (List ℕ × Positioned Field) → List (Job V)
   jobs_of basis spot members =
-      flat_map (λ member. job_of basis spot.path member.1
+      flat_map (λ member. job_of basis spot member.1
       (field_asking false (execution_of basis) spot.object spot.parent member.1)) members
 
   -- the tasks of an object in selections
@@ -70,7 +80,7 @@ module _ {V : Type 0} where
   -- the task of a field of an object by what it asks
   abbrev pub job_by : Spot V → Asked → List (Job V)
   job_by spot asked =
-      job_of asked.basis spot.path asked.field (asking_by false (layers_of asked.basis.layers) spot.parent asked.asks)
+      job_of asked.basis spot asked.field (asking_by false (layers_of asked.basis.layers) spot.parent asked.asks)
 
   -- the tasks of fields by what each asks
   abbrev pub jobs_by : Spot V → List Asked → List (Job V)

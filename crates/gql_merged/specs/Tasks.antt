@@ -10,6 +10,7 @@ use Rattle.gql_merged.specs.Jobs.{Job}
 use Rattle.gql_merged.specs.Parents.{path_to, value_of}
 use Rattle.gql_merged.specs.declared.level.Node.{Node}
 use Rattle.gql_merged.specs.declared.parent.Held.{Held}
+use Rattle.gql_merged.specs.declared.parent.Parent.{Parent}
 use Rattle.gql_merged.specs.declared.task.Task.{Task}
 
 module _ {V : Type 0} where
@@ -22,17 +23,18 @@ module _ {V : Type 0} where
   path_with held node = path_to held ++ segment.Field (key_text (united node.group)) ∷ []
 
   -- a field of an object as a task
-  abbrev pub job_with : Held V → Node → Job V
-  job_with held node = record {
+  abbrev pub job_with : Parent V → Node → Job V
+  job_with parent node = record {
     basis = node.basis;
+    object = parent.level.value.object;
     field = united node.group;
-    asking = asking_at (layers_of node.basis.layers) (value_of held) node.asks;
-    path = path_with held node;
+    asking = asking_at (layers_of node.basis.layers) (value_of parent.held) node.asks;
+    path = path_with parent.held node;
   }
 
   -- what a task is
   abbrev pub job_of_task : Task V → Job V
-  job_of_task task = job_with task.parent.value.held task.node.value
+  job_of_task task = job_with task.parent.value task.node.value
 
   -- all of them
   abbrev pub jobs_in : List (Task V) → List (Job V)

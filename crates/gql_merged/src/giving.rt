@@ -11,7 +11,7 @@ ghost use Rattle.gql_merged.specs.Tasks.{IsDeep, jobs_in, job_with, path_with};
 use crate::completing::complete_result;
 use crate::kept::Filled;
 use crate::level::Node;
-use crate::parent::{Found, Held};
+use crate::parent::{Found, Held, Parent};
 use crate::paths::steps_with;
 use crate::standing::place_found;
 use crate::storing::store;
@@ -25,21 +25,21 @@ use std::alloc::Global;
 /// What a task comes to with what it is given. The tasks beneath it are made behind the others.
 pub(crate) fn fill_given<'a, V: Drop>(
     alloc: Global,
-    held: &Held<'a, V>,
+    parent: &Parent<'a, V>,
     node: &Node<'a>,
     given: Given<V>,
     tasks: &mut Vec<Task<'a, V>>,
 ) -> Made<Filled<'a, V>>
     requires { is_call node.now.asks ≡ true }
     ensures filled { IfOk result (λ filled. IsFilledWith given
-        (job_with held.entry.now node.entry.now) filled) }
+        (job_with parent.entry.now node.entry.now) filled) }
     ensures tasks { OnOk result (jobs_in tasks.new.items ≡ jobs_in tasks.old.items
-        ++ made_beneath given (job_with held.entry.now node.entry.now)) }
+        ++ made_beneath given (job_with parent.entry.now node.entry.now)) }
     ensures deep { OnOk result (AllByRecursion IsDeep
-        (made_beneath given (job_with held.entry.now node.entry.now))) }
+        (made_beneath given (job_with parent.entry.now node.entry.now))) }
 {
     match given {
-        Given::Answered(answer) => fill_answer(alloc, held, node, answer, tasks),
+        Given::Answered(answer) => fill_answer(alloc, parent, node, answer, tasks),
         Given::Put(put) => Ok(fill_put(alloc, node, put)),
     }
 }
@@ -47,18 +47,18 @@ pub(crate) fn fill_given<'a, V: Drop>(
 /// What a task comes to with its answer.
 fn fill_answer<'a, V: Drop>(
     alloc: Global,
-    held: &Held<'a, V>,
+    parent: &Parent<'a, V>,
     node: &Node<'a>,
     answer: Answer<V>,
     tasks: &mut Vec<Task<'a, V>>,
 ) -> Made<Filled<'a, V>>
     requires { is_call node.now.asks ≡ true }
-    ensures filled { IfOk result (λ filled. IsFilled (job_with held.entry.now node.entry.now)
+    ensures filled { IfOk result (λ filled. IsFilled (job_with parent.entry.now node.entry.now)
         answer filled) }
     ensures tasks { OnOk result (jobs_in tasks.new.items ≡ jobs_in tasks.old.items
-        ++ jobs_beneath (job_with held.entry.now node.entry.now) answer) }
+        ++ jobs_beneath (job_with parent.entry.now node.entry.now) answer) }
     ensures deep { OnOk result (AllByRecursion IsDeep
-        (jobs_beneath (job_with held.entry.now node.entry.now) answer)) }
+        (jobs_beneath (job_with parent.entry.now node.entry.now) answer)) }
 {
     let Answer {
         result,
@@ -68,7 +68,7 @@ fn fill_answer<'a, V: Drop>(
     let ty = node.asks.ty();
     let whole = complete_result(alloc, node.basis.types, ty, result)?;
     let mut found = Vec::new(alloc);
-    let shape = take_apart(alloc, held, node, whole, &mut found)?;
+    let shape = take_apart(alloc, &parent.held, node, whole, &mut found)?;
     let parents = place_found(alloc, node, found, tasks)?;
     Ok(Filled {
         pos: node.group.first.pos,

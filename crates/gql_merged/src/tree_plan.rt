@@ -1,4 +1,6 @@
 ghost use Rattle.std.specs.Prelude.{ℕ, ◌≡◌, ◌≤◌, Some, length, map, slice_get};
+ghost use Rattle.std.specs.Option.{option_copied};
+ghost use Rattle.gql_engine.specs.Plan.{alias_in};
 ghost use Rattle.gql_merged.specs.Entries.{laid};
 ghost use Rattle.gql_merged.specs.Fitting.{entries_in};
 ghost use Rattle.gql_merged.specs.Groups.{united};
@@ -14,7 +16,7 @@ use gql_base::{Made, PathSegment};
 use gql_doc::Field;
 use gql_engine::{Given, Plan};
 use gql_input::ObjectAccessor;
-use gql_request::QueryPathNode;
+use gql_request::{QueryPathNode, ResolveInfo};
 use gql_resolve::ResolverContext;
 use std::alloc::Global;
 
@@ -79,6 +81,22 @@ impl<'a, V: Drop> Plan<V> for TreePlan<'a, V> {
         }
     }
 
+    fn info<'c>(&'c self, number: usize) -> ResolveInfo<'c> {
+        let task = &self.tasks[number];
+        let node = task.node.as_ref();
+        let field = item_at(node);
+        ResolveInfo {
+            path_node: QueryPathNode {
+                segments: self.path.as_slice(),
+            },
+            parent_type: task.parent.level.object.as_str(),
+            return_type: node.asks.ty(),
+            name: field.name.node.as_str(),
+            alias: alias_of(field),
+            field,
+        }
+    }
+
     fn complete(&mut self, alloc: Global, number: usize, given: Given<V>) -> Made<usize>
         requires { number < length (jobs_in self.old.tasks.items) }
         ensures made { (task : Job V)
@@ -95,7 +113,7 @@ impl<'a, V: Drop> Plan<V> for TreePlan<'a, V> {
         let parent = self.tasks[number].parent.clone()?;
         let node = self.tasks[number].node.clone()?;
         let mut more = Vec::new(alloc);
-        let filled = fill_given(alloc, &parent.held, node.as_ref(), given, &mut more)?;
+        let filled = fill_given(alloc, parent.as_ref(), node.as_ref(), given, &mut more)?;
         let count = more.len();
         self.kept.reserve(1)?;
         self.tasks.append(&mut more)?;
@@ -116,5 +134,15 @@ fn item_at<'c, 'a>(node: &'c Node<'a>) -> &'c Field
     match &node.item {
         Some(item) => item,
         None => &node.group.first.node,
+    }
+}
+
+/// The alias of a field, where it has one.
+fn alias_of(field: &Field) -> Option<&str>
+    ensures { option_copied result ≡ alias_in field.now }
+{
+    match &field.alias {
+        Some(alias) => Some(alias.node.as_str()),
+        None => None,
     }
 }

@@ -9,6 +9,7 @@ mod layers;
 mod record_entry;
 mod resolver_context;
 mod resolver_set;
+mod shared;
 mod turns;
 
 pub use answer::{Answer, Polled};

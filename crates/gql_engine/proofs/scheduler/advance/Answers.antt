@@ -7,7 +7,7 @@ use Rattle.gql_engine.proofs.PickLemmas.{open_undone}
 use Rattle.gql_engine.proofs.ArenaLemmas.{still_waits}
 use Rattle.gql_engine.proofs.Lists.{length_set}
 use Rattle.gql_engine.proofs.NearerLemmas.{nearer_begun, nearer_pending}
-use Rattle.gql_engine.proofs.AdvanceLemmas.{went_begun, went_pending, completed_by, sound_answered, passed_answered, nearer_answered, ended_before, ended_after}
+use Rattle.gql_engine.proofs.AdvanceLemmas.{went_begun, went_pending, completed_with, sound_answered, passed_answered, nearer_answered, ended_before, ended_after}
 use Rattle.gql_engine.proofs.AimLemmas.{ended_none}
 use Rattle.gql_engine.proofs.RootWorld.{other_given}
 use Rattle.gql_engine.proofs.StepLemmas.{none_counted}
@@ -35,6 +35,12 @@ context-context-requires-clause-within g c =
     let inside = within {e = parts g.R.ResolverSet g.L.Plan g.H.Rounds g.P.Turns} first c.pick_task-picked.result.place c.pick_task-picked.result.number c.requires.sound c.pick_task-picked.ensures.stands in
     subst (λ ts. c.pick_task-picked.result.number < length ts) (sym c.aim.ensures.stays) inside.1
 
+pub info-info-requires-clause-within : goal.info-info-requires-clause-within
+info-info-requires-clause-within g c =
+    let first = at c.args.plan.now c.args.arena.now (outside c.args.resolvers.now c.args.hooks.now c.args.turns.now c.args.steps.now) in
+    let inside = within {e = parts g.R.ResolverSet g.L.Plan g.H.Rounds g.P.Turns} first c.pick_task-picked.result.place c.pick_task-picked.result.number c.requires.sound c.pick_task-picked.ensures.stands in
+    subst (λ ts. c.pick_task-picked.result.number < length ts) (sym c.aim.ensures.stays) inside.1
+
 pub index_mut-requires : goal.index_mut-requires
 index_mut-requires g c =
     let first = at c.args.plan.now c.args.arena.now (outside c.args.resolvers.now c.args.hooks.now c.args.turns.now c.args.steps.now) in
@@ -47,88 +53,74 @@ pub take_turn-requires-clause-open : goal.take_turn-requires-clause-open
 take_turn-requires-clause-open g c =
     let first = at c.args.plan.now c.args.arena.now (outside c.args.resolvers.now c.args.hooks.now c.args.turns.now c.args.steps.now) in
     let u = upon {e = parts g.R.ResolverSet g.L.Plan g.H.Rounds g.P.Turns} first c.aim.new.self c.pick_task-picked.new.turns c.pick_task-picked.result.place c.pick_task-picked.result.number c.index_mut.result.now
-    c.context-context.result c.aim.ensures.stays c.aim.ensures.keeps c.requires.sound c.pick_task-picked.ensures.stands c.index_mut.ensures.value
-    c.context-context.ensures c.pick_task-picked.ensures.choice c.pick_task-picked.ensures.after in
+    c.context-context.result c.info-info.result c.aim.ensures.stays c.aim.ensures.keeps c.requires.sound c.pick_task-picked.ensures.stands c.index_mut.ensures.value
+    c.context-context.ensures c.info-info.ensures c.pick_task-picked.ensures.choice c.pick_task-picked.ensures.after in
     subst (λ call. IsOpen g.R.ResolverSet.is_for call c.index_mut.result.now) (sym u.taken.context_is.call_is) u.taken.pick.open_is
 
 pub take_turn-requires-clause-root : goal.take_turn-requires-clause-root
 take_turn-requires-clause-root g c =
     let first = at c.args.plan.now c.args.arena.now (outside c.args.resolvers.now c.args.hooks.now c.args.turns.now c.args.steps.now) in
     let u = upon {e = parts g.R.ResolverSet g.L.Plan g.H.Rounds g.P.Turns} first c.aim.new.self c.pick_task-picked.new.turns c.pick_task-picked.result.place c.pick_task-picked.result.number c.index_mut.result.now
-    c.context-context.result c.aim.ensures.stays c.aim.ensures.keeps c.requires.sound c.pick_task-picked.ensures.stands c.index_mut.ensures.value
-    c.context-context.ensures c.pick_task-picked.ensures.choice c.pick_task-picked.ensures.after in
+    c.context-context.result c.info-info.result c.aim.ensures.stays c.aim.ensures.keeps c.requires.sound c.pick_task-picked.ensures.stands c.index_mut.ensures.value
+    c.context-context.ensures c.info-info.ensures c.pick_task-picked.ensures.choice c.pick_task-picked.ensures.after in
     ap (λ (call : Call g.row.R-Own.Denot). call.is_root) u.taken.context_is.call_is ∙ u.taken.pick.not_root
 
 pub returns-in_err-turn-clause-stretch : goal.returns-in_err-turn-clause-stretch
 returns-in_err-turn-clause-stretch g c =
     let first = at c.args.plan.now c.args.arena.now (outside c.args.resolvers.now c.args.hooks.now c.args.turns.now c.args.steps.now) in
     let u = upon {e = parts g.R.ResolverSet g.L.Plan g.H.Rounds g.P.Turns} first c.aim.new.self c.pick_task-picked.new.turns c.pick_task-picked.result.place c.pick_task-picked.result.number c.index_mut.result.now
-    c.context-context.result c.aim.ensures.stays c.aim.ensures.keeps c.requires.sound c.pick_task-picked.ensures.stands c.index_mut.ensures.value
-    c.context-context.ensures c.pick_task-picked.ensures.choice c.pick_task-picked.ensures.after in
+    c.context-context.result c.info-info.result c.aim.ensures.stays c.aim.ensures.keeps c.requires.sound c.pick_task-picked.ensures.stands c.index_mut.ensures.value
+    c.context-context.ensures c.info-info.ensures c.pick_task-picked.ensures.choice c.pick_task-picked.ensures.after in
     stretch_err _ c.from_residual-in_err-turn.result c.from_residual-in_err-turn.ensures.1 (record { steady = record { rules_is = c.in_err-turn.ensures.rules; lawful_is = c.in_err-turn.ensures.lawful; paced_is = c.in_err-turn.ensures.pace; quiet_is = c.in_err-turn.ensures.quiet; counted = c.in_err-turn.ensures.counted }; world_is = c.in_err-turn.ensures.world })
     (ended_trans u.kept u.aimed.passed (ended_before u.taken _ c.in_err-turn.ensures.unentered (λ calm. c.in_err-turn.ensures.told calm) (λ calm. c.in_err-turn.ensures.unbegun calm)))
 
-pub complete-requires : goal.complete-requires
-complete-requires g c =
+pub keep_given-requires-clause-number : goal.keep_given-requires-clause-number
+keep_given-requires-clause-number g c =
     let first = at c.args.plan.now c.args.arena.now (outside c.args.resolvers.now c.args.hooks.now c.args.turns.now c.args.steps.now) in
     let inside = within {e = parts g.R.ResolverSet g.L.Plan g.H.Rounds g.P.Turns} first c.pick_task-picked.result.place c.pick_task-picked.result.number c.requires.sound c.pick_task-picked.ensures.stands in
     subst (λ ts. c.pick_task-picked.result.number < length ts) (sym c.aim.ensures.stays) inside.1
 
-pub returns-in_err-count-in-Answered-clause-stretch : goal.returns-in_err-count-in-Answered-clause-stretch
-returns-in_err-count-in-Answered-clause-stretch g c =
+pub keep_given-requires-clause-waits : goal.keep_given-requires-clause-waits
+keep_given-requires-clause-waits g c =
     let first = at c.args.plan.now c.args.arena.now (outside c.args.resolvers.now c.args.hooks.now c.args.turns.now c.args.steps.now) in
     let u = upon {e = parts g.R.ResolverSet g.L.Plan g.H.Rounds g.P.Turns} first c.aim.new.self c.pick_task-picked.new.turns c.pick_task-picked.result.place c.pick_task-picked.result.number c.index_mut.result.now
-    c.context-context.result c.aim.ensures.stays c.aim.ensures.keeps c.requires.sound c.pick_task-picked.ensures.stands c.index_mut.ensures.value
-    c.context-context.ensures c.pick_task-picked.ensures.choice c.pick_task-picked.ensures.after in
-    stretch_err _ c.from_residual-in_err-count-in-Answered.result c.from_residual-in_err-count-in-Answered.ensures.1 (record {
-      steady = record { rules_is = c.in_ok-turn.ensures.rules; lawful_is = c.in_ok-turn.ensures.lawful; paced_is = c.in_ok-turn.ensures.pace; quiet_is = c.in_ok-turn.ensures.quiet; counted = c.in_ok-turn.ensures.counted };
-      world_is = λ law. other_given (effect_by g.R.ResolverSet c.args.resolvers.now (call_of c.context-context.result)) (g.R.ResolverSet.world c.args.resolvers.now)
-          (g.R.ResolverSet.world c.take_turn.new.resolvers) c.in-Answered.given (rw c.in-Answered.is at (c.in_ok-turn.ensures.world law));
-    })
-    (ended_trans u.kept u.aimed.passed (ended_after u.taken _ c.in_ok-turn.ensures.entered
-    (λ pace calm. rw c.in-Answered.is at (c.in_ok-turn.ensures.paced calm pace)) (λ calm. rw c.in-Answered.is at (c.in_ok-turn.ensures.told calm)) (λ calm. c.in_ok-turn.ensures.begun calm)))
-
-pub returns-in_err-settle-in-Answered-clause-stretch : goal.returns-in_err-settle-in-Answered-clause-stretch
-returns-in_err-settle-in-Answered-clause-stretch g c =
-    let first = at c.args.plan.now c.args.arena.now (outside c.args.resolvers.now c.args.hooks.now c.args.turns.now c.args.steps.now) in
-    let u = upon {e = parts g.R.ResolverSet g.L.Plan g.H.Rounds g.P.Turns} first c.aim.new.self c.pick_task-picked.new.turns c.pick_task-picked.result.place c.pick_task-picked.result.number c.index_mut.result.now
-    c.context-context.result c.aim.ensures.stays c.aim.ensures.keeps c.requires.sound c.pick_task-picked.ensures.stands c.index_mut.ensures.value
-    c.context-context.ensures c.pick_task-picked.ensures.choice c.pick_task-picked.ensures.after in
-    stretch_err _ c.from_residual-in_err-settle-in-Answered.result c.from_residual-in_err-settle-in-Answered.ensures.1 (record {
-      steady = record { rules_is = c.in_ok-turn.ensures.rules; lawful_is = c.in_ok-turn.ensures.lawful; paced_is = c.in_ok-turn.ensures.pace; quiet_is = c.in_ok-turn.ensures.quiet; counted = c.in_ok-turn.ensures.counted };
-      world_is = λ law. other_given (effect_by g.R.ResolverSet c.args.resolvers.now (call_of c.context-context.result)) (g.R.ResolverSet.world c.args.resolvers.now)
-          (g.R.ResolverSet.world c.take_turn.new.resolvers) c.in-Answered.given (rw c.in-Answered.is at (c.in_ok-turn.ensures.world law));
-    })
-    (ended_trans u.kept u.aimed.passed (ended_after u.taken _ c.in_ok-turn.ensures.entered
-    (λ pace calm. rw c.in-Answered.is at (c.in_ok-turn.ensures.paced calm pace)) (λ calm. rw c.in-Answered.is at (c.in_ok-turn.ensures.told calm)) (λ calm. c.in_ok-turn.ensures.begun calm)))
-
-pub settle-requires-clause-waits : goal.settle-requires-clause-waits
-settle-requires-clause-waits g c =
-    let first = at c.args.plan.now c.args.arena.now (outside c.args.resolvers.now c.args.hooks.now c.args.turns.now c.args.steps.now) in
-    let u = upon {e = parts g.R.ResolverSet g.L.Plan g.H.Rounds g.P.Turns} first c.aim.new.self c.pick_task-picked.new.turns c.pick_task-picked.result.place c.pick_task-picked.result.number c.index_mut.result.now
-    c.context-context.result c.aim.ensures.stays c.aim.ensures.keeps c.requires.sound c.pick_task-picked.ensures.stands c.index_mut.ensures.value
-    c.context-context.ensures c.pick_task-picked.ensures.choice c.pick_task-picked.ensures.after in
+    c.context-context.result c.info-info.result c.aim.ensures.stays c.aim.ensures.keeps c.requires.sound c.pick_task-picked.ensures.stands c.index_mut.ensures.value
+    c.context-context.ensures c.info-info.ensures c.pick_task-picked.ensures.choice c.pick_task-picked.ensures.after in
     still_waits g.row.R-Future.Denot c.args.arena.now.waiting c.args.arena.now.states.items c.pick_task-picked.result.number c.index_mut.result.now c.take_turn.new.state u.aimed.sound.waits u.taken.pick.old_is
     (open_undone g.R.ResolverSet.is_for (g.L.Plan.asks u.taken.pick.task).call c.index_mut.result.now u.taken.pick.open_is)
 
-pub settle-requires-clause-stands : goal.settle-requires-clause-stands
-settle-requires-clause-stands g c =
+pub keep_given-requires-clause-stands : goal.keep_given-requires-clause-stands
+keep_given-requires-clause-stands g c =
     c.pick_task-picked.ensures.stands
 
-pub settle-requires-clause-within : goal.settle-requires-clause-within
-settle-requires-clause-within g c =
+pub keep_given-requires-clause-within : goal.keep_given-requires-clause-within
+keep_given-requires-clause-within g c =
     let first = at c.args.plan.now c.args.arena.now (outside c.args.resolvers.now c.args.hooks.now c.args.turns.now c.args.steps.now) in
     let inside = within {e = parts g.R.ResolverSet g.L.Plan g.H.Rounds g.P.Turns} first c.pick_task-picked.result.place c.pick_task-picked.result.number c.requires.sound c.pick_task-picked.ensures.stands in
     let bound = inside.0 in
     let l = length_set c.args.arena.now.states.items c.pick_task-picked.result.number c.take_turn.new.state in
     omega arith
 
+pub returns-in_err-keep_given-in-Answered-clause-stretch : goal.returns-in_err-keep_given-in-Answered-clause-stretch
+returns-in_err-keep_given-in-Answered-clause-stretch g c =
+    let first = at c.args.plan.now c.args.arena.now (outside c.args.resolvers.now c.args.hooks.now c.args.turns.now c.args.steps.now) in
+    let u = upon {e = parts g.R.ResolverSet g.L.Plan g.H.Rounds g.P.Turns} first c.aim.new.self c.pick_task-picked.new.turns c.pick_task-picked.result.place c.pick_task-picked.result.number c.index_mut.result.now
+    c.context-context.result c.info-info.result c.aim.ensures.stays c.aim.ensures.keeps c.requires.sound c.pick_task-picked.ensures.stands c.index_mut.ensures.value
+    c.context-context.ensures c.info-info.ensures c.pick_task-picked.ensures.choice c.pick_task-picked.ensures.after in
+    stretch_err _ c.from_residual-in_err-keep_given-in-Answered.result c.from_residual-in_err-keep_given-in-Answered.ensures.1 (record {
+      steady = record { rules_is = c.in_ok-turn.ensures.rules; lawful_is = c.in_ok-turn.ensures.lawful; paced_is = c.in_ok-turn.ensures.pace; quiet_is = c.in_ok-turn.ensures.quiet; counted = c.in_ok-turn.ensures.counted };
+      world_is = λ law. other_given (effect_by g.R.ResolverSet c.args.resolvers.now (call_of c.context-context.result)) (g.R.ResolverSet.world c.args.resolvers.now)
+          (g.R.ResolverSet.world c.take_turn.new.resolvers) c.in-Answered.given (rw c.in-Answered.is at (c.in_ok-turn.ensures.world law));
+    })
+    (ended_trans u.kept u.aimed.passed (ended_after u.taken _ c.in_ok-turn.ensures.entered
+    (λ pace calm. rw c.in-Answered.is at (c.in_ok-turn.ensures.paced calm pace)) (λ calm. rw c.in-Answered.is at (c.in_ok-turn.ensures.told calm)) (λ calm. c.in_ok-turn.ensures.begun calm)))
+
 pub returns-in-Begun-clause-stretch : goal.returns-in-Begun-clause-stretch
 returns-in-Begun-clause-stretch g c =
     let first = at c.args.plan.now c.args.arena.now (outside c.args.resolvers.now c.args.hooks.now c.args.turns.now c.args.steps.now) in
     let u = upon {e = parts g.R.ResolverSet g.L.Plan g.H.Rounds g.P.Turns} first c.aim.new.self c.pick_task-picked.new.turns c.pick_task-picked.result.place c.pick_task-picked.result.number c.index_mut.result.now
-    c.context-context.result c.aim.ensures.stays c.aim.ensures.keeps c.requires.sound c.pick_task-picked.ensures.stands c.index_mut.ensures.value
-    c.context-context.ensures c.pick_task-picked.ensures.choice c.pick_task-picked.ensures.after in
+    c.context-context.result c.info-info.result c.aim.ensures.stays c.aim.ensures.keeps c.requires.sound c.pick_task-picked.ensures.stands c.index_mut.ensures.value
+    c.context-context.ensures c.info-info.ensures c.pick_task-picked.ensures.choice c.pick_task-picked.ensures.after in
     record {
       kept = record { steady = record { rules_is = c.in_ok-turn.ensures.rules; lawful_is = c.in_ok-turn.ensures.lawful; paced_is = c.in_ok-turn.ensures.pace; quiet_is = c.in_ok-turn.ensures.quiet; counted = c.in_ok-turn.ensures.counted }; world_is = λ law. rw c.in-Begun.is at (c.in_ok-turn.ensures.world law) };
       went = went_trans u.kept u.aimed (went_begun u.taken c.take_turn.new.resolvers c.take_turn.new.hooks c.take_turn.new.steps c.take_turn.new.state
@@ -141,8 +133,8 @@ pub returns-in-Begun-clause-nearer : goal.returns-in-Begun-clause-nearer
 returns-in-Begun-clause-nearer g c =
     let first = at c.args.plan.now c.args.arena.now (outside c.args.resolvers.now c.args.hooks.now c.args.turns.now c.args.steps.now) in
     let u = upon {e = parts g.R.ResolverSet g.L.Plan g.H.Rounds g.P.Turns} first c.aim.new.self c.pick_task-picked.new.turns c.pick_task-picked.result.place c.pick_task-picked.result.number c.index_mut.result.now
-    c.context-context.result c.aim.ensures.stays c.aim.ensures.keeps c.requires.sound c.pick_task-picked.ensures.stands c.index_mut.ensures.value
-    c.context-context.ensures c.pick_task-picked.ensures.choice c.pick_task-picked.ensures.after in
+    c.context-context.result c.info-info.result c.aim.ensures.stays c.aim.ensures.keeps c.requires.sound c.pick_task-picked.ensures.stands c.index_mut.ensures.value
+    c.context-context.ensures c.info-info.ensures c.pick_task-picked.ensures.choice c.pick_task-picked.ensures.after in
     nearer_begun g.row.R-Future.Denot (Call g.row.R-Own.Denot) g.R.ResolverSet.is_for (call_of c.context-context.result) g.R.ResolverSet.number c.args.arena.now.states.items c.pick_task-picked.result.number c.index_mut.result.now c.take_turn.new.state u.taken.pick.old_is
     (rw c.in-Begun.is at c.in_ok-turn.ensures.promise)
 
@@ -150,8 +142,8 @@ pub returns-in-Pending-clause-stretch : goal.returns-in-Pending-clause-stretch
 returns-in-Pending-clause-stretch g c =
     let first = at c.args.plan.now c.args.arena.now (outside c.args.resolvers.now c.args.hooks.now c.args.turns.now c.args.steps.now) in
     let u = upon {e = parts g.R.ResolverSet g.L.Plan g.H.Rounds g.P.Turns} first c.aim.new.self c.pick_task-picked.new.turns c.pick_task-picked.result.place c.pick_task-picked.result.number c.index_mut.result.now
-    c.context-context.result c.aim.ensures.stays c.aim.ensures.keeps c.requires.sound c.pick_task-picked.ensures.stands c.index_mut.ensures.value
-    c.context-context.ensures c.pick_task-picked.ensures.choice c.pick_task-picked.ensures.after in
+    c.context-context.result c.info-info.result c.aim.ensures.stays c.aim.ensures.keeps c.requires.sound c.pick_task-picked.ensures.stands c.index_mut.ensures.value
+    c.context-context.ensures c.info-info.ensures c.pick_task-picked.ensures.choice c.pick_task-picked.ensures.after in
     record {
       kept = record { steady = record { rules_is = c.in_ok-turn.ensures.rules; lawful_is = c.in_ok-turn.ensures.lawful; paced_is = c.in_ok-turn.ensures.pace; quiet_is = c.in_ok-turn.ensures.quiet; counted = c.in_ok-turn.ensures.counted }; world_is = λ law. rw c.in-Pending.is at (c.in_ok-turn.ensures.world law) };
       went = went_trans u.kept u.aimed (went_pending u.taken c.take_turn.new.resolvers c.take_turn.new.hooks c.take_turn.new.steps c.take_turn.new.state
@@ -164,20 +156,21 @@ pub returns-in-Pending-clause-nearer : goal.returns-in-Pending-clause-nearer
 returns-in-Pending-clause-nearer g c =
     let first = at c.args.plan.now c.args.arena.now (outside c.args.resolvers.now c.args.hooks.now c.args.turns.now c.args.steps.now) in
     let u = upon {e = parts g.R.ResolverSet g.L.Plan g.H.Rounds g.P.Turns} first c.aim.new.self c.pick_task-picked.new.turns c.pick_task-picked.result.place c.pick_task-picked.result.number c.index_mut.result.now
-    c.context-context.result c.aim.ensures.stays c.aim.ensures.keeps c.requires.sound c.pick_task-picked.ensures.stands c.index_mut.ensures.value
-    c.context-context.ensures c.pick_task-picked.ensures.choice c.pick_task-picked.ensures.after in
+    c.context-context.result c.info-info.result c.aim.ensures.stays c.aim.ensures.keeps c.requires.sound c.pick_task-picked.ensures.stands c.index_mut.ensures.value
+    c.context-context.ensures c.info-info.ensures c.pick_task-picked.ensures.choice c.pick_task-picked.ensures.after in
     nearer_pending g.row.R-Future.Denot (Call g.row.R-Own.Denot) g.R.ResolverSet.is_for (call_of c.context-context.result) g.R.ResolverSet.number c.args.arena.now.states.items c.pick_task-picked.result.number c.index_mut.result.now c.take_turn.new.state u.taken.pick.old_is
     (rw c.in-Pending.is at c.in_ok-turn.ensures.promise)
 
-pub returns-in_ok-settle-in-Answered-clause-stretch : goal.returns-in_ok-settle-in-Answered-clause-stretch
-returns-in_ok-settle-in-Answered-clause-stretch g c =
+pub returns-in_ok-keep_given-in-Answered-clause-stretch : goal.returns-in_ok-keep_given-in-Answered-clause-stretch
+returns-in_ok-keep_given-in-Answered-clause-stretch g c =
     let first = at c.args.plan.now c.args.arena.now (outside c.args.resolvers.now c.args.hooks.now c.args.turns.now c.args.steps.now) in
     let u = upon {e = parts g.R.ResolverSet g.L.Plan g.H.Rounds g.P.Turns} first c.aim.new.self c.pick_task-picked.new.turns c.pick_task-picked.result.place c.pick_task-picked.result.number c.index_mut.result.now
-    c.context-context.result c.aim.ensures.stays c.aim.ensures.keeps c.requires.sound c.pick_task-picked.ensures.stands c.index_mut.ensures.value
-    c.context-context.ensures c.pick_task-picked.ensures.choice c.pick_task-picked.ensures.after in
-    let made = completed_by u.taken c.complete.new.self c.in-Answered.given c.in_ok-count-in-Answered.count
-    c.in_ok-count-in-Answered.ensures.made c.in_ok-count-in-Answered.ensures.holds c.in_ok-count-in-Answered.ensures.keeps in
-    let new = at c.complete.new.self c.settle.new.arena (outside c.take_turn.new.resolvers c.take_turn.new.hooks c.pick_task-picked.new.turns c.take_turn.new.steps) in
+    c.context-context.result c.info-info.result c.aim.ensures.stays c.aim.ensures.keeps c.requires.sound c.pick_task-picked.ensures.stands c.index_mut.ensures.value
+    c.context-context.ensures c.info-info.ensures c.pick_task-picked.ensures.choice c.pick_task-picked.ensures.after in
+    let made = completed_with u.taken c.keep_given.new.plan c.in-Answered.given (λ task is. c.in_ok-keep_given-in-Answered.ensures.tasks task is)
+    c.in_ok-keep_given-in-Answered.ensures.holds c.in_ok-keep_given-in-Answered.ensures.keeps in
+    let states = c.in_ok-keep_given-in-Answered.ensures.states u.taken.pick.task u.taken.pick.task_is in
+    let new = at c.keep_given.new.plan c.keep_given.new.arena (outside c.take_turn.new.resolvers c.take_turn.new.hooks c.pick_task-picked.new.turns c.take_turn.new.steps) in
     record {
       kept = record {
         steady = record { rules_is = c.in_ok-turn.ensures.rules; lawful_is = c.in_ok-turn.ensures.lawful; paced_is = c.in_ok-turn.ensures.pace; quiet_is = c.in_ok-turn.ensures.quiet; counted = c.in_ok-turn.ensures.counted };
@@ -185,10 +178,10 @@ returns-in_ok-settle-in-Answered-clause-stretch g c =
             (g.R.ResolverSet.world c.take_turn.new.resolvers) c.in-Answered.given (rw c.in-Answered.is at (c.in_ok-turn.ensures.world law));
       };
       went = went_trans u.kept u.aimed (record {
-        sound = sound_answered u.taken refl new c.take_turn.new.state c.in-Answered.given c.in_ok-count-in-Answered.count made g.met.L.Plan.never_roots
-            c.in_ok-settle-in-Answered.ensures.states c.in_ok-settle-in-Answered.ensures.waits;
+        sound = sound_answered u.taken refl new c.take_turn.new.state c.in-Answered.given _ made g.met.L.Plan.never_roots
+            states c.in_ok-keep_given-in-Answered.ensures.waits;
         passed = passed_answered u.taken new (record { told_is = c.in_ok-turn.ensures.entered; stepped = λ calm. c.in_ok-turn.ensures.stepped calm })
-            c.take_turn.new.state c.in-Answered.given c.in_ok-count-in-Answered.count made c.in_ok-settle-in-Answered.ensures.states refl
+            c.take_turn.new.state c.in-Answered.given _ made states refl
             (λ law calm. rw c.in-Answered.is at (c.in_ok-turn.ensures.answer law calm))
             (λ pace calm. rw c.in-Answered.is at (c.in_ok-turn.ensures.paced calm pace))
             (λ calm. rw c.in-Answered.is at (c.in_ok-turn.ensures.told calm)) (λ calm. c.in_ok-turn.ensures.begun calm);
@@ -196,12 +189,13 @@ returns-in_ok-settle-in-Answered-clause-stretch g c =
       ended = tt;
     }
 
-pub returns-in_ok-settle-in-Answered-clause-nearer : goal.returns-in_ok-settle-in-Answered-clause-nearer
-returns-in_ok-settle-in-Answered-clause-nearer g c =
+pub returns-in_ok-keep_given-in-Answered-clause-nearer : goal.returns-in_ok-keep_given-in-Answered-clause-nearer
+returns-in_ok-keep_given-in-Answered-clause-nearer g c =
     let first = at c.args.plan.now c.args.arena.now (outside c.args.resolvers.now c.args.hooks.now c.args.turns.now c.args.steps.now) in
     let u = upon {e = parts g.R.ResolverSet g.L.Plan g.H.Rounds g.P.Turns} first c.aim.new.self c.pick_task-picked.new.turns c.pick_task-picked.result.place c.pick_task-picked.result.number c.index_mut.result.now
-    c.context-context.result c.aim.ensures.stays c.aim.ensures.keeps c.requires.sound c.pick_task-picked.ensures.stands c.index_mut.ensures.value
-    c.context-context.ensures c.pick_task-picked.ensures.choice c.pick_task-picked.ensures.after in
-    let ok = c.settle.new.arena.states.ok in
-    let small = c.settle.new.arena.states.small in
-    nearer_answered u.taken c.settle.new.arena.states.items c.take_turn.new.state c.in_ok-count-in-Answered.count c.in_ok-settle-in-Answered.ensures.states (omega arith)
+    c.context-context.result c.info-info.result c.aim.ensures.stays c.aim.ensures.keeps c.requires.sound c.pick_task-picked.ensures.stands c.index_mut.ensures.value
+    c.context-context.ensures c.info-info.ensures c.pick_task-picked.ensures.choice c.pick_task-picked.ensures.after in
+    let states = c.in_ok-keep_given-in-Answered.ensures.states u.taken.pick.task u.taken.pick.task_is in
+    let ok = c.keep_given.new.arena.states.ok in
+    let small = c.keep_given.new.arena.states.small in
+    nearer_answered u.taken c.keep_given.new.arena.states.items c.take_turn.new.state _ states (omega arith)

@@ -10,10 +10,11 @@ use Rattle.gql_engine.specs.Progress.{seen}
 use Rattle.gql_engine.specs.Rounds.{KeepNumbers, RoundsStopped, RoundsWhole}
 use Rattle.gql_merged.specs.Fitting.{entries_in}
 use Rattle.gql_merged.specs.Jobs.{asked_by_job, Job}
+use Rattle.gql_merged.specs.NeverRoots.{no_roots}
 use Rattle.gql_merged.specs.Parents.{jobs_of_standing, standing_behind}
 use Rattle.gql_merged.specs.Run.{basis_of, root_jobs, root_selections, root_spot}
 use Rattle.gql_merged.specs.Tasks.{job_of_task, jobs_in}
-use Rattle.gql_merged.proofs.BeneathLemmas.{every_at, no_roots}
+use Rattle.gql_merged.proofs.BeneathLemmas.{every_at}
 use Rattle.gql_merged.proofs.JobLemmas.{level_jobs}
 use Rattle.gql_merged.proofs.RunLemmas.{all_held, answers_due, Begins, due_agrees, Finishes, response_is, roots_enough, runs_whole, stopped_none, stopped_run, stopped_whole, whole_ran}
 use Rattle.gql_merged.proofs.run.run_merged_counted.Goals as goal

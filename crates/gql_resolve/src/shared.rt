@@ -1,0 +1,24 @@
+//! What resolvers answer can be moved to threads and shared between them, where their own values can.
+use crate::{Answer, FieldValue, Layers, Polled, ResolverContext};
+
+fn shared<T: Send + Sync>() {}
+
+fn of_field_value() {
+    shared::<FieldValue<u64>>();
+}
+
+fn of_answer() {
+    shared::<Answer<u64>>();
+}
+
+fn of_polled() {
+    shared::<Polled<u64>>();
+}
+
+fn of_layers<'a>() {
+    shared::<Layers<'a>>();
+}
+
+fn of_resolver_context<'a>() {
+    shared::<ResolverContext<'a, u64>>();
+}
