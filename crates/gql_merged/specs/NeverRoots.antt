@@ -1,5 +1,6 @@
 -- No task of merged execution is a root of a mutation.
-use Rattle.std.specs.Prelude.{◌≡◌, ◌||◌, ℕ, zero, suc, Bool, true, false, cond, List, [], ◌∷◌, ◌++◌, Option, Some, None, slice_get, refl, subst, option_and_then}
+use Rattle.std.specs.Prelude.{◌≡◌, ◌||◌, ℕ, zero, suc, Bool, true, false, cond, List, [], ◌∷◌, ◌++◌, Option, Some, None, slice_get, option_and_then}
+use Rattle.std.proofs.Common.{refl, subst}
 use Rattle.std.specs.List.{AllByRecursion, flat_map}
 use Rattle.gql_base.specs.declared.path_segment.PathSegment.{PathSegment}
 use Rattle.gql_base.specs.declared.path_segment.PathSegment.TheVariants as segment

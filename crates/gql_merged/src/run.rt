@@ -93,7 +93,7 @@ fn run_on_blank<R: ResolverSet, P: Turns, S: Ledger>(
 
 /// The same with the rounds of any hooks, where each start of a resolver that answered is a step. The hooks of each task are entered
 /// once, before its resolver is started.
-pub fn run_merged_counted<R: ResolverSet, H: Rounds<R::Own>, P: Turns, S: Ledger>(
+pub fn run_merged_counted<R: ResolverSet, H: Rounds, P: Turns, S: Ledger>(
     alloc: Global,
     scene: &Scene<'_, R::Own>,
     resolvers: &mut R,
