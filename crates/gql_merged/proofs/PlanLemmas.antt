@@ -3,15 +3,14 @@ use Rattle.std.proofs.Common.{◌≡◌, ℕ, zero, suc, ◌+◌, ◌<◌, ◌�
 use Rattle.std.proofs.lemmas.List.{length-map}
 use Rattle.std.specs.List.{AllByRecursion}
 use Rattle.gql_engine.proofs.Lists.{get_append, get_map, get_within}
+use Rattle.gql_engine.specs.Plan.{HasMade}
 use Rattle.gql_engine.specs.declared.given.Given.{Given}
 use Rattle.gql_merged.specs.Entries.{laid}
 use Rattle.gql_merged.specs.Fitting.{entries_in, entry_of, HoldsGiven, IsFilledWith, made_beneath}
 use Rattle.gql_merged.specs.Jobs.{Job}
-use Rattle.gql_merged.specs.Tasks.{IsDeep, job_of_task, job_with, jobs_in}
+use Rattle.gql_merged.specs.Tasks.{IsDeep, job_of_task, jobs_in}
 use Rattle.gql_merged.specs.declared.kept.Filled.{Filled}
 use Rattle.gql_merged.specs.declared.kept.Kept.{Kept}
-use Rattle.gql_merged.specs.declared.level.Node.{Node}
-use Rattle.gql_merged.specs.declared.parent.Parent.{Parent}
 use Rattle.gql_merged.specs.declared.task.Task.{Task}
 use Rattle.gql_merged.proofs.BeneathLemmas.{every_at}
 use Rattle.gql_merged.proofs.EntryLemmas.{laid_more}
@@ -37,6 +36,12 @@ module _ {V : Type 0} {tasks tasks' : List (Task V)} {kept kept' : List (Kept V)
 
   pub completes_count : k.count ≡ length (made_beneath given job)
   completes_count = done.count_is ∙ sym (length-map done.more job_of_task) ∙ ap length done.beneath_is
+
+  -- the tasks beneath are made, and their number is told
+  pub completes_has : (other : Job V) → slice_get (jobs_in tasks) k.number ≡ Some other → HasMade (jobs_in tasks) (jobs_in tasks') (made_beneath given other) k.count
+  completes_has other is =
+      let same : job ≡ other = (let e : Some job ≡ Some other = sym done.there ∙ is in cc) in
+      (completes_made ∙ ap (λ j. jobs_in tasks ++ made_beneath given j) same, completes_count ∙ ap (λ j. length (made_beneath given j)) same)
 
   entries_are : entries_in kept' ≡ entries_in kept ++ entry_of k ∷ []
   entries_are = ap entries_in done.kept_is ∙ map_append entry_of kept (k ∷ [])
@@ -75,13 +80,12 @@ module _ {V : Type 0} {tasks tasks' : List (Task V)} {kept kept' : List (Kept V)
       (subst (λ es. HoldsGiven (jobs_in tasks ++ made_beneath given job) es other g) (sym entries_are)
       (held_more (jobs_in tasks) (made_beneath given job) (entries_in kept) (entry_of k) other differs held))
 
--- what was made of the object and the field of a task is of the task
-pub completes_task : {V : Type 0} (tasks tasks' more : List (Task V)) (kept kept' : List (Kept V)) (k : Kept V) (task : Task V) (parent : Parent V) (node : Node) (given : Given V)
-    → slice_get tasks k.number ≡ Some task → parent ≡ task.parent.value → node ≡ task.node.value → tasks' ≡ tasks ++ more → kept' ≡ kept ++ k ∷ []
-    → k.first ≡ length tasks → k.count ≡ length more → jobs_in more ≡ made_beneath given (job_with parent node) → IsFilledWith given (job_with parent node) k.filled
-    → AllByRecursion IsDeep (made_beneath given (job_with parent node)) → Completes V tasks tasks' kept kept' k (job_of_task task) given
-completes_task tasks tasks' more kept kept' k task parent node given there parent_is node_is tasks_is kept_is first_is count_is beneath_is filled_is deep =
-    let same : job_with parent node ≡ job_of_task task = λ i. job_with (parent_is i) (node_is i) in
+-- what was made for a task
+pub completes_task : {V : Type 0} (tasks tasks' more : List (Task V)) (kept kept' : List (Kept V)) (k : Kept V) (task : Task V) (given : Given V)
+    → slice_get tasks k.number ≡ Some task → tasks' ≡ tasks ++ more → kept' ≡ kept ++ k ∷ [] → k.first ≡ length tasks → k.count ≡ length more
+    → jobs_in more ≡ made_beneath given (job_of_task task) → IsFilledWith given (job_of_task task) k.filled → AllByRecursion IsDeep (made_beneath given (job_of_task task))
+    → Completes V tasks tasks' kept kept' k (job_of_task task) given
+completes_task tasks tasks' more kept kept' k task given there tasks_is kept_is first_is count_is beneath_is filled_is deep =
     record {
       more = more;
       tasks_is = tasks_is;
@@ -89,7 +93,7 @@ completes_task tasks tasks' more kept kept' k task parent node given there paren
       there = get_map job_of_task tasks k.number task there;
       first_is = first_is;
       count_is = count_is;
-      beneath_is = beneath_is ∙ ap (made_beneath given) same;
-      filled_is = subst (λ j. IsFilledWith given j k.filled) same filled_is;
-      deep = subst (λ j. AllByRecursion IsDeep (made_beneath given j)) same deep;
+      beneath_is = beneath_is;
+      filled_is = filled_is;
+      deep = deep;
     }

@@ -1,10 +1,10 @@
 -- From the first turn to the last: the tasks of the root, and what stands when none waits.
-use Rattle.std.proofs.Common.{ℕ, zero, suc, ◌≡◌, ◌+◌, ◌≤◌, ◌<◌, Bool, true, false, ltb, List, [], ◌∷◌, ◌++◌, length, take, refl, sym, ap, subst, ◌∙◌, arith, ltb-true, ltb-false}
+use Rattle.std.proofs.Common.{ℕ, zero, suc, ◌≡◌, ◌+◌, ◌≤◌, ◌<◌, Bool, true, false, ltb, List, [], ◌∷◌, ◌++◌, length, map, take, refl, sym, ap, subst, ◌∙◌, arith, ltb-true, ltb-false}
 use Rattle.std.proofs.lemmas.List.{append-nil}
 use Rattle.std.specs.Prelude.{Option, Some, None, slice_get}
-use Rattle.std.specs.List.{AllByRecursion}
+use Rattle.std.specs.List.{AllByRecursion, zip}
 use Rattle.std.specs.Option.{ForSome}
-use Rattle.gql_base.specs.Pairs.{values_of}
+use Rattle.gql_base.specs.Pairs.{names_of, values_of}
 use Rattle.gql_base.specs.declared.path_segment.PathSegment.TheVariants as segment
 use Rattle.gql_base.specs.declared.pos.Pos.{Pos}
 use Rattle.gql_doc.specs.Depth.{deep_from, operation_set}
@@ -23,7 +23,7 @@ use Rattle.gql_engine.specs.declared.arena.State.TheVariants as state
 use Rattle.gql_engine.specs.declared.given.Given.{Given}
 use Rattle.gql_engine.specs.declared.given.Given.TheVariants.{Answered}
 use Rattle.gql_engine.specs.declared.scene.Scene.{Scene}
-use Rattle.gql_meaning.specs.Responses.{root_place}
+use Rattle.gql_meaning.specs.Responses.{Members, root_place}
 use Rattle.gql_place.specs.declared.place.Place.{Place}
 use Rattle.gql_resolve.specs.Call.{Call}
 use Rattle.gql_resolve.specs.Record.{with_more}
@@ -33,20 +33,23 @@ use Rattle.gql_resolve.specs.declared.resolver_set.ResolverSet.{Ghosts as Resolv
 use Rattle.gql_resolve.specs.declared.turns.Turns.{Ghosts as Choosing}
 use Rattle.gql_select.specs.Documents.{reading}
 use Rattle.gql_select.specs.Reading.{merged}
-use Rattle.gql_merged.specs.Assembled.{members_with}
+use Rattle.gql_merged.specs.Assembled.{members_with, places_with}
 use Rattle.gql_merged.specs.Assembling.{AllHeld, beneath_due, IsAssembled, IsFilledDue, IsRight}
 use Rattle.gql_merged.specs.Basis.{setting_by}
 use Rattle.gql_merged.specs.Entries.{Entry}
 use Rattle.gql_merged.specs.FieldsWithin.{collected}
 use Rattle.gql_merged.specs.Fitting.{HoldsGiven, IsFilled}
 use Rattle.gql_merged.specs.Jobs.{Job, jobs_beneath}
-use Rattle.gql_merged.specs.Parents.{Standing, standing_at}
+use Rattle.gql_merged.specs.Levels.{asked_behind}
+use Rattle.gql_merged.specs.Parents.{Standing, standing_at, standing_of}
 use Rattle.gql_merged.specs.Run.{basis_of, job_subject, merged_response, merged_work, Nests, root_jobs, root_selections, root_spot}
 use Rattle.gql_merged.specs.Standing.{IsHeld, Paired}
 use Rattle.gql_merged.specs.Tasks.{IsDeep, job_of_task, jobs_in}
 use Rattle.gql_merged.specs.declared.kept.Filled.{Filled}
+use Rattle.gql_merged.specs.declared.parent.Parent.{Parent}
 use Rattle.gql_merged.specs.declared.task.Task.{Task}
 use Rattle.gql_merged.proofs.BeneathLemmas.{every_at, every_of, jobs_all}
+use Rattle.gql_merged.proofs.GatheredLemmas.{level_members}
 use Rattle.gql_merged.proofs.PlacedLemmas.{root_right}
 use Rattle.gql_merged.proofs.WithinLemmas.{nests_within}
 
@@ -227,3 +230,19 @@ module _ {R Own World Future P : Type 0} (set : Resolving R Own World Future) (t
             within = held.within;
             block = held.block ∙ ap (λ j. jobs_beneath held.job (answers_due j)) (sym same);
           }
+
+-- no task stands behind the first ones
+pub none_deep : {V : Type 0} (tasks : List (Task V)) (roots : ℕ) → roots ≡ length tasks → (k : ℕ) (task : Task V) → roots ≤ k → slice_get tasks k ≡ Some task
+    → IsDeep (job_of_task task)
+none_deep tasks roots is k task above there = (let w = get_within tasks k task there in absurd (omega arith))
+
+-- the place of the root is put together of the places of its tasks
+pub root_assembled : {V : Type 0} (answer : Call V → Answer V) (pos : Pos) (parent : Parent V) (jobs : List (Job V)) (own : List Place) (members : Members) (place : Place)
+    → Paired (IsRight answer) jobs own
+    → members ≡ zip (names_of parent.level.value.keys) (places_with parent.level.value.object (map asked_behind parent.level.value.nodes.items) own)
+    → place ≡ root_place pos members → IsAssembled answer pos (standing_of parent) jobs place
+root_assembled answer pos parent jobs own members place right members_is place_is = record {
+  own = own;
+  right = right;
+  place_is = place_is ∙ ap (root_place pos) (members_is ∙ level_members parent.level.value parent.level.value.object own);
+}

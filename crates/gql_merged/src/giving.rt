@@ -6,7 +6,7 @@ ghost use Rattle.gql_merged.specs.Fitting.{IsFilled, IsFilledWith, made_beneath,
 ghost use Rattle.gql_merged.specs.Jobs.{jobs_beneath};
 ghost use Rattle.gql_merged.specs.Parents.{spot_found};
 ghost use Rattle.gql_merged.specs.Stored.{bare, spots};
-ghost use Rattle.gql_merged.specs.Tasks.{IsDeep, jobs_in, job_with, path_with};
+ghost use Rattle.gql_merged.specs.Tasks.{IsDeep, job_of_task, jobs_in, job_with, path_with};
 
 use crate::completing::complete_result;
 use crate::kept::Filled;
@@ -25,19 +25,19 @@ use std::alloc::Global;
 /// What a task comes to with what it is given. The tasks beneath it are made behind the others.
 pub(crate) fn fill_given<'a, V: Drop>(
     alloc: Global,
-    parent: &Parent<'a, V>,
-    node: &Node<'a>,
+    task: &Task<'a, V>,
     given: Given<V>,
     tasks: &mut Vec<Task<'a, V>>,
 ) -> Made<Filled<'a, V>>
-    requires { is_call node.now.asks ≡ true }
-    ensures filled { IfOk result (λ filled. IsFilledWith given
-        (job_with parent.entry.now node.entry.now) filled) }
+    ensures filled { IfOk result (λ filled. IsFilledWith given (job_of_task task.entry.now)
+        filled) }
     ensures tasks { OnOk result (jobs_in tasks.new.items ≡ jobs_in tasks.old.items
-        ++ made_beneath given (job_with parent.entry.now node.entry.now)) }
+        ++ made_beneath given (job_of_task task.entry.now)) }
     ensures deep { OnOk result (AllByRecursion IsDeep
-        (made_beneath given (job_with parent.entry.now node.entry.now))) }
+        (made_beneath given (job_of_task task.entry.now))) }
 {
+    let parent = task.parent.as_ref();
+    let node = task.node.as_ref();
     match given {
         Given::Answered(answer) => fill_answer(alloc, parent, node, answer, tasks),
         Given::Put(put) => Ok(fill_put(alloc, node, put)),

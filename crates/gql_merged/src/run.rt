@@ -170,6 +170,7 @@ fn root_level<'a, V>(alloc: Global, scene: &Scene<'a, V>) -> Made<Level<'a>>
 }
 
 /// The plan that begins with the tasks of the root.
+#[tactic(auto, using(crate::proofs::RunLemmas::none_deep))]
 fn plan_of<'a, V: Drop>(alloc: Global, root: &Rc<Parent<'a, V>>) -> Made<TreePlan<'a, V>>
     ensures { IfOk result (λ plan. jobs_in plan.tasks.items
         ≡ jobs_of_standing (standing_behind root.entry.now)) }
@@ -186,6 +187,7 @@ fn plan_of<'a, V: Drop>(alloc: Global, root: &Rc<Parent<'a, V>>) -> Made<TreePla
 }
 
 /// The place of the root, of what is kept of all tasks.
+#[tactic(auto, using(crate::proofs::RunLemmas::root_assembled))]
 fn place_of_root<'a, V: Drop>(
     alloc: Global,
     pos: Pos,

@@ -110,10 +110,8 @@ impl<'a, V: Drop> Plan<V> for TreePlan<'a, V> {
             → HoldsGiven (jobs_in self.new.tasks.items) (entries_in self.new.kept.items) other g) }
     {
         let first = self.tasks.len();
-        let parent = self.tasks[number].parent.clone()?;
-        let node = self.tasks[number].node.clone()?;
         let mut more = Vec::new(alloc);
-        let filled = fill_given(alloc, parent.as_ref(), node.as_ref(), given, &mut more)?;
+        let filled = fill_given(alloc, &self.tasks[number], given, &mut more)?;
         let count = more.len();
         self.kept.reserve(1)?;
         self.tasks.append(&mut more)?;
