@@ -4,6 +4,7 @@ pub mod AssembledLemmas
 pub mod AssemblyLemmas
 pub mod BeneathLemmas
 pub mod CompletingLemmas
+pub mod ContextLemmas
 pub mod EntryLemmas
 pub mod FillingLemmas
 pub mod GatheredLemmas
