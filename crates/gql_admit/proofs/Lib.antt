@@ -9,6 +9,7 @@ pub mod FirstLemmas
 pub mod KeepLemmas
 pub mod LiteralLemmas
 pub mod MarkLemmas
+pub mod NestingLemmas
 pub mod OrderLemmas
 pub mod ReachLemmas
 pub mod RefusalLemmas
@@ -17,3 +18,4 @@ pub mod SpreadLemmas
 pub mod ToldLemmas
 pub mod TruthLemmas
 pub mod WalkLemmas
+pub mod WalkedLemmas
