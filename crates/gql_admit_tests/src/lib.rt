@@ -3,8 +3,6 @@
 #![tactic(auto)]
 
 #[cfg(test)]
-mod argument_tests;
-#[cfg(test)]
 mod rules_tests;
 mod shared;
 #[cfg(test)]
