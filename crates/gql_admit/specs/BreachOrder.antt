@@ -40,9 +40,13 @@ breach_order =
 
 pub breach_total : IsTotalOrder breach_order
 breach_total =
-    then_total (on_total (λ (breach : Breach). breach.pos) (then_total (on_total (λ (pos : Pos). pos.line) nat_cmp_total) (on_total (λ (pos : Pos). pos.column) nat_cmp_total)))
+    then_total
+    (on_total (λ (breach : Breach). breach.pos)
+    (then_total (on_total (λ (pos : Pos). pos.line) nat_cmp_total)
+    (on_total (λ (pos : Pos). pos.column) nat_cmp_total)))
     (then_total (on_total (λ (breach : Breach). kind_place breach.kind) nat_cmp_total)
-    (then_total (on_total (λ (breach : Breach). breach.name) nat_list_cmp_total) (on_total (λ (breach : Breach). breach.text) nat_list_cmp_total)))
+    (then_total (on_total (λ (breach : Breach). breach.name) nat_list_cmp_total)
+    (on_total (λ (breach : Breach). breach.text) nat_list_cmp_total)))
 
 -- a list that tells, in this order and once each, exactly what is meant
 pub record Lists (IsMeant : Breach → Type 0) (list : List Breach) : Type 0 where

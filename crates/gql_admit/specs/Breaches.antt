@@ -1,5 +1,6 @@
 -- The rules of the specification that a document breaks over a table of types.
-use Rattle.std.specs.Prelude.{ℕ, Bool, true, false, ◌&&◌, ◌||◌, List, [], ◌∷◌, ◌++◌, Option, Some, None, if◌then◌else◌}
+use Rattle.std.specs.Prelude.{ℕ, Bool, true, false, ◌&&◌, ◌||◌, List, [], ◌∷◌, ◌++◌, Option, Some}
+use Rattle.std.specs.Prelude.{None, if◌then◌else◌}
 use Rattle.std.specs.List.{flat_map}
 use Rattle.gql_base.specs.Pairs.{under}
 use Rattle.gql_base.specs.TypeRef.{innermost, type_text}
@@ -15,7 +16,9 @@ use Rattle.gql_schema.specs.declared.schema_type.SchemaType.{SchemaType}
 use Rattle.gql_select.specs.Kept.{is_include, is_skip}
 use Rattle.gql_admit.specs.Arguments.{Bearing, DirectiveOf, FieldOf, told_of_arguments}
 use Rattle.gql_admit.specs.Breach.{breach, unless}
-use Rattle.gql_admit.specs.BreachTexts.{composite_text, condition_text, leaf_text, unknown_directive_text, unknown_field_text, unknown_fragment_text}
+use Rattle.gql_admit.specs.BreachTexts.{composite_text, condition_text, leaf_text}
+use Rattle.gql_admit.specs.BreachTexts.{unknown_directive_text, unknown_field_text}
+use Rattle.gql_admit.specs.BreachTexts.{unknown_fragment_text}
 use Rattle.gql_admit.specs.FieldTypes.{is_composite, is_leaf, known_field, table_of}
 use Rattle.gql_admit.specs.Places.{FieldPlace, Place, OnCondition, OnDirective, OnField, OnSpread}
 use Rattle.gql_admit.specs.declared.breach.Breach.{Breach}
@@ -28,7 +31,8 @@ abbrev pub passes : (SchemaType → Bool) → Option SchemaType → Bool
 passes test None = false
 passes test (Some ty) = test ty
 
--- whether the name is that of a type whose fields have no sets, and of an object, an interface or a union
+-- whether the name is that of a type whose fields have no sets, and of an object, an interface or a
+-- union
 abbrev pub is_leaf_named : Site → List ℕ → Bool
 is_leaf_named site name = passes is_leaf (under name (table_of site))
 
@@ -36,13 +40,17 @@ abbrev pub is_composite_named : Site → List ℕ → Bool
 is_composite_named site name = passes is_composite (under name (table_of site))
 
 abbrev pub unknown_field : FieldPlace → Breach
-unknown_field field = breach field.pos kinds.UnknownField field.name (unknown_field_text field.name (type_name field.parent))
+unknown_field field =
+    breach field.pos kinds.UnknownField field.name
+    (unknown_field_text field.name (type_name field.parent))
 
 abbrev pub set_on_leaf : FieldPlace → TypeRef → Breach
-set_on_leaf field ty = breach field.pos kinds.Selection field.name (leaf_text field.name (type_text ty))
+set_on_leaf field ty =
+    breach field.pos kinds.Selection field.name (leaf_text field.name (type_text ty))
 
 abbrev pub no_set : FieldPlace → TypeRef → Breach
-no_set field ty = breach field.pos kinds.Selection field.name (composite_text field.name (type_text ty))
+no_set field ty =
+    breach field.pos kinds.Selection field.name (composite_text field.name (type_text ty))
 
 abbrev pub unknown_condition : Pos → List ℕ → Breach
 unknown_condition pos name = breach pos kinds.Condition name (condition_text name)
@@ -68,7 +76,8 @@ told_of_condition site pos name = unless (is_composite_named site name) (unknown
 
 abbrev pub unknown_directive : Positioned Directive → Breach
 unknown_directive directive =
-    breach directive.pos kinds.Directive directive.node.name.node (unknown_directive_text directive.node.name.node)
+    breach directive.pos kinds.Directive directive.node.name.node
+    (unknown_directive_text directive.node.name.node)
 
 -- the directives `@skip` and `@include`, which stand on selections
 abbrev pub is_condition : Directive → Bool
@@ -105,7 +114,8 @@ module _ (built : BuiltIn) (site : Site) where
   abbrev pub told_of_directive : (selects : Bool) → Positioned Directive → List Breach
   told_of_directive selects directive =
       if selects && is_condition directive.node
-      then told_of_arguments (table_of site) (directive_bearing built directive) directive.node.arguments
+      then told_of_arguments (table_of site) (directive_bearing built directive)
+      directive.node.arguments
       else (unknown_directive directive ∷ [])
 
   module _ (fragments : Fragments) where

@@ -1,4 +1,5 @@
--- The arguments of what every schema has: `__typename`, `_entities`, `@skip` and `@include` (GraphQL, October 2021, sections 3.13.1,
+-- The arguments of what every schema has: `__typename`, `_entities`, `@skip` and `@include`
+-- (GraphQL, October 2021, sections 3.13.1,
 -- 3.13.2 and 4.1).
 use Rattle.std.specs.Prelude.{[], ◌∷◌, None, codes}
 use Rattle.gql_base.specs.declared.type_ref.TypeRef.TheVariants as ref
@@ -7,7 +8,8 @@ use Rattle.gql_admit.specs.declared.built_in.BuiltIn.{BuiltIn}
 
 -- `if: Boolean!`
 abbrev pub if_argument : InputValue
-if_argument = record { name = codes "if"; ty = ref.NonNull (ref.Named (codes "Boolean")); default = None }
+if_argument =
+    record { name = codes "if"; ty = ref.NonNull (ref.Named (codes "Boolean")); default = None }
 
 -- `representations: [_Any!]!`
 abbrev pub representations_argument : InputValue

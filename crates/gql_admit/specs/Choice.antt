@@ -35,7 +35,8 @@ chosen (Multiple operations) (Some name) = option_map (named name) (under name o
 
 -- a chosen operation with the fragments of its document
 abbrev pub with_fragments : Fragments → Operation → Chosen
-with_fragments fragments operation = record { operation_name = operation.0; operation = operation.1; fragments = fragments }
+with_fragments fragments operation =
+    record { operation_name = operation.0; operation = operation.1; fragments = fragments }
 
 -- what the choice answers
 abbrev pub choice_of : Fragments → Option (List ℕ) → Option Operation → Result Chosen ServerError

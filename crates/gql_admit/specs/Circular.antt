@@ -1,5 +1,6 @@
 -- Fragments that reach themselves by spreads (GraphQL, October 2021, section 5.5.2.2).
-use Rattle.std.specs.Prelude.{◌≡◌, ℕ, ◌<◌, Bool, true, false, ◌||◌, ◌==◌, ◌⊎◌, List, [], ◌∷◌, ◌++◌, Some, length, slice_get, slice_index_or, if◌then◌else◌}
+use Rattle.std.specs.Prelude.{◌≡◌, ℕ, ◌<◌, Bool, true, false, ◌||◌, ◌==◌, ◌⊎◌, List, [], ◌∷◌, ◌++◌}
+use Rattle.std.specs.Prelude.{Some, length, slice_get, slice_index_or, if◌then◌else◌}
 use Rattle.std.specs.List.{Contains}
 use Rattle.gql_doc.specs.Depth.{Fragments}
 use Rattle.gql_doc.specs.declared.document.FragmentDefinition.{FragmentDefinition}
@@ -31,7 +32,8 @@ led_to graph place = slice_index_or graph place []
 -- a place is reached from another, in one step or more
 pub data Reaches (graph : List (List ℕ)) (start : ℕ) : ℕ → Type 0 where
   at_once : (to : ℕ) → is_in to (led_to graph start) ≡ true → Reaches graph start to
-  further : (via to : ℕ) → Reaches graph start via → is_in to (led_to graph via) ≡ true → Reaches graph start to
+  further : (via to : ℕ) → Reaches graph start via → is_in to (led_to graph via) ≡ true
+      → Reaches graph start to
 
 -- each place leads to places of the graph
 pub record AreWithin (graph : List (List ℕ)) : Type 0 where

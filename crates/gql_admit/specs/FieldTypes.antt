@@ -1,5 +1,7 @@
--- Which fields a type has where a document is checked, and of which type they are (GraphQL, October 2021, sections 3.6, 4.1 and 5.3.1).
-use Rattle.std.specs.Prelude.{ℕ, Bool, true, false, ◌&&◌, not, List, codes, Option, Some, None, option_map, if◌then◌else◌}
+-- Which fields a type has where a document is checked, and of which type they are (GraphQL, October
+-- 2021, sections 3.6, 4.1 and 5.3.1).
+use Rattle.std.specs.Prelude.{ℕ, Bool, true, false, ◌&&◌, not, List, codes, Option, Some, None}
+use Rattle.std.specs.Prelude.{option_map, if◌then◌else◌}
 use Rattle.std.specs.Str.{bytes_eq}
 use Rattle.gql_base.specs.declared.type_ref.TypeRef.{TypeRef}
 use Rattle.gql_base.specs.declared.type_ref.TypeRef.TheVariants as ref
@@ -47,7 +49,8 @@ has_typename ty name = bytes_eq name (codes "__typename") && not (is_subscriptio
 
 -- `_entities` is known on the type of the query root, where entities are on
 abbrev pub has_entities : Site → SchemaType → List ℕ → Bool
-has_entities site ty name = site.entities && (bytes_eq name (codes "_entities") && bytes_eq (type_name ty) site.query.now)
+has_entities site ty name =
+    site.entities && (bytes_eq name (codes "_entities") && bytes_eq (type_name ty) site.query.now)
 
 -- the type of a field as it is declared
 abbrev pub type_declared : Declared → TypeRef
@@ -57,7 +60,8 @@ type_declared declared = declared.ty
 abbrev pub field_type : Site → SchemaType → List ℕ → Option TypeRef
 field_type site ty name =
     if has_typename ty name then Some typename_type else
-    (if has_entities site ty name then Some entities_type else option_map type_declared (declared_in name ty))
+    (if has_entities site ty name
+    then Some entities_type else option_map type_declared (declared_in name ty))
 
 -- the fields that no type declares, with their arguments
 abbrev pub typename_field : BuiltIn → Declared

@@ -15,13 +15,15 @@ abbrev pub refused_by : {A : Type 0} → (A → ServerError) → Option A → Re
 refused_by tell None = Ok tt
 refused_by tell (Some found) = Err (tell found)
 
--- what the check of the depth answers: the first set in document order that lies deeper than the limit is refused
+-- what the check of the depth answers: the first set in document order that lies deeper than the
+-- limit is refused
 abbrev pub depth_checked : ExecutableDocument → ℕ → Result (Unit {0}) ServerError
 depth_checked document limit = refused_by (depth_error limit) (deep document limit)
 
 -- that so many levels suffice for the sets of a document's operations
 pub record NestsWithin (document : ExecutableDocument) (levels : ℕ) : Type 0 where
-  pub none : first_in (λ operation. deep_from document.fragments levels (operation_set operation)) (operations_in document.operations) ≡ None
+  pub none : first_in (λ operation. deep_from document.fragments levels (operation_set operation))
+      (operations_in document.operations) ≡ None
 
 -- that a document lies within some limit on the depth
 pub record IsWithinDepth (document : ExecutableDocument) : Type 0 where
@@ -33,7 +35,8 @@ pub record IsWithinDepth (document : ExecutableDocument) : Type 0 where
 abbrev pub crowded_error : ℕ → Positioned Field → ServerError
 crowded_error limit field = directives_error limit (name_of field) field.pos
 
--- what the check of directives answers of a document within this limit on the depth: the first field with more directives than
--- the limit is refused
+-- what the check of directives answers of a document within this limit on the depth: the first
+-- field with more directives than the limit is refused
 abbrev pub directives_checked : ExecutableDocument → ℕ → ℕ → Result (Unit {0}) ServerError
-directives_checked document limit depth = refused_by (crowded_error limit) (crowded document limit (suc depth))
+directives_checked document limit depth =
+    refused_by (crowded_error limit) (crowded document limit (suc depth))

@@ -1,6 +1,7 @@
--- Which values of a document fit a type of inputs: a variable fits each, and any other value by the rules for values (GraphQL, October
--- 2021, section 5.6.1).
-use Rattle.std.specs.Prelude.{ℕ, Bool, true, false, ◌&&◌, List, [], ◌∷◌, map, Option, Some, if◌then◌else◌}
+-- Which values of a document fit a type of inputs: a variable fits each, and any other value by the
+-- rules for values (GraphQL, October 2021, section 5.6.1).
+use Rattle.std.specs.Prelude.{ℕ, Bool, true, false, ◌&&◌, List, [], ◌∷◌, map, Option, Some}
+use Rattle.std.specs.Prelude.{if◌then◌else◌}
 use Rattle.std.specs.List.{list_all}
 use Rattle.gql_base.specs.Pairs.{under}
 use Rattle.gql_base.specs.TypeRef.{type_text}
@@ -10,7 +11,8 @@ use Rattle.gql_base.specs.declared.value.Value.TheOpen.{Value-F}
 use Rattle.gql_doc.specs.declared.document.DocValue.{DocValue, out-DocValue}
 use Rattle.gql_doc.specs.declared.document.DocValue.TheOpen.{DocValue-F}
 use Rattle.gql_doc.specs.declared.document.DocValue.TheFolds.{fold-DocValue}
-use Rattle.gql_schema.specs.Fits.{Fitting, are_declared, fits_declared, fits_input, fits_step, is_non_null, nullable_of}
+use Rattle.gql_schema.specs.Fits.{Fitting, are_declared, fits_declared, fits_input, fits_step}
+use Rattle.gql_schema.specs.Fits.{is_non_null, nullable_of}
 use Rattle.gql_schema.specs.InputObject.{is_oneof}
 use Rattle.gql_schema.specs.TableReading.{TypeTable}
 use Rattle.gql_schema.specs.declared.input_object.InputObject.{InputObject}
@@ -62,14 +64,16 @@ fitting_member table (name, value) = (name, literal_fitting table value)
 abbrev pub fittings : TypeTable → List (List ℕ × DocValue) → List (List ℕ × Fitting)
 fittings table members = map (fitting_member table) members
 
--- whether a value fits a field of an input object, if there is the field, and whether it is no null either
+-- whether a value fits a field of an input object, if there is the field, and whether it is no null
+-- either
 abbrev pub fits_field : TypeTable → DocValue → Option InputValue → Bool
 fits_field table value field = fits_declared table (literal_fitting table value) field
 
 abbrev pub fills_field : TypeTable → DocValue → Option InputValue → Bool
 fills_field table value field = is_non_null (literal_fitting table value) field
 
--- whether an input object declares these members with values that fit, and whether an object of them fits it
+-- whether an input object declares these members with values that fit, and whether an object of
+-- them fits it
 abbrev pub declares : TypeTable → InputObject → List (List ℕ × DocValue) → Bool
 declares table input members = are_declared table input (fittings table members)
 
@@ -108,4 +112,5 @@ has_other_number value = other_number_here (out-DocValue value)
 -- why a value doesn't fit a type
 abbrev pub reason_text : TypeTable → TypeRef → DocValue → List ℕ
 reason_text table ty value =
-    if wants_one table ty && has_other_number value then one_field_text else expected_text (type_text ty)
+    if wants_one table ty && has_other_number value
+    then one_field_text else expected_text (type_text ty)

@@ -1,6 +1,8 @@
--- The places of a document at which rules are looked at, each with the type that it stands on. Beneath an unknown field, a leaf or a
--- condition on no composite type there are none; the directives that stand on an unknown field, or beside such a condition, are looked at.
-use Rattle.std.specs.Prelude.{ℕ, Bool, true, false, not, List, [], ◌∷◌, ◌++◌, Option, Some, None, option_and_then}
+-- The places of a document at which rules are looked at, each with the type that it stands on.
+-- Beneath an unknown field, a leaf or a condition on no composite type there are none; the
+-- directives that stand on an unknown field, or beside such a condition, are looked at.
+use Rattle.std.specs.Prelude.{ℕ, Bool, true, false, not, List, [], ◌∷◌, ◌++◌, Option, Some, None}
+use Rattle.std.specs.Prelude.{option_and_then}
 use Rattle.std.specs.List.{flat_map}
 use Rattle.std.specs.Option.{option_copied}
 use Rattle.gql_base.specs.Pairs.{under, values_of}
@@ -17,8 +19,10 @@ use Rattle.gql_doc.specs.declared.document.OperationType.{OperationType}
 use Rattle.gql_doc.specs.declared.document.OperationType.TheVariants.{Query, Mutation, Subscription}
 use Rattle.gql_doc.specs.declared.document.Positioned.{Positioned}
 use Rattle.gql_doc.specs.declared.document.Selection.{Selection}
-use Rattle.gql_doc.specs.declared.document.Selection.TheOpen.{Selection-F, Field-F, InlineFragment-F, SelectionSet-F}
-use Rattle.gql_doc.specs.declared.document.Selection.TheFolds.{fold-Field, fold-InlineFragment, fold-Selection, fold-SelectionSet}
+use Rattle.gql_doc.specs.declared.document.Selection.TheOpen.{Selection-F, Field-F}
+use Rattle.gql_doc.specs.declared.document.Selection.TheOpen.{InlineFragment-F, SelectionSet-F}
+use Rattle.gql_doc.specs.declared.document.Selection.TheFolds.{fold-Field, fold-InlineFragment}
+use Rattle.gql_doc.specs.declared.document.Selection.TheFolds.{fold-Selection, fold-SelectionSet}
 use Rattle.gql_doc.specs.declared.document.Field.{Field}
 use Rattle.gql_doc.specs.declared.document.InlineFragment.{InlineFragment}
 use Rattle.gql_doc.specs.declared.document.SelectionSet.{SelectionSet}
@@ -70,17 +74,20 @@ on_composite (Some _) places = []
 
 -- some directives, which stand on a selection or on a definition
 abbrev pub directive_places : (selects : Bool) → List (Positioned Directive) → List Place
-directive_places selects directives = flat_map (λ directive. OnDirective selects directive ∷ []) directives
+directive_places selects directives =
+    flat_map (λ directive. OnDirective selects directive ∷ []) directives
 
 -- the directives of the definitions of variables
 abbrev pub variable_places : List (Positioned VariableDefinition) → List Place
-variable_places variables = flat_map (λ variable. directive_places false variable.node.directives) variables
+variable_places variables =
+    flat_map (λ variable. directive_places false variable.node.directives) variables
 
 -- one level of each part of a document
 abbrev pub selection_step : Selection-F Places (Pos → Places) Places SetPlaces → Places
 selection_step (Selection-F.Field field) ty = field.node field.pos ty
 selection_step (Selection-F.FragmentSpread spread) ty =
-    OnSpread spread.pos spread.node.fragment_name.node ∷ directive_places true spread.node.directives
+    OnSpread spread.pos spread.node.fragment_name.node
+    ∷ directive_places true spread.node.directives
 selection_step (Selection-F.InlineFragment fragment) ty = fragment.node ty
 
 abbrev pub set_step : SelectionSet-F Places (Pos → Places) Places SetPlaces → SetPlaces
@@ -116,7 +123,8 @@ module _ (site : Site) where
   -- the places of a fragment in place: it stands on the type around it, or on that of its condition
   abbrev pub under_condition : Option (Positioned (List ℕ)) → Places → Places
   under_condition None places ty = places ty
-  under_condition (Some condition) places ty = OnCondition condition.pos condition.node ∷ on_named condition.node places
+  under_condition (Some condition) places ty =
+      OnCondition condition.pos condition.node ∷ on_named condition.node places
 
   -- one level of a field, and of a fragment in place
   abbrev pub field_step : Field-F Places (Pos → Places) Places SetPlaces → Pos → Places
@@ -137,16 +145,23 @@ module _ (site : Site) where
       ++ under_condition fragment.type_condition fragment.selection_set.node.on ty
 
   abbrev pub selection_places : Selection → Places
-  selection_places = fold-Selection Places (Pos → Places) Places SetPlaces selection_step field_step inline_step set_step
+  selection_places =
+      fold-Selection Places (Pos → Places) Places SetPlaces selection_step field_step inline_step
+      set_step
 
   abbrev pub field_places : Field → Pos → Places
-  field_places = fold-Field Places (Pos → Places) Places SetPlaces selection_step field_step inline_step set_step
+  field_places =
+      fold-Field Places (Pos → Places) Places SetPlaces selection_step field_step inline_step set_step
 
   abbrev pub inline_places : InlineFragment → Places
-  inline_places = fold-InlineFragment Places (Pos → Places) Places SetPlaces selection_step field_step inline_step set_step
+  inline_places =
+      fold-InlineFragment Places (Pos → Places) Places SetPlaces selection_step field_step inline_step
+      set_step
 
   abbrev pub places_of_set : SelectionSet → SetPlaces
-  places_of_set = fold-SelectionSet Places (Pos → Places) Places SetPlaces selection_step field_step inline_step set_step
+  places_of_set =
+      fold-SelectionSet Places (Pos → Places) Places SetPlaces selection_step field_step inline_step
+      set_step
 
   -- the places in a set on a type
   abbrev pub set_places : SelectionSet → Places
@@ -166,7 +181,8 @@ module _ (site : Site) where
   abbrev pub rooted_places : Positioned OperationDefinition → Places
   rooted_places operation ty =
       variable_places operation.node.variable_definitions
-      ++ (directive_places false operation.node.directives ++ set_places (operation_set operation).node ty)
+      ++ (directive_places false operation.node.directives
+      ++ set_places (operation_set operation).node ty)
 
   -- an operation without a root has no places
   abbrev pub operation_places : Positioned OperationDefinition → List Place

@@ -1,4 +1,5 @@
--- The errors of refused requests (GraphQL, October 2021, section 7.1.2): none has a path or extensions.
+-- The errors of refused requests (GraphQL, October 2021, section 7.1.2): none has a path or
+-- extensions.
 use Rattle.std.specs.Prelude.{ℕ, List, [], ◌++◌, Option, None, Some, codes}
 use Rattle.std.specs.Fmt.{decimal}
 use Rattle.std.specs.Option.{option_to_list}
@@ -7,10 +8,12 @@ use Rattle.gql_base.specs.declared.server_error.ServerError.{ServerError}
 
 -- an error with this message, and with one place or none
 abbrev pub refusal : List ℕ → Option Pos → ServerError
-refusal message place = record { message = message; locations = option_to_list place; path = []; extensions = None }
+refusal message place =
+    record { message = message; locations = option_to_list place; path = []; extensions = None }
 
 unfoldable pub depth_text : ℕ → List ℕ
-depth_text limit = codes "The recursion depth of the query cannot be greater than `" ++ decimal limit ++ codes "`"
+depth_text limit =
+    codes "The recursion depth of the query cannot be greater than `" ++ decimal limit ++ codes "`"
 
 -- the error of a set that lies too deep
 abbrev pub depth_error : ℕ → Pos → ServerError

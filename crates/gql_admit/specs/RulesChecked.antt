@@ -15,7 +15,8 @@ use Rattle.gql_admit.specs.declared.site.Site.{Site}
 -- a rule that a document breaks: at one of its places, or by a fragment that reaches itself
 pub data IsBreach (site : Site) (document : ExecutableDocument) (found : Breach) : Type 0 where
   at_place : (place : Place) → Contains (document_places site document) place
-      → Contains (told_at built_in site document.fragments place) found → IsBreach site document found
+      → Contains (told_at built_in site document.fragments place) found
+      → IsBreach site document found
   circular : IsCircular document.fragments found → IsBreach site document found
 
 -- the error of a breach: its text, at its place
@@ -28,7 +29,8 @@ refused_with [] = Ok tt
 refused_with (found ∷ others) = Err (error_of found ∷ map error_of others)
 
 -- the check's answer is what comes of the list of all breaches, in their order, each once
-pub record IsChecked (site : Site) (document : ExecutableDocument) (checked : Result (Unit {0}) (List ServerError)) : Type 0 where
+pub record IsChecked (site : Site) (document : ExecutableDocument)
+    (checked : Result (Unit {0}) (List ServerError)) : Type 0 where
   pub breaches : List Breach
   pub all : Lists (IsBreach site document) breaches
   pub answer : checked ≡ refused_with breaches

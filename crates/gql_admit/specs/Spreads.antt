@@ -10,8 +10,10 @@ use Rattle.gql_doc.specs.declared.document.FragmentDefinition.{FragmentDefinitio
 use Rattle.gql_doc.specs.declared.document.InlineFragment.{InlineFragment}
 use Rattle.gql_doc.specs.declared.document.Positioned.{Positioned}
 use Rattle.gql_doc.specs.declared.document.Selection.{Selection}
-use Rattle.gql_doc.specs.declared.document.Selection.TheOpen.{Selection-F, Field-F, InlineFragment-F, SelectionSet-F}
-use Rattle.gql_doc.specs.declared.document.Selection.TheFolds.{fold-Field, fold-InlineFragment, fold-Selection, fold-SelectionSet}
+use Rattle.gql_doc.specs.declared.document.Selection.TheOpen.{Selection-F, Field-F}
+use Rattle.gql_doc.specs.declared.document.Selection.TheOpen.{InlineFragment-F, SelectionSet-F}
+use Rattle.gql_doc.specs.declared.document.Selection.TheFolds.{fold-Field, fold-InlineFragment}
+use Rattle.gql_doc.specs.declared.document.Selection.TheFolds.{fold-Selection, fold-SelectionSet}
 use Rattle.gql_doc.specs.declared.document.SelectionSet.{SelectionSet}
 
 -- one level of each part of a document, with the places of what is spread beneath
@@ -28,21 +30,29 @@ module _ (names : List (List ℕ)) where
   -- a spread has the place of its fragment, if there is one
   abbrev pub selection_step : Selection-F (List ℕ) (List ℕ) (List ℕ) (List ℕ) → List ℕ
   selection_step (Selection-F.Field field) = field.node
-  selection_step (Selection-F.FragmentSpread spread) = option_to_list (place_of spread.node.fragment_name.node names)
+  selection_step (Selection-F.FragmentSpread spread) =
+      option_to_list (place_of spread.node.fragment_name.node names)
   selection_step (Selection-F.InlineFragment fragment) = fragment.node
 
   abbrev pub selection_spreads : Selection → List ℕ
-  selection_spreads = fold-Selection (List ℕ) (List ℕ) (List ℕ) (List ℕ) selection_step field_step inline_step set_step
+  selection_spreads =
+      fold-Selection (List ℕ) (List ℕ) (List ℕ) (List ℕ) selection_step field_step inline_step
+      set_step
 
   abbrev pub field_spreads : Field → List ℕ
-  field_spreads = fold-Field (List ℕ) (List ℕ) (List ℕ) (List ℕ) selection_step field_step inline_step set_step
+  field_spreads =
+      fold-Field (List ℕ) (List ℕ) (List ℕ) (List ℕ) selection_step field_step inline_step set_step
 
   abbrev pub inline_spreads : InlineFragment → List ℕ
-  inline_spreads = fold-InlineFragment (List ℕ) (List ℕ) (List ℕ) (List ℕ) selection_step field_step inline_step set_step
+  inline_spreads =
+      fold-InlineFragment (List ℕ) (List ℕ) (List ℕ) (List ℕ) selection_step field_step inline_step
+      set_step
 
   -- the places of the known fragments that are spread in a set, at whatever depth
   abbrev pub set_spreads : SelectionSet → List ℕ
-  set_spreads = fold-SelectionSet (List ℕ) (List ℕ) (List ℕ) (List ℕ) selection_step field_step inline_step set_step
+  set_spreads =
+      fold-SelectionSet (List ℕ) (List ℕ) (List ℕ) (List ℕ) selection_step field_step inline_step
+      set_step
 
 -- the places of the fragments that are spread in a fragment
 abbrev pub spread_in : List (List ℕ) → Positioned FragmentDefinition → List ℕ

@@ -8,7 +8,8 @@ use Rattle.gql_doc.specs.declared.document.Positioned.{Positioned}
 use Rattle.gql_schema.specs.TableReading.{Declared}
 use Rattle.gql_schema.specs.declared.schema_type.SchemaType.{SchemaType}
 use Rattle.gql_admit.specs.Breaches.{told, told_of_field}
-use Rattle.gql_admit.specs.Places.{FieldPlace, OnSpread, Place, directive_places, is_nil, on_named, set_places}
+use Rattle.gql_admit.specs.Places.{FieldPlace, OnSpread, Place, directive_places, is_nil, on_named}
+use Rattle.gql_admit.specs.Places.{set_places}
 use Rattle.gql_admit.specs.declared.breach.Breach.{Breach}
 use Rattle.gql_admit.specs.declared.site.Site.{Site}
 use Rattle.gql_admit.specs.declared.walk.Against.{Against}
@@ -29,14 +30,17 @@ field_place ty field = record {
 
 -- what is told of a field on a type
 abbrev pub tells_field : Against → SchemaType → Positioned Field → Option Declared → List Breach
-tells_field against ty field known = told_of_field against.built.now against.site.now (field_place ty field) known
+tells_field against ty field known =
+    told_of_field against.built.now against.site.now (field_place ty field) known
 
 -- the places of a spread
 abbrev pub spread_places : Positioned FragmentSpread → List Place
-spread_places spread = OnSpread spread.pos spread.node.fragment_name.node ∷ directive_places true spread.node.directives
+spread_places spread =
+    OnSpread spread.pos spread.node.fragment_name.node ∷ directive_places true spread.node.directives
 
 -- the places of a fragment behind its condition
 abbrev pub inner_places : Site → Positioned FragmentDefinition → List Place
 inner_places site fragment =
     directive_places false fragment.node.directives
-    ++ on_named site fragment.node.type_condition.node (set_places site (fragment_set fragment).node)
+    ++ on_named site fragment.node.type_condition.node
+    (set_places site (fragment_set fragment).node)

@@ -3,8 +3,10 @@ ghost use Rattle.std.specs.Prelude.{◌≡◌, IfOk, string_bytes};
 ghost use Rattle.gql_admit.specs.ArgumentViews.{owner_behind};
 ghost use Rattle.gql_admit.specs.Arguments.{missing_argument_text, unknown_argument_text};
 ghost use Rattle.gql_admit.specs.Breach.{breach};
-ghost use Rattle.gql_admit.specs.BreachTexts.{doubled_text, expected_text, invalid_text, missing_of_directive_text, missing_of_field_text};
-ghost use Rattle.gql_admit.specs.BreachTexts.{unknown_directive_text, unknown_of_directive_text, unknown_of_field_text};
+ghost use Rattle.gql_admit.specs.BreachTexts.{doubled_text, expected_text, invalid_text};
+ghost use Rattle.gql_admit.specs.BreachTexts.{missing_of_directive_text, missing_of_field_text};
+ghost use Rattle.gql_admit.specs.BreachTexts.{unknown_directive_text, unknown_of_directive_text};
+ghost use Rattle.gql_admit.specs.BreachTexts.{unknown_of_field_text};
 
 use crate::arguments::Owner;
 use crate::breach::{Breach, BreachKind};
@@ -96,14 +98,16 @@ fn directive_message(alloc: Global, name: &str) -> Made<String>
 
 #[tactic(auto, using(std::proofs::lemmas::List::append_assoc), unfolding(crate::specs::BreachTexts::unknown_of_field_text))]
 fn unknown_of_field_message(alloc: Global, name: &str, field: &str, parent: &str) -> Made<String>
-    ensures { IfOk result (λ text. string_bytes text ≡ unknown_of_field_text name.now field.now parent.now) }
+    ensures { IfOk result (λ text. string_bytes text
+        ≡ unknown_of_field_text name.now field.now parent.now) }
 {
     format!(in alloc; "Unknown argument \"{name}\" on field \"{field}\" of type \"{parent}\".")
 }
 
 #[tactic(auto, using(std::proofs::lemmas::List::append_assoc), unfolding(crate::specs::BreachTexts::unknown_of_directive_text))]
 fn unknown_of_directive_message(alloc: Global, name: &str, directive: &str) -> Made<String>
-    ensures { IfOk result (λ text. string_bytes text ≡ unknown_of_directive_text name.now directive.now) }
+    ensures { IfOk result (λ text. string_bytes text
+        ≡ unknown_of_directive_text name.now directive.now) }
 {
     format!(in alloc; "Unknown argument \"{name}\" on directive \"{directive}\".")
 }
@@ -117,7 +121,8 @@ fn missing_of_field_message(alloc: Global, name: &str, field: &str) -> Made<Stri
 
 #[tactic(auto, using(std::proofs::lemmas::List::append_assoc), unfolding(crate::specs::BreachTexts::missing_of_directive_text))]
 fn missing_of_directive_message(alloc: Global, name: &str, directive: &str) -> Made<String>
-    ensures { IfOk result (λ text. string_bytes text ≡ missing_of_directive_text name.now directive.now) }
+    ensures { IfOk result (λ text. string_bytes text
+        ≡ missing_of_directive_text name.now directive.now) }
 {
     format!(in alloc; "Argument \"{name}\" of directive \"{directive}\" is required.")
 }

@@ -3,7 +3,8 @@ use gql_base::{Pos, Text};
 /// The rules that a document can break. Breaches at one place are told in this order.
 #[derive(Clone, Copy, Debug)]
 pub enum BreachKind {
-    /// A condition names no object, interface or union (GraphQL, October 2021, sections 5.5.1.2 and 5.5.1.3).
+    /// A condition names no object, interface or union (GraphQL, October 2021, sections 5.5.1.2 and
+    /// 5.5.1.3).
     Condition,
     /// A type has no such field (section 5.3.1).
     UnknownField,
@@ -25,7 +26,8 @@ pub enum BreachKind {
     CircularFragment,
 }
 
-/// A rule that a document breaks: where, which, the name that it is about, and what is told of it. Breaches are ordered by these.
+/// A rule that a document breaks: where, which, the name that it is about, and what is told of it.
+/// Breaches are ordered by these.
 #[derive(Debug, Drop)]
 pub struct Breach {
     pub pos: Pos,

@@ -66,7 +66,10 @@ impl PartialOrd for Breach {
 
     ghost partial_cmp = { as_partial_cmp breach_order };
 
-    ghost laws = { partial_order_from_own_ties (Prim.search (comparing, rules) depth 12) (Prim.search (comparing, rules) depth 12) };
+    ghost laws = { partial_order_from_own_ties (Prim.search (
+      comparing,
+      rules,
+    ) depth 12) (Prim.search (comparing, rules) depth 12) };
 
     fn partial_cmp(&self, other: &Breach) -> Option<Ordering> {
         Some(self.cmp(other))

@@ -1,7 +1,8 @@
 //! The arguments of what every schema has.
 ghost use Rattle.std.specs.Prelude.{◌≡◌, [], ◌∷◌, IfOk};
 ghost use Rattle.gql_schema.specs.InputValue.{input_name};
-ghost use Rattle.gql_admit.specs.BuiltIn.{built_in as the_built_in, if_argument, representations_argument};
+ghost use Rattle.gql_admit.specs.BuiltIn.{built_in as the_built_in, if_argument};
+ghost use Rattle.gql_admit.specs.BuiltIn.{representations_argument};
 
 use gql_base::{Made, TypeRef};
 use gql_schema::{ByName, InputValue};

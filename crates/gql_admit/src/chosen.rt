@@ -1,7 +1,8 @@
 use gql_base::{Pairs, Text};
 use gql_doc::{FragmentDefinition, OperationDefinition, Positioned};
 
-/// The operation that a request runs, with its own name, if it has one, and the fragments of its document.
+/// The operation that a request runs, with its own name, if it has one, and the fragments of its
+/// document.
 #[derive(Debug, Drop)]
 pub struct Chosen {
     pub operation_name: Option<Text>,

@@ -3,7 +3,8 @@ ghost use Rattle.std.specs.Prelude.{◌≡◌, ◌||◌, find};
 ghost use Rattle.std.specs.Option.{option_copied};
 ghost use Rattle.std.specs.Str.{bytes_eq};
 ghost use Rattle.gql_select.specs.Constants.{default_of, resolved};
-ghost use Rattle.gql_select.specs.Kept.{allows, condition, is_include, is_kept, is_skip, is_truth, others};
+ghost use Rattle.gql_select.specs.Kept.{allows, condition, is_include, is_kept, is_skip, is_truth};
+ghost use Rattle.gql_select.specs.Kept.{others};
 ghost use Rattle.gql_admit.specs.Known.{known_by};
 
 use gql_base::{Items, Name, Value, Variables};
@@ -57,7 +58,8 @@ impl Known<'_> {
         }
     }
 
-    /// True exactly where a value of the document comes to true. One that is no truth value counts as false.
+    /// True exactly where a value of the document comes to true. One that is no truth value counts
+    /// as false.
     fn is_true(&self, value: &DocValue) -> bool
         ensures { result ≡ is_truth (resolved (known_by self.now) value.now) }
     {
@@ -104,7 +106,8 @@ fn definition_of<'a>(
     definitions: &'a [Positioned<VariableDefinition>],
     name: &str,
 ) -> Option<&'a Positioned<VariableDefinition>>
-    ensures { option_copied result ≡ find (λ definition. bytes_eq definition.node.name.node name.now)
+    ensures { option_copied result
+        ≡ find (λ definition. bytes_eq definition.node.name.node name.now)
         definitions.now }
 {
     definitions

@@ -1,9 +1,12 @@
-//! The limit on how deep the sets of a document may lie. The walk enters no fragment twice with as many levels left.
-ghost use Rattle.std.specs.Prelude.{◌≡◌, ◌↔◌, ◌<◌, ◌≤◌, false, length, slice_get, IfOk, IsTrue, MatchOption, OnOk, option_and_then};
+//! The limit on how deep the sets of a document may lie. The walk enters no fragment twice with as
+//! many levels left.
+ghost use Rattle.std.specs.Prelude.{◌≡◌, ◌↔◌, ◌<◌, ◌≤◌, false, length, slice_get, IfOk, IsTrue};
+ghost use Rattle.std.specs.Prelude.{MatchOption, OnOk, option_and_then};
 ghost use Rattle.std.specs.Option.{option_map};
 ghost use Rattle.gql_base.specs.Pairs.{under, values_of};
 ghost use Rattle.gql_doc.specs.declared.document.Selection.{out-Selection};
-ghost use Rattle.gql_doc.specs.Depth.{deep_from, fragment_set, operation_set, operations_in, set_beneath, set_under};
+ghost use Rattle.gql_doc.specs.Depth.{deep_from, fragment_set, operation_set, operations_in};
+ghost use Rattle.gql_doc.specs.Depth.{set_beneath, set_under};
 ghost use Rattle.gql_doc.specs.First.{first_in};
 ghost use Rattle.gql_admit.specs.Limits.{depth_checked, IsWithinDepth};
 ghost use Rattle.gql_admit.specs.Walked.{IsFine};
@@ -17,8 +20,9 @@ use gql_doc::{
 };
 use std::alloc::Global;
 
-/// Refuses a document where a set lies deeper than the limit, at the first such set. The set of an operation has depth 0; that of
-/// a field, of a known fragment where it is spread and of an inline fragment lies one deeper than the set around it.
+/// Refuses a document where a set lies deeper than the limit, at the first such set. The set of an
+/// operation has depth 0; that of a field, of a known fragment where it is spread and of an inline
+/// fragment lies one deeper than the set around it.
 pub fn check_depth(
     alloc: Global,
     doc: &ExecutableDocument,
@@ -74,7 +78,8 @@ fn deep_operations(
     fine: &mut [Option<usize>],
 ) -> Option<Pos>
     requires { IsFine fragments.now fine.old }
-    ensures { result ≡ first_in (λ operation. deep_from fragments.now levels (operation_set operation))
+    ensures { result
+        ≡ first_in (λ operation. deep_from fragments.now levels (operation_set operation))
         (values_of operations.now) }
 {
     for place in 0..operations.len() {
@@ -113,7 +118,8 @@ fn deep_selections(
 ) -> Option<Pos>
     requires { IsFine fragments.now fine.old }
     ensures found { result ≡ first_in
-        (λ selection. option_and_then (deep_from fragments.now left) (set_beneath fragments.now selection))
+        (λ selection. option_and_then (deep_from fragments.now left)
+        (set_beneath fragments.now selection))
         selections.now }
     ensures fine { IsFine fragments.now fine.new }
 {
@@ -168,7 +174,8 @@ fn deep_spread(
     }
 }
 
-/// The same of the fragment at a place. It is walked through only where it isn't known that so many levels suffice.
+/// The same of the fragment at a place. It is walked through only where it isn't known that so many
+/// levels suffice.
 #[cycle(deep)]
 fn deep_fragment(
     fragments: &Pairs<Positioned<FragmentDefinition>>,

@@ -3,7 +3,8 @@ ghost use Rattle.std.specs.Prelude.{◌≡◌, ◌<◌, ℕ, None, length, slice
 ghost use Rattle.std.specs.Option.{option_copied, option_map, option_or};
 ghost use Rattle.gql_base.specs.Pairs.{under, values_of};
 ghost use Rattle.gql_doc.specs.declared.document.Selection.{out-Selection};
-ghost use Rattle.gql_doc.specs.Depth.{deep, deep_from, fragment_set, operation_set, set_beneath, set_under};
+ghost use Rattle.gql_doc.specs.Depth.{deep, deep_from, fragment_set, operation_set, set_beneath};
+ghost use Rattle.gql_doc.specs.Depth.{set_under};
 ghost use Rattle.gql_doc.specs.First.{first_in};
 ghost use Rattle.gql_select.specs.Crowded.{crowded, crowded_from, crowded_here};
 ghost use Rattle.gql_admit.specs.Limits.{directives_checked, IsWithinDepth, NestsWithin};
@@ -18,8 +19,9 @@ use gql_doc::{
 };
 use std::alloc::Global;
 
-/// Refuses a document that has a field with more directives than the limit, at the first such field in document order, where
-/// spreads are entered as they stand. The document lies within some limit on the depth.
+/// Refuses a document that has a field with more directives than the limit, at the first such field
+/// in document order, where spreads are entered as they stand. The document lies within some limit
+/// on the depth.
 pub fn check_directives(
     alloc: Global,
     doc: &ExecutableDocument,
@@ -149,7 +151,8 @@ fn crowded_selections<'a>(
     clean: &mut [bool],
 ) -> Option<&'a Positioned<Field>>
     requires nests { first_in
-        (λ selection. option_and_then (deep_from fragments.now left) (set_beneath fragments.now selection))
+        (λ selection. option_and_then (deep_from fragments.now left)
+        (set_beneath fragments.now selection))
         selections.now ≡ None }
     requires clean { IsClean fragments.now limit clean.old }
     ensures found { option_copied result ≡ first_in

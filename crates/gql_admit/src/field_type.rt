@@ -1,7 +1,8 @@
 //! The types of fields where a document is checked.
 ghost use Rattle.std.specs.Prelude.{◌≡◌, IfOk, option_map};
 ghost use Rattle.gql_base.specs.TypeRef.{innermost, type_text};
-ghost use Rattle.gql_admit.specs.FieldTypes.{field_type, has_entities, has_typename, is_composite, is_leaf, is_subscription};
+ghost use Rattle.gql_admit.specs.FieldTypes.{field_type, has_entities, has_typename, is_composite};
+ghost use Rattle.gql_admit.specs.FieldTypes.{is_leaf, is_subscription};
 ghost use Rattle.gql_admit.specs.FieldTypes.{known_field};
 ghost use Rattle.gql_admit.specs.FieldTypeViews.{known_behind, type_behind};
 ghost use Rattle.gql_admit.specs.declared.built_in.BuiltIn.{BuiltIn as BuiltInArguments};

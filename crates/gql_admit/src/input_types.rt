@@ -1,7 +1,8 @@
 //! Which types stand at inputs.
 ghost use Rattle.std.specs.Prelude.{◌≡◌};
 ghost use Rattle.std.specs.Option.{option_copied};
-ghost use Rattle.gql_schema.specs.Fits.{is_doubled, is_input_type, is_known_input, is_unsupported, nullable_of};
+ghost use Rattle.gql_schema.specs.Fits.{is_doubled, is_input_type, is_known_input, is_unsupported};
+ghost use Rattle.gql_schema.specs.Fits.{nullable_of};
 ghost use Rattle.gql_schema.specs.Table.{types_of};
 
 use gql_base::TypeRef;

@@ -4,7 +4,8 @@ ghost use Rattle.std.specs.Option.{option_to_list};
 ghost use Rattle.gql_select.specs.Constants.{variable_value};
 ghost use Rattle.gql_select.specs.Kept.{kept, kept_set};
 ghost use Rattle.gql_admit.specs.Known.{known_by};
-ghost use Rattle.gql_admit.specs.Left.{left_field, left_inline, left_selection, left_set, left_spread};
+ghost use Rattle.gql_admit.specs.Left.{left_field, left_inline, left_selection, left_set};
+ghost use Rattle.gql_admit.specs.Left.{left_spread};
 
 use crate::conditions::{Known, other_directives};
 use gql_base::{Items, Made, Pos, Variables};
@@ -13,7 +14,8 @@ use gql_doc::{
 };
 use std::alloc::Global;
 
-/// A set without the selections that `@skip` and `@include` leave out, at every depth, and without these directives on the others.
+/// A set without the selections that `@skip` and `@include` leave out, at every depth, and without
+/// these directives on the others.
 #[tactic(auto, using(crate::proofs::KeepLemmas::set_kept))]
 pub fn keep(
     alloc: Global,
@@ -21,7 +23,8 @@ pub fn keep(
     definitions: &[Positioned<VariableDefinition>],
     variables: &Variables,
 ) -> Made<SelectionSet>
-    ensures { IfOk result (λ left. left ≡ kept_set (variable_value variables.now definitions.now) set) }
+    ensures { IfOk result (λ left. left
+        ≡ kept_set (variable_value variables.now definitions.now) set) }
 {
     let known = Known {
         definitions,

@@ -1,5 +1,6 @@
-//! The admission of a request, before anything is executed: its limits, the choice of its operation, and what `@skip` and
-//! `@include` leave of it (GraphQL, October 2021, sections 3.13, 5 and 6.1).
+//! The admission of a request, before anything is executed: its limits, the choice of its
+//! operation, and what `@skip` and `@include` leave of it (GraphQL, October 2021, sections 3.13, 5
+//! and 6.1).
 #![tactic(auto)]
 
 mod argument_texts;

@@ -1,12 +1,16 @@
 //! Which values of a document fit a type of inputs.
 ghost use Rattle.std.specs.Prelude.{◌≡◌};
 ghost use Rattle.std.specs.Option.{option_copied};
-ghost use Rattle.gql_schema.specs.Fits.{are_given, fits_whole, has_number, is_given, is_item, is_one, item_type};
+ghost use Rattle.gql_schema.specs.Fits.{are_given, fits_whole, has_number, is_given, is_item};
+ghost use Rattle.gql_schema.specs.Fits.{is_one, item_type};
 ghost use Rattle.gql_schema.specs.NameSet.{is_among};
-ghost use Rattle.gql_schema.specs.ScalarRule.{always, is_between, is_boolean, is_number, is_string, takes_bare};
+ghost use Rattle.gql_schema.specs.ScalarRule.{always, is_between, is_boolean, is_number, is_string};
+ghost use Rattle.gql_schema.specs.ScalarRule.{takes_bare};
 ghost use Rattle.gql_schema.specs.Table.{types_of};
-ghost use Rattle.gql_admit.specs.Literals.{all_fit, bare_literal, declares, fills_field, fits_field, fits_members, fittings};
-ghost use Rattle.gql_admit.specs.Literals.{has_other_number, is_oneof_type, is_single, literal_fits as fits, wants_one as asks_for_one};
+ghost use Rattle.gql_admit.specs.Literals.{all_fit, bare_literal, declares, fills_field};
+ghost use Rattle.gql_admit.specs.Literals.{fits_field, fits_members, fittings};
+ghost use Rattle.gql_admit.specs.Literals.{has_other_number, is_oneof_type, is_single};
+ghost use Rattle.gql_admit.specs.Literals.{literal_fits as fits, wants_one as asks_for_one};
 
 use crate::input_types::{nullable, stands_at_inputs};
 use gql_base::{Pairs, Text, TypeRef};

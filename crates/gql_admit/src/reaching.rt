@@ -1,7 +1,8 @@
 //! Which places of a graph reach themselves. A walk enters each place once.
 ghost use Rattle.std.specs.Prelude.{◌≡◌, ◌<◌, [], ℕ, true, length, IfOk, OnOk};
 ghost use Rattle.std.specs.Bool.{Decides};
-ghost use Rattle.gql_admit.specs.Circular.{AreWithin, Marks, Reaches, is_in, with_number, with_numbers};
+ghost use Rattle.gql_admit.specs.Circular.{AreWithin, Marks, Reaches, is_in, with_number};
+ghost use Rattle.gql_admit.specs.Circular.{with_numbers};
 
 use gql_base::{Items, Made};
 use std::alloc::Global;

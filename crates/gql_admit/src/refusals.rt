@@ -1,8 +1,10 @@
 //! The errors of refused requests.
 ghost use Rattle.std.specs.Prelude.{◌≡◌, IfOk, string_bytes, None, Some};
 ghost use Rattle.std.specs.Option.{option_copied};
-ghost use Rattle.gql_admit.specs.Refusal.{depth_error as error_of_depth, directives_error as error_of_directives, refusal};
-ghost use Rattle.gql_admit.specs.Refusal.{depth_text, directives_text, no_operation_error, unknown_operation_text};
+ghost use Rattle.gql_admit.specs.Refusal.{depth_error as error_of_depth};
+ghost use Rattle.gql_admit.specs.Refusal.{directives_error as error_of_directives, refusal};
+ghost use Rattle.gql_admit.specs.Refusal.{depth_text, directives_text, no_operation_error};
+ghost use Rattle.gql_admit.specs.Refusal.{unknown_operation_text};
 
 use gql_base::{Made, Pos, ServerError};
 use std::alloc::Global;

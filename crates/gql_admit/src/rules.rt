@@ -16,9 +16,10 @@ use gql_base::{Items, Made, ServerError};
 use gql_doc::ExecutableDocument;
 use std::alloc::Global;
 
-/// Refuses a document that breaks a rule of the specification over the site's types, with all that it breaks, in the order of the
-/// document, each once (GraphQL, October 2021, section 5). Looked at are unknown fields, leaves with a set and other types without
-/// one, conditions on types that aren't composite, directives, arguments and the literals that they are given, unknown fragments,
+/// Refuses a document that breaks a rule of the specification over the site's types, with all that
+/// it breaks, in the order of the document, each once (GraphQL, October 2021, section 5). Looked at
+/// are unknown fields, leaves with a set and other types without one, conditions on types that
+/// aren't composite, directives, arguments and the literals that they are given, unknown fragments,
 /// and fragments that reach themselves.
 pub fn check_rules(
     alloc: Global,

@@ -5,7 +5,8 @@ ghost use Rattle.std.specs.Option.{option_to_list};
 ghost use Rattle.gql_base.specs.Names.{place_of};
 ghost use Rattle.gql_base.specs.Pairs.{names_of};
 ghost use Rattle.gql_admit.specs.Circular.{AreBelow, AreWithin};
-ghost use Rattle.gql_admit.specs.Spreads.{field_spreads, graph_of, inline_spreads, selection_spreads, set_spreads, spread_in};
+ghost use Rattle.gql_admit.specs.Spreads.{field_spreads, graph_of, inline_spreads};
+ghost use Rattle.gql_admit.specs.Spreads.{selection_spreads, set_spreads, spread_in};
 
 use gql_base::{Items, Made, Pairs};
 use gql_doc::{
@@ -65,7 +66,8 @@ fn spread_in_selections(
 ) -> Made<()>
     requires below { AreBelow (length fragments.now) places.old }
     ensures places { OnOk result (places.new ≡ places.old
-        ++ flat_map (λ selection. selection_spreads (names_of fragments.now) selection.node) selections.now) }
+        ++ flat_map (λ selection. selection_spreads (names_of fragments.now) selection.node)
+        selections.now) }
     ensures below { OnOk result (AreBelow (length fragments.now) places.new) }
 {
     for selection in selections {

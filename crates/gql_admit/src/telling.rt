@@ -3,7 +3,8 @@ ghost use Rattle.std.specs.Prelude.{◌≡◌, ◌++◌, Bool, OnOk, Some};
 ghost use Rattle.std.specs.Option.{option_map};
 ghost use Rattle.gql_base.specs.Pairs.{under};
 ghost use Rattle.gql_base.specs.TypeRef.{innermost};
-ghost use Rattle.gql_admit.specs.Breaches.{directive_bearing, field_bearing, is_leaf_named, told_of_directive, told_of_known};
+ghost use Rattle.gql_admit.specs.Breaches.{directive_bearing, field_bearing, is_leaf_named};
+ghost use Rattle.gql_admit.specs.Breaches.{told_of_directive, told_of_known};
 ghost use Rattle.gql_admit.specs.Arguments.{told_of_arguments};
 ghost use Rattle.gql_admit.specs.Breaches.{told_of_set, told_of_spread};
 ghost use Rattle.gql_admit.specs.FieldTypes.{known_field, table_of};
@@ -67,7 +68,8 @@ fn tell_field_arguments(
     against: &Against<'_>,
     found: &mut Items<Breach>,
 ) -> Made<()>
-    ensures { OnOk result (found.new ≡ found.old ++ told_of_arguments (table_of against.now.site.now)
+    ensures { OnOk result (found.new ≡ found.old
+        ++ told_of_arguments (table_of against.now.site.now)
         (field_bearing (field_place ty.now field.now) (known_behind against.now.built.now known.now))
         (field_place ty.now field.now).arguments) }
 {
@@ -159,7 +161,8 @@ fn tell_directive_arguments(
     against: &Against<'_>,
     found: &mut Items<Breach>,
 ) -> Made<()>
-    ensures { OnOk result (found.new ≡ found.old ++ told_of_arguments (table_of against.now.site.now)
+    ensures { OnOk result (found.new ≡ found.old
+        ++ told_of_arguments (table_of against.now.site.now)
         (directive_bearing against.now.built.now directive.now) directive.now.node.arguments) }
 {
     let bearing = Bearing {

@@ -1,10 +1,12 @@
-//! The walk over the places of a document: it tells the rules that are broken at each, in the order of the document.
+//! The walk over the places of a document: it tells the rules that are broken at each, in the order
+//! of the document.
 ghost use Rattle.std.specs.Prelude.{◌≡◌, ◌++◌, OnOk, true};
 ghost use Rattle.std.specs.List.{flat_map};
 ghost use Rattle.std.specs.Option.{option_copied, option_map};
 ghost use Rattle.gql_admit.specs.Breaches.{is_composite_named, told_of_condition};
 ghost use Rattle.gql_admit.specs.FieldTypeViews.{type_behind};
-ghost use Rattle.gql_admit.specs.Places.{beneath_field, directive_places, field_places, inline_places, on_named};
+ghost use Rattle.gql_admit.specs.Places.{beneath_field, directive_places, field_places};
+ghost use Rattle.gql_admit.specs.Places.{inline_places, on_named};
 ghost use Rattle.gql_admit.specs.Places.{selection_places, set_places, under_condition};
 ghost use Rattle.gql_admit.specs.Walking.{spread_places, tells};
 
@@ -53,7 +55,8 @@ fn walk_selections(
     found: &mut Items<Breach>,
 ) -> Made<()>
     ensures { OnOk result (found.new ≡ found.old ++ tells against.now
-        (flat_map (λ selection. selection_places against.now.site.now selection.node ty.now) selections.now)) }
+        (flat_map (λ selection. selection_places against.now.site.now selection.node ty.now)
+        selections.now)) }
 {
     for selection in selections {
         walk_selection(alloc, &selection.node, ty, against, found)?;

@@ -4,7 +4,8 @@ ghost use Rattle.std.specs.List.{flat_map};
 ghost use Rattle.std.specs.Option.{option_copied};
 ghost use Rattle.gql_base.specs.Pairs.{values_of};
 ghost use Rattle.gql_admit.specs.Places.{as_object, as_subscription, document_places};
-ghost use Rattle.gql_admit.specs.Places.{fragment_places, operation_places, root_of, rooted_places, type_named, variable_places};
+ghost use Rattle.gql_admit.specs.Places.{fragment_places, operation_places, root_of, rooted_places};
+ghost use Rattle.gql_admit.specs.Places.{type_named, variable_places};
 ghost use Rattle.gql_admit.specs.Walking.{inner_places, tells};
 
 use crate::breach::Breach;
@@ -107,7 +108,8 @@ fn tell_on_variables(
     against: &Against<'_>,
     found: &mut Items<Breach>,
 ) -> Made<()>
-    ensures { OnOk result (found.new ≡ found.old ++ tells against.now (variable_places variables.now)) }
+    ensures { OnOk result (found.new ≡ found.old
+        ++ tells against.now (variable_places variables.now)) }
 {
     for variable in variables {
         tell_directives(

@@ -1,5 +1,5 @@
-//! The tests of `gql_admit`: each of its calls with ample memory. They stand in a crate of their own, so that they are proved
-//! without proving that crate again.
+//! The tests of `gql_admit`: each of its calls with ample memory. They stand in a crate of their
+//! own, so that they are proved without proving that crate again.
 #![tactic(auto)]
 
 #[cfg(test)]

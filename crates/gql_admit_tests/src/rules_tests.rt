@@ -7,8 +7,8 @@ use gql_schema::{Field, Interface, Object, Scalar, ScalarRule, SchemaType, Types
 use std::alloc::Global;
 use std::test::Fail;
 
-/// Documents over `Query { value: Int, o: A!, u: U, on: I }`, where the object `A { a: Int }` is in the union `U` and implements the
-/// interface `I`, and what is told of them.
+/// Documents over `Query { value: Int, o: A!, u: U, on: I }`, where the object `A { a: Int }` is in
+/// the union `U` and implements the interface `I`, and what is told of them.
 const RULES: [(&str, &str); 17] = [
     ("{ value o { a } }", ""),
     (

@@ -1,4 +1,5 @@
-//! What a request is admitted by, and what it runs, can be moved to threads and shared between them.
+//! What a request is admitted by, and what it runs, can be moved to threads and shared between
+//! them.
 use gql_admit::{Chosen, Site};
 
 fn shared<T: Send + Sync>() {}

@@ -20,15 +20,18 @@ precedes name other = is_lt (name_order name other)
 abbrev pub IsInOrder : {T : Type 0} → List (List ℕ × T) → Type 0
 IsInOrder ps = IsStrictlySortedBy name_order (names_of ps)
 
--- the pairs once this name has this value: those of the names before it, its own, and those of the names behind it
+-- the pairs once this name has this value: those of the names before it, its own, and those of the
+-- names behind it
 abbrev pub set_in_order : {T : Type 0} → List (List ℕ × T) → List ℕ → T → List (List ℕ × T)
-set_in_order ps name value = filter (λ p. precedes p.0 name) ps ++ (name, value) ∷ filter (λ p. precedes name p.0) ps
+set_in_order ps name value =
+    filter (λ p. precedes p.0 name) ps ++ (name, value) ∷ filter (λ p. precedes name p.0) ps
 
 -- the pairs of the other names
 abbrev pub unset_in : {T : Type 0} → List (List ℕ × T) → List ℕ → List (List ℕ × T)
 unset_in ps name = filter (λ p. not (bytes_eq name p.0)) ps
 
--- the pair at this place has the name, between those of the names before it and those of the names behind it
+-- the pair at this place has the name, between those of the names before it and those of the names
+-- behind it
 abbrev pub StandsAt : {T : Type 0} → List ℕ → List (List ℕ × T) → ℕ → Type 0
 StandsAt name [] place = ⊥
 StandsAt name (p ∷ ps) zero = (p.0 ≡ name) × AllByRecursion (λ q. name_order q.0 name ≡ Greater) ps

@@ -21,17 +21,21 @@ values_or_none (Some values) = values
 
 -- an error with these values over its own
 abbrev pub extended : Error → Values → Error
-extended error values = record error { extensions = Some (overlaid (values_or_none error.extensions) values) }
+extended error values =
+    record error { extensions = Some (overlaid (values_or_none error.extensions) values) }
 
 -- the error with a message alone
 abbrev pub bare : List ℕ → Error
 bare text = record { message = text; extensions = None }
 
-module _ {C S E : Type 0} (g : Once C (Bor S × (MutBor Values × Unit {0})) (Result (Unit {0}) E × (MutBor Values × Unit {0})))
+module _ {C S E : Type 0}
+    (g : Once C (Bor S × (MutBor Values × Unit {0}))
+    (Result (Unit {0}) E × (MutBor Values × Unit {0})))
     (callback : C) (value : S) where
   -- a callback may be called on a value and any extensions
   abbrev pub IsCallableOn : Type 0
-  IsCallableOn = (seen : Bor S) (given : MutBor Values) → seen.now ≡ value → g.pre callback (seen, (given, tt))
+  IsCallableOn =
+      (seen : Bor S) (given : MutBor Values) → seen.now ≡ value → g.pre callback (seen, (given, tt))
 
   -- a call of it on this value and on no extensions may succeed and leave these
   pub record Leaves (values : Values) : Type 0 where
@@ -51,12 +55,14 @@ module _ {C S E : Type 0} (g : Once C (Bor S × (MutBor Values × Unit {0})) (Re
 
 -- a result whose error is told with what a callback adds
 abbrev pub IsExtendedResult : {C T S E : Type 0}
-    (g : Once C (Bor S × (MutBor Values × Unit {0})) (Result (Unit {0}) E × (MutBor Values × Unit {0})))
+    (g : Once C (Bor S × (MutBor Values × Unit {0}))
+    (Result (Unit {0}) E × (MutBor Values × Unit {0})))
     → C → (S → Error) → Result T S → Result T Error → Type 0
 IsExtendedResult g callback told (Ok value) (Ok other) = other ≡ value
 IsExtendedResult g callback told (Ok value) (Err error) = ⊥
 IsExtendedResult g callback told (Err value) (Ok other) = ⊥
-IsExtendedResult g callback told (Err value) (Err error) = IsExtended g callback value (told value) error
+IsExtendedResult g callback told (Err value) (Err error) =
+    IsExtended g callback value (told value) error
 
 -- a result whose error is told as it is
 abbrev pub told_result : {T S : Type 0} → (S → Error) → Result T S → Result T Error

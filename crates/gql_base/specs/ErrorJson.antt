@@ -14,7 +14,9 @@ abbrev pub list_json : {T : Type 0} → (T → List ℕ) → List T → List ℕ
 list_json text items = codes "[" ++ (separated (codes ",") (map text items) ++ codes "]")
 
 abbrev pub location_json : Pos → List ℕ
-location_json pos = codes "{\"line\":" ++ (decimal pos.line ++ (codes ",\"column\":" ++ (decimal pos.column ++ codes "}")))
+location_json pos =
+    codes "{\"line\":"
+    ++ (decimal pos.line ++ (codes ",\"column\":" ++ (decimal pos.column ++ codes "}")))
 
 -- keys are strings and places are numbers
 abbrev pub segment_json : PathSegment → List ℕ
@@ -39,4 +41,5 @@ abbrev pub error_json : ServerError → List ℕ
 error_json error =
     codes "{\"message\":"
     ++ (quoted error.message
-    ++ (locations_member error.locations ++ (path_member error.path ++ (extensions_member error.extensions ++ codes "}"))))
+    ++ (locations_member error.locations
+    ++ (path_member error.path ++ (extensions_member error.extensions ++ codes "}"))))

@@ -1,6 +1,7 @@
--- The text of a value: as JSON (RFC 8259), without blanks, enums as strings, the members of an object in their order; and as a
--- literal.
-use Rattle.std.specs.Prelude.{ℕ, ◌≤◌, ◌≢◌, ◌/◌, ◌%◌, nat_lt, ◌==◌, List, [], ◌∷◌, ◌++◌, map, codes, if◌then◌else◌}
+-- The text of a value: as JSON (RFC 8259), without blanks, enums as strings, the members of an
+-- object in their order; and as a literal.
+use Rattle.std.specs.Prelude.{ℕ, ◌≤◌, ◌≢◌, ◌/◌, ◌%◌, nat_lt, ◌==◌, List, [], ◌∷◌, ◌++◌, map, codes}
+use Rattle.std.specs.Prelude.{if◌then◌else◌}
 use Rattle.std.specs.Char.{digit_char}
 use Rattle.std.specs.Fmt.{signed_decimal}
 use Rattle.std.specs.List.{flat_map}
@@ -11,7 +12,8 @@ use Rattle.gql_base.specs.declared.value.Value.{Value}
 use Rattle.gql_base.specs.declared.value.Value.TheOpen.{Value-F}
 use Rattle.gql_base.specs.declared.value.Value.TheFolds.{fold-Value}
 
--- a byte of a string: quote, backslash and the characters under U+0020 have escapes, all else stands as itself
+-- a byte of a string: quote, backslash and the characters under U+0020 have escapes, all else
+-- stands as itself
 abbrev pub escaped : ℕ → List ℕ
 escaped byte =
     if byte == 34 then codes "\\\""
@@ -21,7 +23,9 @@ escaped byte =
     else (if byte == 10 then codes "\\n"
     else (if byte == 12 then codes "\\f"
     else (if byte == 13 then codes "\\r"
-    else (if nat_lt byte 32 then codes "\\u00" ++ digit_char (byte / 16) ∷ digit_char (byte % 16) ∷ [] else byte ∷ [])))))))
+    else (if nat_lt byte 32
+    then codes "\\u00" ++ digit_char (byte / 16) ∷ digit_char (byte % 16) ∷ []
+    else byte ∷ [])))))))
 
 -- a byte that stands for itself
 abbrev pub IsPlain : ℕ → Type 0
@@ -30,8 +34,8 @@ IsPlain byte = (32 ≤ byte) × (byte ≢ 34) × (byte ≢ 92)
 abbrev pub quoted : List ℕ → List ℕ
 quoted text = codes "\"" ++ (flat_map escaped text ++ codes "\"")
 
--- the two ways to write a value: as JSON, and as a literal of a document, with enums and keys bare and blanks after commas and
--- colons (GraphQL, October 2021, section 2.9)
+-- the two ways to write a value: as JSON, and as a literal of a document, with enums and keys bare
+-- and blanks after commas and colons (GraphQL, October 2021, section 2.9)
 abbrev pub comma_of : Style → List ℕ
 comma_of Json = codes ","
 comma_of Literal = codes ", "
@@ -56,7 +60,8 @@ text_step style (Value-F.Number number) = signed_decimal number
 text_step style (Value-F.String text) = quoted text
 text_step style (Value-F.Enum name) = name_text style name
 text_step style (Value-F.List texts) = codes "[" ++ (separated (comma_of style) texts ++ codes "]")
-text_step style (Value-F.Object members) = codes "{" ++ (separated (comma_of style) (map (member style) members) ++ codes "}")
+text_step style (Value-F.Object members) =
+    codes "{" ++ (separated (comma_of style) (map (member style) members) ++ codes "}")
 
 abbrev pub value_text : Style → Value → List ℕ
 value_text style = fold-Value (List ℕ) (text_step style)

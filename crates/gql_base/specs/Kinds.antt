@@ -1,5 +1,6 @@
 -- A value as one of its kinds (GraphQL, October 2021, section 2.9), where it is of that kind.
-use Rattle.std.specs.Prelude.{ℕ, ℤ, Bool, true, false, List, [], Option, Some, None, option_and_then}
+use Rattle.std.specs.Prelude.{ℕ, ℤ, Bool, true, false, List, [], Option, Some, None}
+use Rattle.std.specs.Prelude.{option_and_then}
 use Rattle.gql_base.specs.Number.{unsigned_of}
 use Rattle.gql_base.specs.declared.value.Value.{Value, out-Value}
 use Rattle.gql_base.specs.declared.value.Value.TheOpen.{Value-F}

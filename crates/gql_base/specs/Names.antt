@@ -6,7 +6,8 @@ use Rattle.std.specs.Str.{bytes_eq}
 -- the place of the first name that is this one, counted from 0
 abbrev pub place_of : List ℕ → List (List ℕ) → Option ℕ
 place_of name [] = None
-place_of name (other ∷ others) = if bytes_eq name other then Some 0 else option_map (λ place. suc place) (place_of name others)
+place_of name (other ∷ others) =
+    if bytes_eq name other then Some 0 else option_map (λ place. suc place) (place_of name others)
 
 -- no name stands twice
 abbrev pub AreDistinct : List (List ℕ) → Type 0

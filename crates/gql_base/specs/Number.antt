@@ -25,6 +25,7 @@ pub sign_back : (negative : Bool) (distance : ℕ) → is_negative (signed negat
 sign_back true distance = refl
 sign_back false distance = refl
 
-pub distance_back : (negative : Bool) (distance : ℕ) → distance_of (signed negative distance) ≡ distance
+pub distance_back : (negative : Bool) (distance : ℕ)
+    → distance_of (signed negative distance) ≡ distance
 distance_back true distance = refl
 distance_back false distance = refl

@@ -36,4 +36,6 @@ SamePlaces old new = (name : List ℕ) → indexed_place new name ≡ indexed_pl
 -- the new index has this place of this name, and the same of every other name
 abbrev pub SetsPlace : Places → Places → List ℕ → ℕ → Type 0
 SetsPlace old new name place =
-    (other : List ℕ) → indexed_place new other ≡ (if bytes_eq name other then Some place else indexed_place old other)
+    (other : List ℕ)
+    → indexed_place new other
+    ≡ (if bytes_eq name other then Some place else indexed_place old other)

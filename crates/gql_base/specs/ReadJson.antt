@@ -1,9 +1,11 @@
--- The value of a JSON value that was read: the same value, where each of its numbers is a whole number from -2^63 to 2^64-1, and
--- otherwise the place of the first that isn't.
-use Rattle.std.specs.Prelude.{ℕ, ◌||◌, pos, Bool, false, List, [], ◌∷◌, ◌++◌, length, codes, if◌then◌else◌, Option, Result, Ok, Err}
+-- The value of a JSON value that was read: the same value, where each of its numbers is a whole
+-- number from -2^63 to 2^64-1, and otherwise the place of the first that isn't.
+use Rattle.std.specs.Prelude.{ℕ, ◌||◌, pos, Bool, false, List, [], ◌∷◌, ◌++◌, length, codes}
+use Rattle.std.specs.Prelude.{if◌then◌else◌, Option, Result, Ok, Err}
 use Rattle.std.specs.Result.{result_ok}
 use Rattle.std.specs.Str.{bytes_eq}
-use Rattle.serde_json.specs.Data.{Num, unsigned, negative, float, Data, null, boolean, number, string, array, object}
+use Rattle.serde_json.specs.Data.{Num, unsigned, negative, float, Data, null, boolean, number}
+use Rattle.serde_json.specs.Data.{string, array, object}
 use Rattle.serde_json.specs.Data.{Items, no_items, item, Members, no_members, member}
 use Rattle.gql_base.specs.Letters.{is_name}
 use Rattle.gql_base.specs.Pairs.{put}
@@ -72,12 +74,14 @@ abbrev mutual
   pub items_in : EnumForm → List Value → Items → Reading (List Value)
   items_in form earlier no_items = Ok earlier
   items_in form earlier (item json items) =
-      and_then (inside (Index (length earlier)) (read_in form json)) (λ read. items_in form (earlier ++ read ∷ []) items)
+      and_then (inside (Index (length earlier)) (read_in form json))
+      (λ read. items_in form (earlier ++ read ∷ []) items)
 
   pub members_in : EnumForm → List (List ℕ × Value) → Members → Reading (List (List ℕ × Value))
   members_in form earlier no_members = Ok earlier
   members_in form earlier (member name json members) =
-      and_then (inside (Field name) (read_in form json)) (λ read. members_in form (put earlier name read) members)
+      and_then (inside (Field name) (read_in form json))
+      (λ read. members_in form (put earlier name read) members)
 
 -- the value, if it is one
 abbrev pub value_of : Data → Option Value

@@ -1,4 +1,5 @@
--- Equality of the values of a type as a test. Each type has a code, a tree of numbers that tells its values apart.
+-- Equality of the values of a type as a test. Each type has a code, a tree of numbers that tells
+-- its values apart.
 use Rattle.std.specs.Prelude.{◌≡◌, Bool, true, false, ◌&&◌, ◌==◌}
 use Rattle.std.specs.Bool.{Decides, one_answer}
 use Rattle.std.specs.Cmp.{IsEquivalence, IsPartialEquivalence, decided, partial_equiv_from_equiv}
@@ -53,8 +54,10 @@ same-itself (gcons a b) = both (same_code a a) (same_code b b) (same-itself a) (
 
 module _ {A : Type 0} (coded : Coded A) where
   pub is_same-decides : (x y : A) → Decides (is_same coded x y) (x ≡ y)
-  is_same-decides x y =
-      (λ e. coded.inj x y (same-code (coded.code x) (coded.code y) e), λ e. rw (ap coded.code (sym e)) (same-itself (coded.code x)))
+  is_same-decides x y = (
+    λ e. coded.inj x y (same-code (coded.code x) (coded.code y) e),
+    λ e. rw (ap coded.code (sym e)) (same-itself (coded.code x)),
+  )
 
   -- the test is an equivalence, as `Eq` asks
   pub is_same_equivalence : IsEquivalence (is_same coded)
@@ -66,4 +69,5 @@ module _ {A : Type 0} (coded : Coded A) where
 
   -- what decides equality is this test
   pub is_same_is : (result : Bool) (x y : A) → Decides result (x ≡ y) → result ≡ is_same coded x y
-  is_same_is result x y decides = one_answer result (is_same coded x y) decides (is_same-decides x y)
+  is_same_is result x y decides =
+      one_answer result (is_same coded x y) decides (is_same-decides x y)

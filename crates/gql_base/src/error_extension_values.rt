@@ -1,6 +1,8 @@
-ghost use Rattle.std.specs.Prelude.{◌≡◌, [], ◌<◌, length, slice_get, MatchResult, OnOk, OnErr, Some};
+ghost use Rattle.std.specs.Prelude.{◌≡◌, [], ◌<◌, length, slice_get, MatchResult, OnOk, OnErr};
+ghost use Rattle.std.specs.Prelude.{Some};
 ghost use Rattle.std.specs.Option.{option_copied};
-ghost use Rattle.gql_base.specs.ErrorExtensionValues.{IsInOrder, set_in_order, unset_in, StandsAt, BelongsAt};
+ghost use Rattle.gql_base.specs.ErrorExtensionValues.{IsInOrder, set_in_order, unset_in, StandsAt};
+ghost use Rattle.gql_base.specs.ErrorExtensionValues.{BelongsAt};
 ghost use Rattle.gql_base.specs.ErrorExtensions.{overlaid};
 ghost use Rattle.gql_base.specs.Pairs.{under};
 
@@ -11,8 +13,8 @@ use crate::value::Value;
 use std::alloc::Global;
 use std::marker::Model;
 
-/// What an error tells beside its message: values under names (GraphQL, October 2021, section 7.1.2). Contracts see the list of
-/// the pairs, in byte order of the names and with no name twice.
+/// What an error tells beside its message: values under names (GraphQL, October 2021, section
+/// 7.1.2). Contracts see the list of the pairs, in byte order of the names and with no name twice.
 #[derive(Debug, Drop)]
 pub struct ErrorExtensionValues {
     pairs: Vec<(Name, Value)>,
@@ -44,7 +46,8 @@ impl ErrorExtensionValues {
         }
     }
 
-    /// Sets the value under a name, in place of one that is there. Where memory is wanting the values stay as they were.
+    /// Sets the value under a name, in place of one that is there. Where memory is wanting the
+    /// values stay as they were.
     pub fn set(&mut self, name: &str, value: Value) -> Made<()>
         ensures ok { OnOk result (self.new ≡ set_in_order self.old name.now value) }
         ensures err { OnErr result (self.new ≡ self.old) }

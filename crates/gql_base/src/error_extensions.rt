@@ -20,7 +20,8 @@ pub trait ErrorExtensions: Sized + Drop {
     fn extend(&self, alloc: Global) -> Made<Error>
         ensures { IfOk result (λ error. error ≡ told self.now) };
 
-    /// This value as an error, with values that a callback adds in place of those of the same names.
+    /// This value as an error, with values that a callback adds in place of those of the same
+    /// names.
     final fn extend_with<C>(self, alloc: Global, callback: C) -> Made<Error>
     where
         C: FnOnce(&Self, &mut ErrorExtensionValues) -> Made<()>,

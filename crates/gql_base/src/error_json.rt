@@ -1,5 +1,6 @@
 ghost use Rattle.std.specs.Prelude.{◌≡◌, ◌++◌, ◌∷◌, map, codes, IfOk, OnOk, string_bytes, Some};
-ghost use Rattle.gql_base.specs.ErrorJson.{list_json, locations_member, path_member, extensions_member, error_json};
+ghost use Rattle.gql_base.specs.ErrorJson.{list_json, locations_member, path_member};
+ghost use Rattle.gql_base.specs.ErrorJson.{extensions_member, error_json};
 ghost use Rattle.gql_base.specs.Json.{json};
 
 use crate::error_extension_values::ErrorExtensionValues;
@@ -14,8 +15,8 @@ use crate::value::Value;
 use std::alloc::Global;
 
 impl ServerError {
-    /// The JSON text of this error: its message, and then its locations, path and extensions, each if it isn't empty
-    /// (GraphQL, October 2021, section 7.1.2).
+    /// The JSON text of this error: its message, and then its locations, path and extensions, each
+    /// if it isn't empty (GraphQL, October 2021, section 7.1.2).
     pub fn json(&self, alloc: Global) -> Made<Text>
         ensures { IfOk result (λ text. text ≡ error_json self.now) }
     {
@@ -61,7 +62,8 @@ impl JsonText for PathSegment {
 
 /// Appends the JSON text of a list of errors.
 pub fn push_errors(out: &mut String, errors: &[ServerError]) -> Made<()>
-    ensures { OnOk result (string_bytes out.new ≡ string_bytes out.old ++ list_json error_json errors.now) }
+    ensures { OnOk result (string_bytes out.new ≡ string_bytes out.old
+        ++ list_json error_json errors.now) }
 {
     push_list(out, errors)
 }
@@ -79,7 +81,8 @@ pub fn push_error(out: &mut String, error: &ServerError) -> Made<()>
 }
 
 fn push_locations(out: &mut String, locations: &[Pos]) -> Made<()>
-    ensures { OnOk result (string_bytes out.new ≡ string_bytes out.old ++ locations_member locations.now) }
+    ensures { OnOk result (string_bytes out.new ≡ string_bytes out.old
+        ++ locations_member locations.now) }
 {
     if locations.is_empty() {
         return Ok(());
@@ -99,7 +102,8 @@ fn push_path(out: &mut String, path: &[PathSegment]) -> Made<()>
 }
 
 fn push_extensions(out: &mut String, extensions: &Option<ErrorExtensionValues>) -> Made<()>
-    ensures { OnOk result (string_bytes out.new ≡ string_bytes out.old ++ extensions_member extensions.now) }
+    ensures { OnOk result (string_bytes out.new ≡ string_bytes out.old
+        ++ extensions_member extensions.now) }
 {
     match extensions {
         Some(values) if values.len() > 0 => {
@@ -112,7 +116,8 @@ fn push_extensions(out: &mut String, extensions: &Option<ErrorExtensionValues>) 
 
 /// Appends the values of an error as a JSON object.
 pub fn push_extension_values(out: &mut String, values: &ErrorExtensionValues) -> Made<()>
-    ensures { OnOk result (string_bytes out.new ≡ string_bytes out.old ++ json (Value.Object values.now)) }
+    ensures { OnOk result (string_bytes out.new ≡ string_bytes out.old
+        ++ json (Value.Object values.now)) }
 {
     out.push('{')?;
     for place in 0..values.len() {

@@ -1,8 +1,10 @@
-ghost use Rattle.std.specs.Prelude.{◌≡◌, ◌↔◌, [], ◌∷◌, ◌++◌, ◌<◌, ◌/◌, ◌%◌, All, IsTrue, length, map, codes};
+ghost use Rattle.std.specs.Prelude.{◌≡◌, ◌↔◌, [], ◌∷◌, ◌++◌, ◌<◌, ◌/◌, ◌%◌, All, IsTrue, length};
+ghost use Rattle.std.specs.Prelude.{map, codes};
 ghost use Rattle.std.specs.Prelude.{IfOk, OnOk, string_bytes, encode_utf8};
 ghost use Rattle.std.specs.Char.{digit_char};
 ghost use Rattle.std.specs.List.{flat_map};
-ghost use Rattle.gql_base.specs.Json.{escaped, IsPlain, quoted, comma_of, colon_of, name_text, member, value_text, json, literal};
+ghost use Rattle.gql_base.specs.Json.{escaped, IsPlain, quoted, comma_of, colon_of, name_text};
+ghost use Rattle.gql_base.specs.Json.{member, value_text, json, literal};
 ghost use Rattle.gql_base.specs.Separated.{separated, before};
 
 use crate::made::Made;
@@ -18,7 +20,8 @@ enum Style {
     Literal,
 }
 
-/// The JSON text of a value: without blanks, enums as strings, the members of an object in their order (RFC 8259).
+/// The JSON text of a value: without blanks, enums as strings, the members of an object in their
+/// order (RFC 8259).
 pub fn json_of(alloc: Global, value: &Value) -> Made<Text>
     ensures { IfOk result (λ text. text ≡ json value.now) }
 {
@@ -27,8 +30,8 @@ pub fn json_of(alloc: Global, value: &Value) -> Made<Text>
     Ok(Text::from_string(out))
 }
 
-/// The text of a value as it is written in a document: enums and keys bare, strings with JSON's escapes, and a blank after
-/// each comma and colon (GraphQL, October 2021, section 2.9).
+/// The text of a value as it is written in a document: enums and keys bare, strings with JSON's
+/// escapes, and a blank after each comma and colon (GraphQL, October 2021, section 2.9).
 pub fn literal_of(alloc: Global, value: &Value) -> Made<Text>
     ensures { IfOk result (λ text. text ≡ literal value.now) }
 {
@@ -46,7 +49,8 @@ pub fn push_json(out: &mut String, value: &Value) -> Made<()>
 
 #[cycle(json)]
 fn push_value(out: &mut String, style: Style, value: &Value) -> Made<()>
-    ensures { OnOk result (string_bytes out.new ≡ string_bytes out.old ++ value_text style value.now) }
+    ensures { OnOk result (string_bytes out.new ≡ string_bytes out.old
+        ++ value_text style value.now) }
 {
     match value {
         Value::Null => out.push_str("null"),
@@ -70,7 +74,8 @@ fn push_value(out: &mut String, style: Style, value: &Value) -> Made<()>
 #[cycle(json)]
 #[tactic(auto, using(crate::proofs::SeparatedLemmas::separated_more))]
 fn push_items(out: &mut String, style: Style, items: &[Value]) -> Made<()>
-    ensures { OnOk result (string_bytes out.new ≡ string_bytes out.old ++ separated (comma_of style) (map (value_text style) items.now)) }
+    ensures { OnOk result (string_bytes out.new ≡ string_bytes out.old
+        ++ separated (comma_of style) (map (value_text style) items.now)) }
 {
     for (place, item) in items.iter().enumerate() {
         push_separator(out, style, place)?;
@@ -82,7 +87,8 @@ fn push_items(out: &mut String, style: Style, items: &[Value]) -> Made<()>
 #[cycle(json)]
 fn push_members(out: &mut String, style: Style, members: &Pairs<Value>) -> Made<()>
     ensures { OnOk result (string_bytes out.new ≡ string_bytes out.old
-        ++ separated (comma_of style) (map (λ p. member style (p.0, value_text style p.1)) members.now)) }
+        ++ separated (comma_of style)
+        (map (λ p. member style (p.0, value_text style p.1)) members.now)) }
 {
     for place in 0..members.len() {
         push_separator(out, style, place)?;
@@ -95,7 +101,8 @@ fn push_members(out: &mut String, style: Style, members: &Pairs<Value>) -> Made<
 
 /// Appends what separates two parts, but before the part at place 0 nothing.
 fn push_separator(out: &mut String, style: Style, place: usize) -> Made<()>
-    ensures { OnOk result (string_bytes out.new ≡ string_bytes out.old ++ before (comma_of style) place) }
+    ensures { OnOk result (string_bytes out.new ≡ string_bytes out.old
+        ++ before (comma_of style) place) }
 {
     if place == 0 {
         return Ok(());
@@ -107,7 +114,8 @@ fn push_separator(out: &mut String, style: Style, place: usize) -> Made<()>
 }
 
 fn push_key(out: &mut String, style: Style, name: &str) -> Made<()>
-    ensures { OnOk result (string_bytes out.new ≡ string_bytes out.old ++ (name_text style name.now ++ colon_of style)) }
+    ensures { OnOk result (string_bytes out.new ≡ string_bytes out.old
+        ++ (name_text style name.now ++ colon_of style)) }
 {
     push_styled(out, style, name)?;
     out.push_str(match style {
@@ -117,7 +125,8 @@ fn push_key(out: &mut String, style: Style, name: &str) -> Made<()>
 }
 
 fn push_styled(out: &mut String, style: Style, name: &str) -> Made<()>
-    ensures { OnOk result (string_bytes out.new ≡ string_bytes out.old ++ name_text style name.now) }
+    ensures { OnOk result (string_bytes out.new ≡ string_bytes out.old
+        ++ name_text style name.now) }
 {
     match style {
         Style::Json => push_quoted(out, name),
@@ -127,14 +136,16 @@ fn push_styled(out: &mut String, style: Style, name: &str) -> Made<()>
 
 /// Appends a comma of a JSON text, but before the part at place 0 nothing.
 pub fn push_comma(out: &mut String, place: usize) -> Made<()>
-    ensures { OnOk result (string_bytes out.new ≡ string_bytes out.old ++ before (codes ",") place) }
+    ensures { OnOk result (string_bytes out.new ≡ string_bytes out.old
+        ++ before (codes ",") place) }
 {
     push_separator(out, Style::Json, place)
 }
 
 /// Appends the name of a member of a JSON object, and its colon.
 pub fn push_name(out: &mut String, name: &str) -> Made<()>
-    ensures { OnOk result (string_bytes out.new ≡ string_bytes out.old ++ (quoted name.now ++ codes ":")) }
+    ensures { OnOk result (string_bytes out.new ≡ string_bytes out.old
+        ++ (quoted name.now ++ codes ":")) }
 {
     push_key(out, Style::Json, name)
 }
@@ -150,7 +161,8 @@ pub fn push_quoted(out: &mut String, text: &str) -> Made<()>
 
 /// Appends the characters of a text with their escapes. A text without any is appended at once.
 fn push_escaped(out: &mut String, text: &str) -> Made<()>
-    ensures { OnOk result (string_bytes out.new ≡ string_bytes out.old ++ flat_map escaped text.now) }
+    ensures { OnOk result (string_bytes out.new ≡ string_bytes out.old
+        ++ flat_map escaped text.now) }
 {
     if is_plain(text) {
         out.push_str(text)
@@ -169,7 +181,8 @@ fn is_plain(text: &str) -> bool
 }
 
 fn push_characters(out: &mut String, text: &str) -> Made<()>
-    ensures { OnOk result (string_bytes out.new ≡ string_bytes out.old ++ flat_map escaped text.now) }
+    ensures { OnOk result (string_bytes out.new ≡ string_bytes out.old
+        ++ flat_map escaped text.now) }
 {
     for character in text.chars() {
         push_character(out, character)?;
@@ -178,7 +191,8 @@ fn push_characters(out: &mut String, text: &str) -> Made<()>
 }
 
 fn push_character(out: &mut String, character: char) -> Made<()>
-    ensures { OnOk result (string_bytes out.new ≡ string_bytes out.old ++ flat_map escaped (encode_utf8 character)) }
+    ensures { OnOk result (string_bytes out.new ≡ string_bytes out.old
+        ++ flat_map escaped (encode_utf8 character)) }
 {
     match character {
         '"' => out.push_str("\\\""),

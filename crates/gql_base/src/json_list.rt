@@ -19,7 +19,8 @@ pub trait JsonText {
 /// Appends the JSON text of a list.
 #[tactic(auto, using(crate::proofs::SeparatedLemmas::separated_more))]
 pub fn push_list<T: JsonText>(out: &mut String, items: &[T]) -> Made<()>
-    ensures { OnOk result (string_bytes out.new ≡ string_bytes out.old ++ list_json T.text items.now) }
+    ensures { OnOk result (string_bytes out.new ≡ string_bytes out.old
+        ++ list_json T.text items.now) }
 {
     out.push('[')?;
     for (place, item) in items.iter().enumerate() {

@@ -48,7 +48,8 @@ impl JsonPlace {
 
     /// Takes the outermost step off, or answers none where there is none.
     pub fn next_step(&mut self) -> Option<PathSegment>
-        ensures { MatchOption result ((self.old ≡ []) × (self.new ≡ [])) (λ step. self.old ≡ step ∷ self.new) }
+        ensures { MatchOption result ((self.old ≡ [])
+            × (self.new ≡ [])) (λ step. self.old ≡ step ∷ self.new) }
     {
         self.inward.pop()
     }

@@ -1,4 +1,5 @@
-ghost use Rattle.std.specs.Prelude.{◌≡◌, [], ◌∷◌, ◌++◌, ◌<◌, length, slice_get, IfOk, IfSome, OnOk, OnErr, Some, None};
+ghost use Rattle.std.specs.Prelude.{◌≡◌, [], ◌∷◌, ◌++◌, ◌<◌, length, slice_get, IfOk, IfSome, OnOk};
+ghost use Rattle.std.specs.Prelude.{OnErr, Some, None};
 ghost use Rattle.gql_base.specs.Names.{place_of, AreDistinct};
 ghost use Rattle.gql_base.specs.Places.{IsIndex};
 
@@ -119,7 +120,8 @@ impl Names {
         self.as_slice()[place].as_str()
     }
 
-    /// Adds a name that isn't there, at the end, and looks no name up. Where memory is wanting the names stay as they were.
+    /// Adds a name that isn't there, at the end, and looks no name up. Where memory is wanting the
+    /// names stay as they were.
     #[tactic(auto, using(crate::proofs::NamesLemmas::distinct_added, crate::proofs::NamesLemmas::distinct_pushed, crate::proofs::PlacesLemmas::bounded_less))]
     pub fn add_fresh(&mut self, name: Name) -> Made<()>
         requires { place_of name self.old ≡ None }

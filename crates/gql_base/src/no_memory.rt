@@ -3,7 +3,8 @@ use std::alloc::AllocError;
 /// The want of memory of an execution.
 #[derive(Clone, Copy, PartialEq, Eq, Debug)]
 pub struct NoMemory {
-    /// The number of root keys of a mutation whose effect stands. It is 0 for queries and refused requests.
+    /// The number of root keys of a mutation whose effect stands. It is 0 for queries and refused
+    /// requests.
     pub roots: u64,
 }
 

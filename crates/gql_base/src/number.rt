@@ -16,7 +16,8 @@ pub struct Number {
 impl Model for Number {
     ghost use Rattle.std.specs.Prelude.{ℤ, pos, negsuc, ◌≤ℤ◌, ◌<ℤ◌, ◌^◌, ◌-◌};
     ghost use Rattle.std.specs.Coded.{coded_ℤ};
-    ghost use Rattle.gql_base.specs.Number.{signed, is_negative, distance_of, sign_back, distance_back};
+    ghost use Rattle.gql_base.specs.Number.{signed, is_negative, distance_of, sign_back};
+    ghost use Rattle.gql_base.specs.Number.{distance_back};
 
     ghost Value = { ℤ };
 
@@ -26,7 +27,10 @@ impl Model for Number {
 
     ghost invariant = { λ number. negsuc (2 ^ 63 - 1) ≤ℤ signed number.negative number.distance };
 
-    ghost inverse = { λ value. record { negative = is_negative value; distance = distance_of value } };
+    ghost inverse = { λ value. record {
+      negative = is_negative value;
+      distance = distance_of value;
+    } };
 
     ghost inverse_ok = { λ number holds i. record {
       negative = sign_back number.negative number.distance i;

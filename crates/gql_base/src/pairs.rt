@@ -1,4 +1,5 @@
-ghost use Rattle.std.specs.Prelude.{◌≡◌, ◌↔◌, [], ◌∷◌, ◌++◌, ◌<◌, IsTrue, length, slice_get, slice_set, vec_len};
+ghost use Rattle.std.specs.Prelude.{◌≡◌, ◌↔◌, [], ◌∷◌, ◌++◌, ◌<◌, IsTrue, length, slice_get};
+ghost use Rattle.std.specs.Prelude.{slice_set, vec_len};
 ghost use Rattle.std.specs.Prelude.{IfOk, IfSome, OnOk, OnErr, Some, None};
 ghost use Rattle.std.specs.Borrow.{Lends, LendsIf, sem};
 ghost use Rattle.std.specs.List.{zip};
@@ -14,7 +15,8 @@ use std::alloc::Global;
 use std::marker::Model;
 use std::mem;
 
-/// Values under names, in order of insertion and with no name twice. Contracts see the list of the pairs.
+/// Values under names, in order of insertion and with no name twice. Contracts see the list of the
+/// pairs.
 #[derive(Debug, Drop)]
 pub struct Pairs<T> {
     names: Names,
@@ -103,7 +105,8 @@ impl<T> Pairs<T> {
 
     /// The value under a name, to be changed, or none where the name isn't there.
     pub fn get_mut(&mut self, name: &str) -> Option<&mut T>
-        ensures* writes_back { sem 𝓛 (LendsIf (the_row T.row) T.row self.entry result (put self.old name.now) self.old) }
+        ensures* writes_back { sem 𝓛
+            (LendsIf (the_row T.row) T.row self.entry result (put self.old name.now) self.old) }
         ensures value { option_copied_mut result ≡ under name.now self.old }
     {
         match self.place_of(name) {
@@ -121,7 +124,8 @@ impl<T> Pairs<T> {
         (names, values)
     }
 
-    /// The same names with other values, each in the place of the one it stands for. No name is looked up.
+    /// The same names with other values, each in the place of the one it stands for. No name is
+    /// looked up.
     pub fn with_values<U: Drop>(&self, alloc: Global, values: Vec<U>) -> Made<Pairs<U>>
         requires { length values.items ≡ length self.now }
         ensures { IfOk result (λ made. made ≡ zip (names_of self.now) values.items) }
@@ -150,8 +154,8 @@ impl<T: Drop> Pairs<T> {
         self.values.reserve(more)
     }
 
-    /// Adds a value under a name that isn't there, at the end, and looks no name up. Where memory is wanting the pairs
-    /// stay as they were.
+    /// Adds a value under a name that isn't there, at the end, and looks no name up. Where memory
+    /// is wanting the pairs stay as they were.
     pub fn add_fresh(&mut self, name: Name, value: T) -> Made<()>
         requires { under name self.old ≡ None }
         ensures added { OnOk result (self.new ≡ self.old ++ (name, value) ∷ []) }
@@ -163,8 +167,8 @@ impl<T: Drop> Pairs<T> {
         Ok(())
     }
 
-    /// Sets the value under a name. A name that is there keeps its place, and its old value is answered; another goes to
-    /// the end. Where memory is wanting the pairs stay as they were.
+    /// Sets the value under a name. A name that is there keeps its place, and its old value is
+    /// answered; another goes to the end. Where memory is wanting the pairs stay as they were.
     pub fn insert(&mut self, name: Name, value: T) -> Made<Option<T>>
         ensures put { OnOk result (self.new ≡ put self.old name value) }
         ensures replaced { IfOk result (λ old. old ≡ under name self.old) }
@@ -215,7 +219,9 @@ impl<T: PartialEq> PartialEq for Pairs<T> {
 
     ghost eq = { pointwise (same_pair T.eq) };
 
-    ghost laws = { lists_per (and_per (on_per (λ p. p.0) (partial_equiv_from_equiv nat_list_eq_equiv)) (on_per (λ p. p.1) T.laws)) };
+    ghost laws = { lists_per
+        (and_per (on_per (λ p. p.0) (partial_equiv_from_equiv nat_list_eq_equiv))
+        (on_per (λ p. p.1) T.laws)) };
 
     fn eq(&self, other: &Pairs<T>) -> bool {
         self.names == other.names && self.values.as_slice() == other.values.as_slice()

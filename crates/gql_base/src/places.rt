@@ -1,6 +1,7 @@
 ghost use Rattle.std.specs.Prelude.{◌≡◌, ◌+◌, [], ◌∷◌, ◌++◌, None, length, IfOk, OnOk, OnErr, ℕ};
 ghost use Rattle.gql_base.specs.Names.{place_of, AreDistinct};
-ghost use Rattle.gql_base.specs.Places.{indexed_place, HasPlaces, IsBounded, IsIndex, SamePlaces, SetsPlace};
+ghost use Rattle.gql_base.specs.Places.{indexed_place, HasPlaces, IsBounded, IsIndex, SamePlaces};
+ghost use Rattle.gql_base.specs.Places.{SetsPlace};
 
 use crate::made::Made;
 use crate::name::Name;
@@ -10,8 +11,9 @@ use std::collections::{BTreeMap, HashMap};
 /// The most names whose places stand in a table by a hash.
 const HASHED: usize = 256;
 
-/// The place of each of some names. A table by a hash is the faster form, but its seed is fixed, so that a stranger can choose names
-/// which all fall on one place of it: more than some hundred names stand in a tree, which no choice of names makes slow.
+/// The place of each of some names. A table by a hash is the faster form, but its seed is fixed, so
+/// that a stranger can choose names which all fall on one place of it: more than some hundred names
+/// stand in a tree, which no choice of names makes slow.
 #[derive(Debug, Drop)]
 pub(crate) enum Places {
     Hashed(HashMap<String, usize>),
@@ -87,7 +89,8 @@ impl Places {
         }
     }
 
-    /// Takes the form for one name more. This is a tree where the table is full, and so happens once.
+    /// Takes the form for one name more. This is a tree where the table is full, and so happens
+    /// once.
     fn make_room(&mut self, alloc: Global, names: &[Name]) -> Made<()>
         requires distinct { AreDistinct names.now }
         requires index { IsIndex self.old names.now }

@@ -1,7 +1,8 @@
 ghost use Rattle.std.specs.Prelude.{◌≡◌, [], IfOk, option_map};
 ghost use Rattle.std.specs.Option.{ok_or};
 ghost use Rattle.serde_json.specs.View.{view, items_view, members_view, number_view};
-ghost use Rattle.gql_base.specs.ReadJson.{number_in, enum_text_in, enum_in, has_mark, read_in, items_in, members_in, value_of};
+ghost use Rattle.gql_base.specs.ReadJson.{number_in, enum_text_in, enum_in, has_mark, read_in};
+ghost use Rattle.gql_base.specs.ReadJson.{items_in, members_in, value_of};
 ghost use Rattle.gql_base.specs.Readings.{IsRead, IsInside};
 
 use crate::items::Items;
@@ -77,8 +78,8 @@ impl Fault {
     }
 }
 
-/// The value of a JSON value that `serde_json` read. Objects have their members in byte order of their names. The fault
-/// comes exactly where a number in it is read neither as `i64` nor as `u64`.
+/// The value of a JSON value that `serde_json` read. Objects have their members in byte order of
+/// their names. The fault comes exactly where a number in it is read neither as `i64` nor as `u64`.
 pub fn from_json(alloc: Global, json: &serde_json::Value) -> Made<Result<Value, JsonFault>>
     ensures { IfOk result (λ read. read ≡ ok_or (value_of (view json.now)) JsonFault.Number) }
 {

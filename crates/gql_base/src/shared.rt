@@ -1,4 +1,5 @@
-//! The public types can be moved to threads and shared between them, where what they are made of can.
+//! The public types can be moved to threads and shared between them, where what they are made of
+//! can.
 use crate::{
     Boxed, EnumForm, Error, ErrorExtensionValues, Items, JsonFault, JsonPlace, Name, Names,
     NoMemory, Number, Pairs, PathSegment, Pos, ServerError, Text, Told, TypeRef, Value, Variables,

@@ -55,21 +55,24 @@ impl TypeRef {
 
     /// The type `[T]!`, for the name T.
     pub fn named_list_nn(alloc: Global, name: &str) -> Made<TypeRef>
-        ensures { IfOk result (λ made. made ≡ TypeRef.NonNull (TypeRef.List (TypeRef.Named name.now))) }
+        ensures { IfOk result (λ made. made
+            ≡ TypeRef.NonNull (TypeRef.List (TypeRef.Named name.now))) }
     {
         TypeRef::named_list(alloc, name)?.non_null(alloc)
     }
 
     /// The type `[T!]`, for the name T.
     pub fn named_nn_list(alloc: Global, name: &str) -> Made<TypeRef>
-        ensures { IfOk result (λ made. made ≡ TypeRef.List (TypeRef.NonNull (TypeRef.Named name.now))) }
+        ensures { IfOk result (λ made. made
+            ≡ TypeRef.List (TypeRef.NonNull (TypeRef.Named name.now))) }
     {
         TypeRef::named_nn(alloc, name)?.list(alloc)
     }
 
     /// The type `[T!]!`, for the name T.
     pub fn named_nn_list_nn(alloc: Global, name: &str) -> Made<TypeRef>
-        ensures { IfOk result (λ made. made ≡ TypeRef.NonNull (TypeRef.List (TypeRef.NonNull (TypeRef.Named name.now)))) }
+        ensures { IfOk result (λ made. made
+            ≡ TypeRef.NonNull (TypeRef.List (TypeRef.NonNull (TypeRef.Named name.now)))) }
     {
         TypeRef::named_nn_list(alloc, name)?.non_null(alloc)
     }

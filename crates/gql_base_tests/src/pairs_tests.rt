@@ -1,4 +1,5 @@
-//! Tests of names and pairs past the few that are searched in order, and of what is lent to be changed.
+//! Tests of names and pairs past the few that are searched in order, and of what is lent to be
+//! changed.
 use gql_base::{Copied, Items, Made, Name, Names, Pairs, Value, Variables};
 use std::alloc::Global;
 use std::test::Fail;

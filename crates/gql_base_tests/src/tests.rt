@@ -1,5 +1,5 @@
-//! Each public call with ample memory, against texts and values from outside. What a test looks at is made by small functions
-//! beside it, since a test is proved too.
+//! Each public call with ample memory, against texts and values from outside. What a test looks at
+//! is made by small functions beside it, since a test is proved too.
 use gql_base::{
     Boxed, Copied, Items, Made, Name, NoMemory, Number, Pairs, Text, Value, Variables, json_of,
 };

@@ -13,19 +13,23 @@ use Rattle.gql_bench.specs.TypeTable.{type_in}
 
 -- the next numbers behind a type
 abbrev pub after : Numbers → TypeForm → Numbers
-after numbers (forms.Object form) = record numbers { resolver = numbers.resolver + length form.fields }
-after numbers (forms.Subscription form) = record numbers { source = numbers.source + length form.fields }
+after numbers (forms.Object form) =
+    record numbers { resolver = numbers.resolver + length form.fields }
+after numbers (forms.Subscription form) =
+    record numbers { source = numbers.source + length form.fields }
 after numbers _ = numbers
 
 -- the numbers of the first resolver and of the first source
 abbrev pub first_numbers : Numbers
 first_numbers = record { resolver = 0; source = 0 }
 
--- a table with these types, each under its name, one after another; a second one under a name takes the place of the first
+-- a table with these types, each under its name, one after another; a second one under a name takes
+-- the place of the first
 abbrev pub registered : TypeTable → Numbers → List TypeForm → TypeTable
 registered table numbers [] = table
 registered table numbers (form ∷ forms) =
-    registered (put table (type_name (type_in numbers form)) (type_in numbers form)) (after numbers form) forms
+    registered (put table (type_name (type_in numbers form)) (type_in numbers form))
+    (after numbers form) forms
 
 -- the types that a schema declares
 abbrev pub declared_table : SchemaForm → TypeTable
@@ -33,7 +37,8 @@ declared_table schema = registered [] first_numbers schema.types
 
 -- the table with the two types of federation, where that is on or an object has a key
 abbrev pub federated_table : Bool → TypeTable → TypeTable
-federated_table federation table = if federation || has_entities table then with_entities table else table
+federated_table federation table =
+    if federation || has_entities table then with_entities table else table
 
 -- the types that a schema declares, and those of federation
 abbrev pub full_table : SchemaForm → TypeTable

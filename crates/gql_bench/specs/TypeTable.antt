@@ -24,7 +24,8 @@ use Rattle.gql_schema.specs.declared.schema_type.SchemaType.TheVariants as types
 use Rattle.gql_schema.specs.declared.subscription.Subscription.{Subscription}
 use Rattle.gql_schema.specs.declared.union.Union.{Union}
 use Rattle.gql_bench.specs.declared.numbers.Numbers.{Numbers}
-use Rattle.gql_bench.specs.FieldTable.{event_field_in, field_in, fields_behind, input_in, promised_in}
+use Rattle.gql_bench.specs.FieldTable.{event_field_in, field_in, fields_behind, input_in}
+use Rattle.gql_bench.specs.FieldTable.{promised_in}
 
 -- the keys of an object: the one that it says, or none
 abbrev pub keys_in : Option (List ℕ) → List (List ℕ)
@@ -50,7 +51,8 @@ abbrev pub enum_in : EnumTypeForm → Enum
 enum_in form = record { name = form.name; items = with_names [] form.items }
 
 abbrev pub input_object_in : InputForm → InputObject
-input_object_in form = record { name = form.name; fields = fields_behind input_in [] 0 form.fields; oneof = form.oneof }
+input_object_in form =
+    record { name = form.name; fields = fields_behind input_in [] 0 form.fields; oneof = form.oneof }
 
 -- without a rule every value is taken
 abbrev pub rule_in : Option ScalarRule → ScalarRule
@@ -62,7 +64,8 @@ scalar_in form = new_scalar form.name (rule_in form.rule)
 
 -- a subscription, whose sources are numbered from here on
 abbrev pub subscription_in : ℕ → SubscriptionForm → Subscription
-subscription_in number form = record { name = form.name; fields = fields_behind event_field_in [] number form.fields }
+subscription_in number form =
+    record { name = form.name; fields = fields_behind event_field_in [] number form.fields }
 
 -- a type, with the next numbers
 abbrev pub type_in : Numbers → TypeForm → SchemaType

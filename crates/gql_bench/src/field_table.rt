@@ -3,7 +3,8 @@ ghost use Rattle.std.specs.Prelude.{◌≡◌, [], IfOk};
 ghost use Rattle.gql_schema.specs.Field.{arguments_of};
 ghost use Rattle.gql_schema.specs.InterfaceField.{promised_arguments};
 ghost use Rattle.gql_schema.specs.SubscriptionField.{event_arguments};
-ghost use Rattle.gql_bench.specs.FieldTable.{argument_in, arguments_behind, event_field_in, field_in, input_in, promised_in};
+ghost use Rattle.gql_bench.specs.FieldTable.{argument_in, arguments_behind, event_field_in};
+ghost use Rattle.gql_bench.specs.FieldTable.{field_in, input_in, promised_in};
 
 use gql_base::{Copied, Made, TypeRef, Value};
 use gql_form::{
@@ -22,7 +23,8 @@ pub(crate) fn field_of(alloc: Global, number: u32, name: &str, form: &FieldForm)
 
 /// This field with these arguments.
 fn with_arguments(alloc: Global, mut field: Field, forms: &[ArgumentForm]) -> Made<Field>
-    ensures { IfOk result (λ made. made ≡ record field { arguments = arguments_behind (arguments_of field) forms.now }) }
+    ensures { IfOk result (λ made. made
+        ≡ record field { arguments = arguments_behind (arguments_of field) forms.now }) }
 {
     for form in forms {
         field = field.argument(alloc, argument_of(alloc, form)?)?;
@@ -47,7 +49,8 @@ fn promised_with_arguments(
     mut field: InterfaceField,
     forms: &[ArgumentForm],
 ) -> Made<InterfaceField>
-    ensures { IfOk result (λ made. made ≡ record field { arguments = arguments_behind (promised_arguments field) forms.now }) }
+    ensures { IfOk result (λ made. made
+        ≡ record field { arguments = arguments_behind (promised_arguments field) forms.now }) }
 {
     for form in forms {
         field = field.argument(alloc, argument_of(alloc, form)?)?;
@@ -73,7 +76,8 @@ fn events_with_arguments(
     mut field: SubscriptionField,
     forms: &[ArgumentForm],
 ) -> Made<SubscriptionField>
-    ensures { IfOk result (λ made. made ≡ record field { arguments = arguments_behind (event_arguments field) forms.now }) }
+    ensures { IfOk result (λ made. made
+        ≡ record field { arguments = arguments_behind (event_arguments field) forms.now }) }
 {
     for form in forms {
         field = field.argument(alloc, argument_of(alloc, form)?)?;
@@ -96,7 +100,8 @@ fn argument_of(alloc: Global, form: &ArgumentForm) -> Made<InputValue>
 
 /// An input value of this name and type, with this default, where it has one.
 fn input_value(alloc: Global, name: &str, ty: &TypeRef, default: &Option<Value>) -> Made<InputValue>
-    ensures { IfOk result (λ input. input ≡ record { name = name.now; ty = ty.now; default = default.now }) }
+    ensures { IfOk result (λ input. input
+        ≡ record { name = name.now; ty = ty.now; default = default.now }) }
 {
     let input = InputValue::new(alloc, name, ty.try_clone(alloc)?)?;
     match default {

@@ -2,7 +2,8 @@
 ghost use Rattle.std.specs.Prelude.{◌≡◌, [], IfOk};
 ghost use Rattle.gql_schema.specs.Finished.{IsFinished, KeepsTypes};
 ghost use Rattle.gql_schema.specs.Table.{types_of};
-ghost use Rattle.gql_bench.specs.SchemaTable.{federated_table, first_numbers, full_table, registered, whole_table};
+ghost use Rattle.gql_bench.specs.SchemaTable.{federated_table, first_numbers, full_table};
+ghost use Rattle.gql_bench.specs.SchemaTable.{registered, whole_table};
 
 use crate::numbers::Numbers;
 use crate::type_table::type_of;
@@ -11,7 +12,8 @@ use gql_form::{SchemaForm, TypeForm};
 use gql_schema::{SchemaError, Types};
 use std::alloc::Global;
 
-/// The finished table of the types of a schema, where no rule is broken in it, and else the first refusal.
+/// The finished table of the types of a schema, where no rule is broken in it, and else the first
+/// refusal.
 pub fn schema_types(alloc: Global, schema: &SchemaForm) -> Made<Result<Types, SchemaError>>
     ensures finished { IfOk result (λ finished. IsFinished (whole_table schema.now) finished) }
     ensures kept { IfOk result (λ finished. KeepsTypes (full_table schema.now) finished) }

@@ -7,8 +7,10 @@ ghost use Rattle.gql_schema.specs.NameSet.{with_names};
 ghost use Rattle.gql_schema.specs.Object.{fields_of, interfaces_of};
 ghost use Rattle.gql_schema.specs.Subscription.{event_fields};
 ghost use Rattle.gql_schema.specs.Union.{members_of};
-ghost use Rattle.gql_bench.specs.FieldTable.{event_field_in, field_in, fields_behind, input_in, promised_in};
-ghost use Rattle.gql_bench.specs.TypeTable.{enum_in, input_object_in, interface_in, object_in, rule_in, scalar_in, subscription_in, type_in, union_in};
+ghost use Rattle.gql_bench.specs.FieldTable.{event_field_in, field_in, fields_behind, input_in};
+ghost use Rattle.gql_bench.specs.FieldTable.{promised_in};
+ghost use Rattle.gql_bench.specs.TypeTable.{enum_in, input_object_in, interface_in, object_in};
+ghost use Rattle.gql_bench.specs.TypeTable.{rule_in, scalar_in, subscription_in, type_in, union_in};
 
 use crate::field_table::{event_field_of, field_of, input_of, promised_of};
 use crate::numbers::{Numbers, number_behind};
@@ -58,7 +60,8 @@ fn object_of(alloc: Global, number: u32, form: &ObjectForm) -> Made<Object>
 
 /// This object, which implements these interfaces too.
 fn with_interfaces(alloc: Global, mut object: Object, names: &[Name]) -> Made<Object>
-    ensures { IfOk result (λ made. made ≡ record object { interfaces = with_names (interfaces_of object) names.now }) }
+    ensures { IfOk result (λ made. made
+        ≡ record object { interfaces = with_names (interfaces_of object) names.now }) }
 {
     for name in names {
         object = object.implement(alloc, name.as_str())?;
@@ -74,7 +77,8 @@ fn with_fields(
     forms: &Pairs<FieldForm>,
 ) -> Made<Object>
     requires { fields_of object ≡ [] }
-    ensures { IfOk result (λ made. made ≡ record object { fields = fields_behind field_in [] number forms.now }) }
+    ensures { IfOk result (λ made. made
+        ≡ record object { fields = fields_behind field_in [] number forms.now }) }
 {
     for place in 0..forms.len() {
         let (name, form) = forms.at(place);
@@ -99,7 +103,8 @@ fn promising(
     forms: &Pairs<InterfaceFieldForm>,
 ) -> Made<Interface>
     requires { promised_fields interface ≡ [] }
-    ensures { IfOk result (λ made. made ≡ record interface { fields = fields_behind promised_in [] 0 forms.now }) }
+    ensures { IfOk result (λ made. made
+        ≡ record interface { fields = fields_behind promised_in [] 0 forms.now }) }
 {
     for place in 0..forms.len() {
         let (name, form) = forms.at(place);
@@ -117,7 +122,8 @@ fn union_of(alloc: Global, form: &UnionForm) -> Made<Union>
 }
 
 fn with_members(alloc: Global, mut union_type: Union, names: &[Name]) -> Made<Union>
-    ensures { IfOk result (λ made. made ≡ record union_type { members = with_names (members_of union_type) names.now }) }
+    ensures { IfOk result (λ made. made
+        ≡ record union_type { members = with_names (members_of union_type) names.now }) }
 {
     for name in names {
         union_type = union_type.possible_type(alloc, name.as_str())?;
@@ -133,7 +139,8 @@ fn enum_of(alloc: Global, form: &EnumTypeForm) -> Made<Enum>
 }
 
 fn with_items(alloc: Global, mut enum_type: Enum, names: &[Name]) -> Made<Enum>
-    ensures { IfOk result (λ made. made ≡ record enum_type { items = with_names (items_of enum_type) names.now }) }
+    ensures { IfOk result (λ made. made
+        ≡ record enum_type { items = with_names (items_of enum_type) names.now }) }
 {
     for name in names {
         enum_type = enum_type.item(alloc, name.as_str())?;
@@ -156,7 +163,8 @@ fn with_input_fields(
     forms: &Pairs<InputFieldForm>,
 ) -> Made<InputObject>
     requires { input_fields input ≡ [] }
-    ensures { IfOk result (λ made. made ≡ record input { fields = fields_behind input_in [] 0 forms.now }) }
+    ensures { IfOk result (λ made. made
+        ≡ record input { fields = fields_behind input_in [] 0 forms.now }) }
 {
     for place in 0..forms.len() {
         let (name, form) = forms.at(place);
@@ -199,7 +207,8 @@ fn with_event_fields(
     forms: &Pairs<SubscriptionFieldForm>,
 ) -> Made<Subscription>
     requires { event_fields subscription ≡ [] }
-    ensures { IfOk result (λ made. made ≡ record subscription { fields = fields_behind event_field_in [] number forms.now }) }
+    ensures { IfOk result (λ made. made
+        ≡ record subscription { fields = fields_behind event_field_in [] number forms.now }) }
 {
     for place in 0..forms.len() {
         let (name, form) = forms.at(place);

@@ -1,5 +1,5 @@
--- What a first bench answers: the constants of the fields that its query names, in the query's order; or the fault of a
--- text that is no document.
+-- What a first bench answers: the constants of the fields that its query names, in the query's
+-- order; or the fault of a text that is no document.
 use Rattle.std.specs.Prelude.{◌≡◌, ℕ, List, [], ◌∷◌, ◌++◌, Option, Some, None, codes}
 use Rattle.std.specs.List.{AllZip}
 use Rattle.std.specs.Str.{chars}
@@ -40,14 +40,22 @@ response_line chosen = json (value.Object ((codes "data", value.Object chosen) �
 
 -- the JSON of a response without data and with these errors, and the end of its line
 abbrev pub refusal_line : List ServerError → List ℕ
-refusal_line errors = codes "{\"data\":null,\"errors\":" ++ (list_json error_json errors ++ codes "}\n")
+refusal_line errors =
+    codes "{\"data\":null,\"errors\":" ++ (list_json error_json errors ++ codes "}\n")
 
 -- the error that tells of the fault of a text (section 7.1.2)
 abbrev pub error_of : ParseFault → ServerError
-error_of fault = record { message = message_of fault.kind; locations = fault.pos ∷ []; path = []; extensions = None }
+error_of fault =
+    record {
+      message = message_of fault.kind;
+      locations = fault.pos ∷ [];
+      path = [];
+      extensions = None;
+    }
 
 -- the document asks for some names, and this is the response with what is answered under them
-pub record IsResponse (answers : List ℕ → Option Value) (document : ExecutableDocument) (text : List ℕ) : Type 0 where
+pub record IsResponse (answers : List ℕ → Option Value) (document : ExecutableDocument)
+    (text : List ℕ) : Type 0 where
   pub names : List (List ℕ)
   pub selects : Selects document names
   pub chosen : List (List ℕ × Value)
@@ -56,19 +64,25 @@ pub record IsResponse (answers : List ℕ → Option Value) (document : Executab
 
 -- the text that a query gives over what is answered under names
 abbrev pub IsAnswerOf : (List ℕ → Option Value) → List ℕ → List ℕ → Type 0
-IsAnswerOf answers query text = (document : ExecutableDocument) × SpellsDocument (chars query) document × IsResponse answers document text
+IsAnswerOf answers query text =
+    (document : ExecutableDocument) × SpellsDocument (chars query) document
+    × IsResponse answers document text
 
 -- the text that a query gives which is no document
 abbrev pub IsRefusalOf : List ℕ → List ℕ → Type 0
-IsRefusalOf query text = (fault : ParseFault) × IsDocumentFault (chars query) fault × (text ≡ refusal_line (error_of fault ∷ []))
+IsRefusalOf query text =
+    (fault : ParseFault) × IsDocumentFault (chars query) fault
+    × (text ≡ refusal_line (error_of fault ∷ []))
 
 abbrev pub answers_of : FirstBench → List ℕ → Option Value
 answers_of first name = under name (constants first.fields)
 
 -- the text that a bench gives
 abbrev pub IsAnswer : BenchForm → List ℕ → Type 0
-IsAnswer bench text = (first : FirstBench) × IsFirstBench bench first × IsAnswerOf (answers_of first) first.query text
+IsAnswer bench text =
+    (first : FirstBench) × IsFirstBench bench first × IsAnswerOf (answers_of first) first.query text
 
 -- the text that it gives where its query is no document
 abbrev pub IsRefusal : BenchForm → List ℕ → Type 0
-IsRefusal bench text = (first : FirstBench) × IsFirstBench bench first × IsRefusalOf first.query text
+IsRefusal bench text =
+    (first : FirstBench) × IsFirstBench bench first × IsRefusalOf first.query text

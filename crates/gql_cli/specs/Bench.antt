@@ -1,5 +1,7 @@
--- What the bytes of a bench give to a command: the text that it writes, and the record of the polls that were made for it.
-use Rattle.std.specs.Prelude.{◌≡◌, ◌⊎◌, ℕ, List, [], ◌++◌, Option, Some, None, if◌then◌else◌, MatchOption}
+-- What the bytes of a bench give to a command: the text that it writes, and the record of the polls
+-- that were made for it.
+use Rattle.std.specs.Prelude.{◌≡◌, ◌⊎◌, ℕ, List, [], ◌++◌, Option, Some, None, if◌then◌else◌}
+use Rattle.std.specs.Prelude.{MatchOption}
 use Rattle.std.specs.Str.{is_utf8}
 use Rattle.serde_json.specs.Data.{Data}
 use Rattle.serde_json.specs.Read.{read}
@@ -8,14 +10,16 @@ use Rattle.gql_resolve.specs.declared.record_entry.RecordEntry.{RecordEntry}
 use Rattle.gql_cli.specs.Answer.{IsAnswer, IsAnswerOf, IsRefusal, IsRefusalOf, answers_of}
 use Rattle.gql_form.specs.declared.bench_form.BenchForm.{BenchForm}
 use Rattle.gql_cli.specs.BenchAnswers.{bench_answers}
-use Rattle.gql_cli.specs.BenchRecord.{BenchTask, IsQueryRecord, bench_task, first_task, record_lines}
+use Rattle.gql_cli.specs.BenchRecord.{BenchTask, IsQueryRecord, bench_task, first_task}
+use Rattle.gql_cli.specs.BenchRecord.{record_lines}
 use Rattle.gql_cli.specs.FirstBench.{IsFirstBench}
 use Rattle.gql_cli.specs.SchemaFault.{HasSoundTypes, IsRefusedBy, schema_line}
 use Rattle.gql_cli.specs.Shape.{IsBadShape, IsReadAs}
 use Rattle.gql_cli.specs.declared.bench.Command.{Command}
 use Rattle.gql_cli.specs.declared.bench.Command.TheVariants.{Execute, Record}
 use Rattle.gql_cli.specs.declared.bench.Written.{Written}
-use Rattle.gql_cli.specs.declared.bench.Written.TheVariants.{Answered, Refused, NotJson, BadShape, BadSchema, NotBuilt}
+use Rattle.gql_cli.specs.declared.bench.Written.TheVariants.{Answered, Refused, NotJson, BadShape}
+use Rattle.gql_cli.specs.declared.bench.Written.TheVariants.{BadSchema, NotBuilt}
 use Rattle.gql_cli.specs.declared.first_bench.FirstBench.{FirstBench}
 use Rattle.gql_cli.specs.declared.tables.Bench.{Bench}
 
@@ -23,7 +27,8 @@ use Rattle.gql_cli.specs.declared.tables.Bench.{Bench}
 unfoldable pub json_of : List ℕ → Option Data
 json_of bytes = if is_utf8 bytes then read bytes else None
 
--- a request over tables: what is answered under names, their tasks, the turns, and the text of the query
+-- a request over tables: what is answered under names, their tasks, the turns, and the text of the
+-- query
 pub record Request : Type 0 where
   pub answers : List ℕ → Option Value
   pub task_of : List ℕ → Option BenchTask
@@ -31,10 +36,22 @@ pub record Request : Type 0 where
   pub query : List ℕ
 
 abbrev pub first_request : FirstBench → Request
-first_request first = record { answers = answers_of first; task_of = first_task first; turns = first.turns; query = first.query }
+first_request first =
+    record {
+      answers = answers_of first;
+      task_of = first_task first;
+      turns = first.turns;
+      query = first.query;
+    }
 
 abbrev pub bench_request : Bench → Request
-bench_request bench = record { answers = bench_answers bench; task_of = bench_task bench; turns = bench.turns; query = bench.request }
+bench_request bench =
+    record {
+      answers = bench_answers bench;
+      task_of = bench_task bench;
+      turns = bench.turns;
+      query = bench.request;
+    }
 
 -- the lines that a command writes of a record, before the response
 abbrev pub lines_for : Command → List RecordEntry → List ℕ
@@ -42,7 +59,8 @@ lines_for Execute entries = []
 lines_for Record entries = record_lines entries
 
 -- a command's text for a request that is answered, with the record of its polls
-pub record IsAnswered (command : Command) (request : Request) (text : List ℕ) (entries : List RecordEntry) : Type 0 where
+pub record IsAnswered (command : Command) (request : Request) (text : List ℕ)
+    (entries : List RecordEntry) : Type 0 where
   pub response : List ℕ
   pub answers : IsAnswerOf request.answers request.query response
   pub recorded : IsQueryRecord request.task_of request.turns request.query entries
@@ -53,42 +71,51 @@ abbrev pub QueryGives : Command → Request → Written → List RecordEntry →
 QueryGives command request (Answered text) entries = IsAnswered command request text entries
 QueryGives command request (Refused text) entries = IsRefusalOf request.query text × (entries ≡ [])
 QueryGives command request NotBuilt entries =
-    ((text : List ℕ) → IsAnswerOf request.answers request.query text → ⊥) × ((text : List ℕ) → IsRefusalOf request.query text → ⊥)
+    ((text : List ℕ) → IsAnswerOf request.answers request.query text → ⊥)
+    × ((text : List ℕ) → IsRefusalOf request.query text → ⊥)
 QueryGives command request NotJson entries = ⊥
 QueryGives command request (BadShape line) entries = ⊥
 QueryGives command request (BadSchema line) entries = ⊥
 
 -- no text is the answer of a bench
 abbrev pub HasNoAnswer : BenchForm → Type 0
-HasNoAnswer form = ((text : List ℕ) → IsAnswer form text → ⊥) × ((text : List ℕ) → IsRefusal form text → ⊥)
+HasNoAnswer form =
+    ((text : List ℕ) → IsAnswer form text → ⊥) × ((text : List ℕ) → IsRefusal form text → ⊥)
 
 -- the table of a bench's types is refused, and the line that tells why is written
 abbrev pub IsBadSchema : BenchForm → Written → Type 0
-IsBadSchema form written = (text : List ℕ) × IsRefusedBy form text × (written ≡ BadSchema (schema_line text))
+IsBadSchema form written =
+    (text : List ℕ) × IsRefusedBy form text × (written ≡ BadSchema (schema_line text))
 
 -- what a bench gives to a command where its types are sound
 abbrev pub SoundGives : Command → BenchForm → Written → List RecordEntry → Type 0
-SoundGives command form (Answered text) entries = (first : FirstBench) × IsFirstBench form first × IsAnswered command (first_request first) text entries
+SoundGives command form (Answered text) entries =
+    (first : FirstBench) × IsFirstBench form first
+    × IsAnswered command (first_request first) text entries
 SoundGives command form (Refused text) entries = IsRefusal form text × (entries ≡ [])
 SoundGives command form NotBuilt entries = HasNoAnswer form
 SoundGives command form NotJson entries = ⊥
 SoundGives command form (BadShape line) entries = ⊥
 SoundGives command form (BadSchema line) entries = ⊥
 
--- what a bench gives to a command: the line of its schema's first refusal, or what it gives over sound types
+-- what a bench gives to a command: the line of its schema's first refusal, or what it gives over
+-- sound types
 abbrev pub BenchGives : Command → BenchForm → Written → List RecordEntry → Type 0
 BenchGives command form written entries =
     IsBadSchema form written ⊎ (HasSoundTypes form × SoundGives command form written entries)
 
--- what a JSON value gives to a command: the line of its first bad place, or what it gives as a bench
+-- what a JSON value gives to a command: the line of its first bad place, or what it gives as a
+-- bench
 abbrev pub JsonGives : Command → Data → Written → List RecordEntry → Type 0
 JsonGives command json (BadShape line) entries = IsBadShape command json line
-JsonGives command json written entries = (form : BenchForm) × IsReadAs command json form × BenchGives command form written entries
+JsonGives command json written entries =
+    (form : BenchForm) × IsReadAs command json form × BenchGives command form written entries
 
 -- what the bytes of a bench give to a command
 abbrev pub Gives : Command → List ℕ → Written → List RecordEntry → Type 0
 Gives command bytes NotJson entries = json_of bytes ≡ None
-Gives command bytes written entries = (json : Data) × (json_of bytes ≡ Some json) × JsonGives command json written entries
+Gives command bytes written entries =
+    (json : Data) × (json_of bytes ≡ Some json) × JsonGives command json written entries
 
 -- where there is a response
 abbrev pub IfResponse : Written → Type 0 → Type 0
@@ -100,11 +127,14 @@ IfResponse (BadSchema line) P = Unit {0}
 IfResponse NotBuilt P = Unit {0}
 
 -- this text is given with some record, and where it is a response, that record was told
-abbrev pub WithRecord : (Written → List RecordEntry → Type 0) → (List RecordEntry → Type 0) → Written → Type 0
-WithRecord GivesBoth Told written = (entries : List RecordEntry) × GivesBoth written entries × IfResponse written (Told entries)
+abbrev pub WithRecord : (Written → List RecordEntry → Type 0) → (List RecordEntry → Type 0)
+    → Written → Type 0
+WithRecord GivesBoth Told written =
+    (entries : List RecordEntry) × GivesBoth written entries × IfResponse written (Told entries)
 
 -- a set is held, and it told these entries and nothing else
-abbrev pub HoldsTold : {S : Type 0} → Option S → (S → Option (List RecordEntry)) → List RecordEntry → Type 0
+abbrev pub HoldsTold : {S : Type 0} → Option S → (S → Option (List RecordEntry)) → List RecordEntry
+    → Type 0
 HoldsTold held told entries = MatchOption held ⊥ (λ set. told set ≡ Some entries)
 
 -- lines before an answer

@@ -21,8 +21,9 @@ use Rattle.gql_cli.specs.declared.tables.Bench.{Bench}
 abbrev pub bench_answers : Bench → List ℕ → Option Value
 bench_answers bench name = root_constant bench.types bench.query bench.rules name
 
--- the bench with tables: its types are the whole table of the schema, in which no rule is broken; its rules, its cells and its
--- turns are those of a first bench, and its request is the first bench's query
+-- the bench with tables: its types are the whole table of the schema, in which no rule is broken;
+-- its rules, its cells and its turns are those of a first bench, and its request is the first
+-- bench's query
 pub record IsBenchOf (form : BenchForm) (bench : Bench) : Type 0 where
   pub first : FirstBench
   pub is : IsFirstBench form first
@@ -45,8 +46,10 @@ pub record IsSuited (bench : Bench) : Type 0 where
 pub record AnswersBy (rules : List Rule) (answer : Call ℤ → Answer ℤ) : Type 0 where
   pub ruled : (call : Call ℤ) → answer call ≡ rule_answer (slice_get rules call.resolver)
 
--- A set as tables make it for a bench: it is lawful and paced by the bench's rules, and was told nothing yet.
-pub record IsSetOf (bench : Bench) (Lawful Paced : Type 0) (answer : Call ℤ → Answer ℤ) (delay : ℕ → ℕ) (told : Option (List RecordEntry)) : Type 0 where
+-- A set as tables make it for a bench: it is lawful and paced by the bench's rules, and was told
+-- nothing yet.
+pub record IsSetOf (bench : Bench) (Lawful Paced : Type 0) (answer : Call ℤ → Answer ℤ)
+    (delay : ℕ → ℕ) (told : Option (List RecordEntry)) : Type 0 where
   pub lawful : Lawful
   pub paced : Paced
   pub answers : AnswersBy bench.rules answer

@@ -1,5 +1,7 @@
--- The record of a bench's query: the polls of its resolvers, in the order that the bench's turns fix, and the lines that tell it.
-use Rattle.std.specs.Prelude.{◌≡◌, ℕ, suc, Bool, true, false, List, [], ◌∷◌, ◌++◌, Option, Some, option_map, option_and_then, codes}
+-- The record of a bench's query: the polls of its resolvers, in the order that the bench's turns
+-- fix, and the lines that tell it.
+use Rattle.std.specs.Prelude.{◌≡◌, ℕ, suc, Bool, true, false, List, [], ◌∷◌, ◌++◌, Option, Some}
+use Rattle.std.specs.Prelude.{option_map, option_and_then, codes}
 use Rattle.std.specs.Fmt.{decimal}
 use Rattle.std.specs.List.{AllZip, flat_map}
 use Rattle.std.specs.Str.{chars}
@@ -21,8 +23,8 @@ use Rattle.gql_cli.specs.declared.first_bench.FirstField.{FirstField}
 use Rattle.gql_cli.specs.declared.rule.Rule.{Rule}
 use Rattle.gql_cli.specs.declared.tables.Bench.{Bench}
 
--- a task of a bench's query: the number of its resolver, the name of its field, which is the text of its path, and the
--- number of polls that are pending before its answer
+-- a task of a bench's query: the number of its resolver, the name of its field, which is the text
+-- of its path, and the number of polls that are pending before its answer
 pub record BenchTask : Type 0 where
   pub resolver : ℕ
   pub name : List ℕ
@@ -32,40 +34,51 @@ pub record BenchTask : Type 0 where
 abbrev pub story : Story BenchTask
 story = record { resolver = λ task. task.resolver; path = λ task. task.name; beneath = λ task. [] }
 
--- a whole record of these tasks: the turns of a list choose each entry's task among those that wait, and each task has as
--- many pending entries as its delay, and then its ready one
-pub record IsRecord (turns : List ℕ) (tasks : List BenchTask) (entries : List RecordEntry) : Type 0 where
-  pub turned : Turned list_turns story (turns, 0) (fresh tasks) entries
-  pub whole : waiting (made_at story (fresh tasks) entries) ≡ []
-  pub paced : EachPaced (λ task. task.delay) tasks entries
+-- a whole record of these tasks: the turns of a list choose each entry's task among those that
+-- wait, and each task has as many pending entries as its delay, and then its ready one
+pub record IsRecord (turns : List ℕ) (tasks : List BenchTask) (entries : List RecordEntry) : Type 0
+  where
+    pub turned : Turned list_turns story (turns, 0) (fresh tasks) entries
+    pub whole : waiting (made_at story (fresh tasks) entries) ≡ []
+    pub paced : EachPaced (λ task. task.delay) tasks entries
 
 -- the tasks are those of the fields of these names, in their order
 abbrev pub AreAsked : (List ℕ → Option BenchTask) → List (List ℕ) → List BenchTask → Type 0
 AreAsked task_of = AllZip (λ name task. task_of name ≡ Some task)
 
--- the fields of a first bench as tasks, each under its name, with resolvers that are numbered from here on
+-- the fields of a first bench as tasks, each under its name, with resolvers that are numbered from
+-- here on
 abbrev pub tasks_from : ℕ → List FirstField → List (List ℕ × BenchTask)
 tasks_from number [] = []
 tasks_from number (field ∷ fields) =
-    (field.name, record { resolver = number; name = field.name; delay = field.delay }) ∷ tasks_from (suc number) fields
+    (field.name, record { resolver = number; name = field.name; delay = field.delay })
+    ∷ tasks_from (suc number) fields
 
 abbrev pub first_task : FirstBench → List ℕ → Option BenchTask
 first_task first name = under name (tasks_from 0 first.fields)
 
 -- the same of a bench: a field of the query root, by the rule of its resolver
 abbrev pub task_with : List Rule → List ℕ → Field → BenchTask
-task_with rules name field = record { resolver = resolver_of field; name = name; delay = table_delay rules (resolver_of field) }
+task_with rules name field =
+    record {
+      resolver = resolver_of field;
+      name = name;
+      delay = table_delay rules (resolver_of field);
+    }
 
 abbrev pub bench_task : Bench → List ℕ → Option BenchTask
 bench_task bench name =
-    option_map (task_with bench.rules name) (option_and_then (λ object. under name (fields_of object)) (bench_object bench))
+    option_map (task_with bench.rules name)
+    (option_and_then (λ object. under name (fields_of object)) (bench_object bench))
 
 -- the set told such a record, and nothing else
 abbrev pub HasTold : Option (List RecordEntry) → List ℕ → List BenchTask → Type 0
-HasTold told turns tasks = (entries : List RecordEntry) × (told ≡ Some entries) × IsRecord turns tasks entries
+HasTold told turns tasks =
+    (entries : List RecordEntry) × (told ≡ Some entries) × IsRecord turns tasks entries
 
 -- the document asks for some names, and these are the polls of their tasks
-pub record IsDocumentRecord (task_of : List ℕ → Option BenchTask) (turns : List ℕ) (document : ExecutableDocument) (entries : List RecordEntry) : Type 0 where
+pub record IsDocumentRecord (task_of : List ℕ → Option BenchTask) (turns : List ℕ)
+    (document : ExecutableDocument) (entries : List RecordEntry) : Type 0 where
   pub names : List (List ℕ)
   pub selects : Selects document names
   pub tasks : List BenchTask
@@ -73,13 +86,17 @@ pub record IsDocumentRecord (task_of : List ℕ → Option BenchTask) (turns : L
   pub is : IsRecord turns tasks entries
 
 -- such a record was told, and nothing else
-abbrev pub HasToldFor : (List ℕ → Option BenchTask) → List ℕ → ExecutableDocument → Option (List RecordEntry) → Type 0
-HasToldFor task_of turns document told = (entries : List RecordEntry) × (told ≡ Some entries) × IsDocumentRecord task_of turns document entries
+abbrev pub HasToldFor : (List ℕ → Option BenchTask) → List ℕ → ExecutableDocument
+    → Option (List RecordEntry) → Type 0
+HasToldFor task_of turns document told =
+    (entries : List RecordEntry) × (told ≡ Some entries)
+    × IsDocumentRecord task_of turns document entries
 
 -- the record of a query over the tasks of names
 abbrev pub IsQueryRecord : (List ℕ → Option BenchTask) → List ℕ → List ℕ → List RecordEntry → Type 0
 IsQueryRecord task_of turns query entries =
-    (document : ExecutableDocument) × SpellsDocument (chars query) document × IsDocumentRecord task_of turns document entries
+    (document : ExecutableDocument) × SpellsDocument (chars query) document
+    × IsDocumentRecord task_of turns document entries
 
 abbrev pub poll_word : Bool → List ℕ
 poll_word true = codes "ready"
@@ -87,7 +104,9 @@ poll_word false = codes "pending"
 
 -- the line of an entry: its task, the text of its path, and how the poll went
 abbrev pub entry_line : RecordEntry → List ℕ
-entry_line entry = decimal entry.task ++ (codes " " ++ (entry.path ++ (codes " " ++ (poll_word entry.ready ++ codes "\n"))))
+entry_line entry =
+    decimal entry.task
+    ++ (codes " " ++ (entry.path ++ (codes " " ++ (poll_word entry.ready ++ codes "\n"))))
 
 abbrev pub record_lines : List RecordEntry → List ℕ
 record_lines entries = flat_map entry_line entries

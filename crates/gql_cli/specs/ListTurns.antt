@@ -6,7 +6,8 @@ abbrev pub chosen_by : Option ℕ → ℕ → ℕ
 chosen_by None n = 0
 chosen_by (Some number) n = number % n
 
--- the next number's remainder chooses among n tasks, and where the list is used up the first of them
+-- the next number's remainder chooses among n tasks, and where the list is used up the first of
+-- them
 abbrev pub list_choice : List ℕ × ℕ → ℕ → ℕ
 list_choice state n = chosen_by (slice_get state.0 state.1) n
 

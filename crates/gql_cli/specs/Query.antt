@@ -1,4 +1,5 @@
--- What a document asks for, where it is a query for some fields by their names alone (GraphQL, October 2021, section 2).
+-- What a document asks for, where it is a query for some fields by their names alone (GraphQL,
+-- October 2021, section 2).
 use Rattle.std.specs.Prelude.{◌≡◌, ◌≢◌, ℕ, List, [], All, None, map, codes}
 use Rattle.std.specs.List.{AllZip}
 use Rattle.gql_base.specs.Pairs.{HasDistinctNames}
@@ -48,9 +49,11 @@ bare name = (name, tt)
 abbrev pub AreDistinct : List (List ℕ) → Type 0
 AreDistinct names = HasDistinctNames (map bare names)
 
--- names that can be selected together: at least one, none of them twice, and not that of the type's own name
+-- names that can be selected together: at least one, none of them twice, and not that of the type's
+-- own name
 abbrev pub IsSelectable : List (List ℕ) → Type 0
-IsSelectable names = (names ≢ []) × AreDistinct names × All (λ name. name ≢ codes "__typename") names
+IsSelectable names =
+    (names ≢ []) × AreDistinct names × All (λ name. name ≢ codes "__typename") names
 
 -- the document asks for these names, and they can be selected together
 abbrev pub Selects : ExecutableDocument → List (List ℕ) → Type 0

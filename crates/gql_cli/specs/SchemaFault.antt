@@ -11,7 +11,8 @@ HasSoundTypes form = IsSound (whole_table form.setup.schema)
 
 -- the table of a bench's types is refused, and this text says why
 abbrev pub IsRefusedBy : BenchForm → List ℕ → Type 0
-IsRefusedBy form text = (error : SchemaError) × IsFirstRefusal (whole_table form.setup.schema) error × (text ≡ error.text)
+IsRefusedBy form text =
+    (error : SchemaError) × IsFirstRefusal (whole_table form.setup.schema) error × (text ≡ error.text)
 
 -- the line that tells why a schema is refused
 abbrev pub schema_line : List ℕ → List ℕ

@@ -33,15 +33,18 @@ shape_line place = codes "bench: bad shape at " ++ (place ++ 10 ∷ [])
 
 -- the JSON value is no bench, and this line tells its first bad place
 abbrev pub IsBadShape : Command → Data → List ℕ → Type 0
-IsBadShape command json line = (place : List ℕ) × IsBadAt command json place × (line ≡ shape_line place)
+IsBadShape command json line =
+    (place : List ℕ) × IsBadAt command json place × (line ≡ shape_line place)
 
 -- the JSON value is a bench with these tables
 abbrev pub HasTables : Command → Data → Bench → Type 0
-HasTables command json bench = (form : BenchForm) × IsReadAs command json form × IsBenchOf form bench
+HasTables command json bench =
+    (form : BenchForm) × IsReadAs command json form × IsBenchOf form bench
 
 -- the JSON value is a bench whose schema is refused, and this text says why
 abbrev pub IsRefusedAs : Command → Data → List ℕ → Type 0
-IsRefusedAs command json text = (form : BenchForm) × IsReadAs command json form × IsRefusedBy form text
+IsRefusedAs command json text =
+    (form : BenchForm) × IsReadAs command json form × IsRefusedBy form text
 
 -- a bench with sound types is of a form that isn't built
 abbrev pub IsUnbuilt : BenchForm → Type 0

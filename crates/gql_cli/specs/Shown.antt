@@ -6,7 +6,8 @@ use Rattle.gql_place.specs.declared.place.Place.{Place}
 use Rattle.gql_place.specs.declared.place.Tree.{Tree, out-Tree}
 use Rattle.gql_place.specs.declared.place.Tree.TheOpen.{Tree-F}
 
--- a leaf shows its value, and whatever has no value null; objects and lists beneath a field are to come
+-- a leaf shows its value, and whatever has no value null; objects and lists beneath a field are to
+-- come
 abbrev pub value_here : Tree-F Tree Place → Value
 value_here Tree-F.Absent = value.Null
 value_here (Tree-F.Leaf leaf) = leaf

@@ -1,7 +1,9 @@
 -- The statuses of the program, as numbers.
 use Rattle.std.specs.Prelude.{ℕ}
 use Rattle.gql_cli.specs.declared.status.Status.{Status}
-use Rattle.gql_cli.specs.declared.status.Status.TheVariants.{Done, HasErrors, Usage, Refused, ReadFault, WriteFault, NoMemory, TooLong}
+use Rattle.gql_cli.specs.declared.status.Status.TheVariants.{Done, HasErrors, Usage, Refused}
+use Rattle.gql_cli.specs.declared.status.Status.TheVariants.{ReadFault, WriteFault, NoMemory}
+use Rattle.gql_cli.specs.declared.status.Status.TheVariants.{TooLong}
 
 abbrev pub code_of : Status → ℕ
 code_of Done = 0

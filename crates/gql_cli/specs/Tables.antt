@@ -1,5 +1,6 @@
 -- A bench's tables: its types, and the rules of its resolvers by their numbers.
-use Rattle.std.specs.Prelude.{◌≡◌, ℕ, suc, List, [], ◌∷◌, map, Option, Some, None, option_map, option_and_then, slice_get}
+use Rattle.std.specs.Prelude.{◌≡◌, ℕ, suc, List, [], ◌∷◌, map, Option, Some, None, option_map}
+use Rattle.std.specs.Prelude.{option_and_then, slice_get}
 use Rattle.gql_base.specs.Pairs.{under}
 use Rattle.gql_base.specs.declared.type_ref.TypeRef.{TypeRef}
 use Rattle.gql_base.specs.declared.type_ref.TypeRef.TheVariants.{Named}
@@ -33,7 +34,8 @@ object_in _ = None
 -- the constant that an object's field of this name answers, by the rule of its resolver
 abbrev pub field_constant : Object → List Rule → List ℕ → Option Value
 field_constant object rules name =
-    option_and_then (λ field. option_map constant_of (slice_get rules (resolver_of field))) (under name (fields_of object))
+    option_and_then (λ field. option_map constant_of (slice_get rules (resolver_of field)))
+    (under name (fields_of object))
 
 -- the object of this name
 abbrev pub object_under : List ℕ → List (List ℕ × SchemaType) → Option Object
@@ -42,7 +44,8 @@ object_under name table = option_and_then object_in (under name table)
 -- the same of the query root
 abbrev pub root_constant : Types → List ℕ → List Rule → List ℕ → Option Value
 root_constant types root rules name =
-    option_and_then (λ object. field_constant object rules name) (object_under root (types_of types))
+    option_and_then (λ object. field_constant object rules name)
+    (object_under root (types_of types))
 
 -- the rule of a field's resolver
 abbrev pub rule_of : FirstField → Rule
@@ -55,9 +58,11 @@ entry_of p = (p.0, (field_type p.1, resolver_of p.1))
 -- the same of fields whose resolvers are numbered from here on
 abbrev pub entries : ℕ → List FirstField → List (List ℕ × (TypeRef × ℕ))
 entries number [] = []
-entries number (field ∷ fields) = (field.name, (Named field.type_name, number)) ∷ entries (suc number) fields
+entries number (field ∷ fields) =
+    (field.name, (Named field.type_name, number)) ∷ entries (suc number) fields
 
--- an object type has just these fields in their order, with resolvers numbered from 0, and the rules are theirs
+-- an object type has just these fields in their order, with resolvers numbered from 0, and the
+-- rules are theirs
 pub record IsTabled (object : Object) (rules : List Rule) (fields : List FirstField) : Type 0 where
   pub shown : map entry_of (fields_of object) ≡ entries 0 fields
   pub ruled : rules ≡ map rule_of fields
@@ -71,7 +76,8 @@ pub record IsMadeOf (first : FirstBench) (table : Types) (bench : Bench) : Type 
   pub turns : bench.turns ≡ first.turns
   pub request : bench.request ≡ first.query
 
--- a bench has the tables of a first bench, whose root is an object of its types, no cells, and the first bench's turns
+-- a bench has the tables of a first bench, whose root is an object of its types, no cells, and the
+-- first bench's turns
 pub record IsTableOf (first : FirstBench) (bench : Bench) : Type 0 where
   pub object : Object
   pub root : bench.query ≡ first.root

@@ -1,5 +1,6 @@
 //! The answer of a first bench.
-ghost use Rattle.std.specs.Prelude.{◌≡◌, ◌++◌, ℕ, List, [], ◌∷◌, map, codes, IfOk, OnOk, IfSome, MatchOption, string_bytes};
+ghost use Rattle.std.specs.Prelude.{◌≡◌, ◌++◌, ℕ, List, [], ◌∷◌, map, codes, IfOk, OnOk, IfSome};
+ghost use Rattle.std.specs.Prelude.{MatchOption, string_bytes};
 ghost use Rattle.gql_base.specs.Json.{json};
 ghost use Rattle.gql_base.specs.Separated.{separated};
 ghost use Rattle.gql_place.specs.declared.place.Tree.{out-Tree};
@@ -17,8 +18,8 @@ use gql_place::{Place, Tree};
 use gql_resolve::ResolverSet;
 use std::alloc::Global;
 
-/// The line of the response to a document that asks for some fields by their names alone, where each is a field. It is
-/// run over a set of the bench.
+/// The line of the response to a document that asks for some fields by their names alone, where
+/// each is a field. It is run over a set of the bench.
 pub(crate) fn response_of<S: ResolverSet<Own = i64>>(
     alloc: Global,
     bench: &Bench,
@@ -27,7 +28,8 @@ pub(crate) fn response_of<S: ResolverSet<Own = i64>>(
 ) -> Made<Option<Text>>
     requires suited { IsSuited bench.now }
     requires set { IsSetOf bench.now (S.is_lawful set.old) (S.is_paced set.old)
-        (λ call. S.answer (S.rules set.old) call (S.world set.old)) (S.delay (S.rules set.old)) (S.told set.old) }
+        (λ call. S.answer (S.rules set.old) call (S.world set.old)) (S.delay (S.rules set.old))
+        (S.told set.old) }
     ensures response { IfOk result (λ found. MatchOption found
         ((text : List ℕ) → IsResponse (bench_answers bench.now) document text → ⊥)
         (IsResponse (bench_answers bench.now) document)) }
@@ -69,7 +71,8 @@ fn place_line(alloc: Global, place: &Place) -> Made<Text>
 /// Appends the members of an object.
 fn push_data(out: &mut String, tree: &Tree) -> Made<()>
     ensures { OnOk result (string_bytes out.new ≡ string_bytes out.old
-        ++ separated (codes ",") (map (λ member. shown (shown_value member)) (members_here (out-Tree tree.now)))) }
+        ++ separated (codes ",")
+        (map (λ member. shown (shown_value member)) (members_here (out-Tree tree.now)))) }
 {
     match tree {
         Tree::Object(members) => push_places(out, members),
@@ -93,7 +96,8 @@ fn push_places(out: &mut String, members: &Pairs<Place>) -> Made<()>
 
 /// Appends what a place shows.
 fn push_tree(out: &mut String, tree: &Tree) -> Made<()>
-    ensures { OnOk result (string_bytes out.new ≡ string_bytes out.old ++ json (value_here (out-Tree tree.now))) }
+    ensures { OnOk result (string_bytes out.new ≡ string_bytes out.old
+        ++ json (value_here (out-Tree tree.now))) }
 {
     match tree {
         Tree::Leaf(value) => push_json(out, value),

@@ -4,10 +4,12 @@ ghost use Rattle.serde_json.specs.View.{view};
 ghost use Rattle.gql_bench.specs.SchemaTable.{full_table, whole_table};
 ghost use Rattle.gql_schema.specs.Finished.{KeepsOthers};
 ghost use Rattle.gql_schema.specs.Table.{types_of};
-ghost use Rattle.gql_cli.specs.Bench.{json_of, bench_request, behind, lines_for, JsonGives, QueryGives, Gives, HoldsTold, WithRecord};
+ghost use Rattle.gql_cli.specs.Bench.{json_of, bench_request, behind, lines_for, JsonGives};
+ghost use Rattle.gql_cli.specs.Bench.{QueryGives, Gives, HoldsTold, WithRecord};
 ghost use Rattle.gql_cli.specs.BenchAnswers.{IsSuited, IsSetOf};
 ghost use Rattle.gql_cli.specs.SchemaFault.{schema_line, HasSoundTypes};
-ghost use Rattle.gql_cli.specs.Shape.{form_command, shape_line, HasTables, IsBadAt, IsFound, IsFoundOf, IsNotBuilt, IsRefusedAs};
+ghost use Rattle.gql_cli.specs.Shape.{form_command, shape_line, HasTables, IsBadAt, IsFound};
+ghost use Rattle.gql_cli.specs.Shape.{IsFoundOf, IsNotBuilt, IsRefusedAs};
 
 use crate::answer::{refusal_of, response_of};
 use crate::first_bench::first_of;
@@ -81,7 +83,8 @@ pub(crate) fn text_of<M: Tables>(
     bytes: &[u8],
     tables: &mut M,
 ) -> Made<Written>
-    ensures { IfOk result (WithRecord (Gives command bytes.now) (HoldsTold (M.held tables.new) M.Set.told)) }
+    ensures { IfOk result
+        (WithRecord (Gives command bytes.now) (HoldsTold (M.held tables.new) M.Set.told)) }
 {
     match json_value(alloc, bytes)? {
         None => Ok(Written::NotJson),
@@ -100,14 +103,16 @@ fn json_value(alloc: Global, bytes: &[u8]) -> Made<Option<Value>>
     }
 }
 
-/// What a JSON value gives to a command. The value is let go of once it is read, so that its room serves the run.
+/// What a JSON value gives to a command. The value is let go of once it is read, so that its room
+/// serves the run.
 fn bench_text<M: Tables>(
     alloc: Global,
     command: Command,
     json: Value,
     tables: &mut M,
 ) -> Made<Written>
-    ensures { IfOk result (WithRecord (JsonGives command (view json)) (HoldsTold (M.held tables.new) M.Set.told)) }
+    ensures { IfOk result
+        (WithRecord (JsonGives command (view json)) (HoldsTold (M.held tables.new) M.Set.told)) }
 {
     let read = find_bench(alloc, command, &json);
     drop(json);
@@ -140,8 +145,8 @@ fn bad_schema_line(alloc: Global, text: &Text) -> Made<Text>
     Ok(Text::from_string(out))
 }
 
-/// What a bench's request gives to a command. It is run over a set that `tables` makes, and that is given back to them
-/// before the command writes of its record.
+/// What a bench's request gives to a command. It is run over a set that `tables` makes, and that is
+/// given back to them before the command writes of its record.
 #[tactic(auto, using(crate::proofs::RecordTextLemmas::made_behind))]
 fn query_text<M: Tables>(
     alloc: Global,
@@ -150,7 +155,9 @@ fn query_text<M: Tables>(
     tables: &mut M,
 ) -> Made<Written>
     requires { IsSuited bench.now }
-    ensures { IfOk result (WithRecord (QueryGives command (bench_request bench.now)) (HoldsTold (M.held tables.new) M.Set.told)) }
+    ensures { IfOk result
+        (WithRecord (QueryGives command (bench_request bench.now))
+        (HoldsTold (M.held tables.new) M.Set.told)) }
 {
     let mut set = tables.make(alloc, bench)?;
     let answer = query_answer(alloc, bench, &mut set);
@@ -166,8 +173,11 @@ fn query_answer<S: ResolverSet<Own = i64>>(
 ) -> Made<Written>
     requires suited { IsSuited bench.now }
     requires set { IsSetOf bench.now (S.is_lawful set.old) (S.is_paced set.old)
-        (λ call. S.answer (S.rules set.old) call (S.world set.old)) (S.delay (S.rules set.old)) (S.told set.old) }
-    ensures { IfOk result (WithRecord (QueryGives Command.Execute (bench_request bench.now)) (λ entries. S.told set.new ≡ Some entries)) }
+        (λ call. S.answer (S.rules set.old) call (S.world set.old)) (S.delay (S.rules set.old))
+        (S.told set.old) }
+    ensures { IfOk result
+        (WithRecord (QueryGives Command.Execute (bench_request bench.now))
+        (λ entries. S.told set.new ≡ Some entries)) }
 {
     match parse_query(alloc, bench.request.as_str())? {
         Ok(document) => match response_of(alloc, bench, document, set)? {
@@ -195,8 +205,8 @@ fn with_lines(
     }
 }
 
-/// The bench of a JSON value for a command. Else the text of its first bad place; or of its schema's first refusal; or `not built
-/// yet`, where it is a bench of a form that isn't built.
+/// The bench of a JSON value for a command. Else the text of its first bad place; or of its
+/// schema's first refusal; or `not built yet`, where it is a bench of a form that isn't built.
 pub fn bench_of(alloc: Global, command: Command, json: &Value) -> Made<Result<Bench, Text>>
     ensures { IfOk result (λ made. MatchResult made
         (HasTables command (view json.now))
@@ -221,7 +231,8 @@ fn find_bench(alloc: Global, command: Command, json: &Value) -> Made<Found>
     }
 }
 
-/// What a bench is found to be: its schema is checked first. It is let go of once its tables are made.
+/// What a bench is found to be: its schema is checked first. It is let go of once its tables are
+/// made.
 fn found_of(alloc: Global, form: BenchForm) -> Made<Found>
     ensures { IfOk result (IsFoundOf form) }
 {

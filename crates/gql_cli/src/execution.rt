@@ -4,7 +4,8 @@ ghost use Rattle.gql_base.specs.declared.value.Value.{Value as OneValue};
 ghost use Rattle.gql_doc.specs.declared.document.DocumentOperations.TheVariants as operations;
 ghost use Rattle.gql_resolve.specs.Call.{is_mutation};
 ghost use Rattle.gql_cli.specs.Answer.{Chooses};
-ghost use Rattle.gql_cli.specs.BenchAnswers.{bench_answers, bench_object, IsSuited, IsSetOf, AnswersBy};
+ghost use Rattle.gql_cli.specs.BenchAnswers.{bench_answers, bench_object, IsSuited, IsSetOf};
+ghost use Rattle.gql_cli.specs.BenchAnswers.{AnswersBy};
 ghost use Rattle.gql_cli.specs.BenchRecord.{BenchTask, AreAsked, HasTold, bench_task};
 ghost use Rattle.gql_cli.specs.Query.{AreDistinct, Asks, IsBareQuery, IsNamesQuery};
 ghost use Rattle.gql_cli.specs.Shown.{data_of};
@@ -20,7 +21,8 @@ use gql_request::{Data, Hooks, IntrospectionMode, QueryEnv};
 use gql_resolve::{FieldValue, Layers, ResolverSet};
 use std::alloc::{AllocError, Global};
 
-/// Runs a query for some fields by their names over a set of the bench. The answer is the place of the response.
+/// Runs a query for some fields by their names over a set of the bench. The answer is the place of
+/// the response.
 pub(crate) fn run_query<S: ResolverSet<Own = i64>>(
     alloc: Global,
     bench: &Bench,
@@ -30,17 +32,22 @@ pub(crate) fn run_query<S: ResolverSet<Own = i64>>(
     requires suited { IsSuited bench.now }
     requires query { IsNamesQuery document }
     requires set { IsSetOf bench.now (S.is_lawful set.old) (S.is_paced set.old)
-        (λ call. S.answer (S.rules set.old) call (S.world set.old)) (S.delay (S.rules set.old)) (S.told set.old) }
-    ensures data { (names : List (List ℕ)) → Asks document names → AreDistinct names → (chosen : List (List ℕ × OneValue))
-        → Chooses (bench_answers bench.now) names chosen → IfOk result (λ place. data_of place ≡ chosen) }
+        (λ call. S.answer (S.rules set.old) call (S.world set.old)) (S.delay (S.rules set.old))
+        (S.told set.old) }
+    ensures data { (names : List (List ℕ)) → Asks document names → AreDistinct names
+        → (chosen : List (List ℕ × OneValue))
+        → Chooses (bench_answers bench.now) names chosen
+        → IfOk result (λ place. data_of place ≡ chosen) }
     ensures record { (names : List (List ℕ)) → Asks document names → (tasks : List BenchTask)
-        → AreAsked (bench_task bench.now) names tasks → OnOk result (HasTold (S.told set.new) bench.now.turns tasks) }
+        → AreAsked (bench_task bench.now) names tasks
+        → OnOk result (HasTold (S.told set.new) bench.now.turns tasks) }
 {
     let env = env_of(alloc, document);
     run_env(alloc, bench, &env, set)
 }
 
-/// What the execution of a document with one operation without a name knows of its request. Beneath names there are no sets.
+/// What the execution of a document with one operation without a name knows of its request. Beneath
+/// names there are no sets.
 fn env_of(alloc: Global, document: ExecutableDocument) -> QueryEnv
     requires { IsNamesQuery document }
     ensures { document.operations ≡ operations.Single result.operation }
@@ -71,13 +78,20 @@ fn run_env<S: ResolverSet<Own = i64>>(
 ) -> Made<Place>
     requires suited { IsSuited bench.now }
     requires query { is_mutation env.now.operation.node.ty ≡ false }
-    ensures data { S.is_lawful set.old → AnswersBy bench.now.rules (λ call. S.answer (S.rules set.old) call (S.world set.old))
-        → (names : List (List ℕ)) → IsBareQuery env.now.operation.node names → AreDistinct names → (chosen : List (List ℕ × OneValue))
-        → Chooses (bench_answers bench.now) names chosen → IfOk result (λ place. data_of place ≡ chosen) }
+    ensures data { S.is_lawful set.old
+        → AnswersBy bench.now.rules (λ call. S.answer (S.rules set.old) call (S.world set.old))
+        → (names : List (List ℕ)) → IsBareQuery env.now.operation.node names → AreDistinct names
+        → (chosen : List (List ℕ × OneValue))
+        → Chooses (bench_answers bench.now) names chosen
+        → IfOk result (λ place. data_of place ≡ chosen) }
     ensures record { S.is_lawful set.old → S.is_paced set.old
-        → ((resolver : ℕ) → S.delay (S.rules set.old) resolver ≡ table_delay bench.now.rules resolver) → S.told set.old ≡ Some []
-        → (names : List (List ℕ)) → IsBareQuery env.now.operation.node names → (tasks : List BenchTask)
-        → AreAsked (bench_task bench.now) names tasks → OnOk result (HasTold (S.told set.new) bench.now.turns tasks) }
+        → ((resolver : ℕ)
+        → S.delay (S.rules set.old) resolver ≡ table_delay bench.now.rules resolver)
+        → S.told set.old ≡ Some []
+        → (names : List (List ℕ)) → IsBareQuery env.now.operation.node names
+        → (tasks : List BenchTask)
+        → AreAsked (bench_task bench.now) names tasks
+        → OnOk result (HasTold (S.told set.new) bench.now.turns tasks) }
 {
     let data = Data::new(alloc);
     let root = FieldValue::value(Value::Null);

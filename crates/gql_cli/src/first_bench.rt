@@ -1,11 +1,17 @@
-//! What is built of a bench so far: one object type of constant fields with delays, a query for some of them, and the turns.
+//! What is built of a bench so far: one object type of constant fields with delays, a query for
+//! some of them, and the turns.
 ghost use Rattle.std.specs.Prelude.{◌≡◌, [], option_map, IfOk};
 ghost use Rattle.std.specs.Option.{option_copied};
 ghost use Rattle.gql_base.specs.Kinds.{is_null};
 ghost use Rattle.gql_base.specs.declared.type_ref.TypeRef.{out-TypeRef};
 ghost use Rattle.gql_form.specs.Read.{the_only};
 ghost use Rattle.gql_schema.specs.Finished.{is_built_in};
-ghost use Rattle.gql_cli.specs.FirstBench.{answer_constant, are_bare_settings, bare_name_here, first_field, first_fields, first_in, first_over, is_bare_schema, is_bare_setup, is_enabled, is_first_type, is_nothing, is_null_value, is_unlogged, object_fields, object_form, plain_value, query_alone, query_of, root_fields, rule_constant, takes_constant};
+ghost use Rattle.gql_cli.specs.FirstBench.{answer_constant, are_bare_settings, bare_name_here};
+ghost use Rattle.gql_cli.specs.FirstBench.{first_field, first_fields, first_in, first_over};
+ghost use Rattle.gql_cli.specs.FirstBench.{is_bare_schema, is_bare_setup, is_enabled};
+ghost use Rattle.gql_cli.specs.FirstBench.{is_first_type, is_nothing, is_null_value, is_unlogged};
+ghost use Rattle.gql_cli.specs.FirstBench.{object_fields, object_form, plain_value, query_alone};
+ghost use Rattle.gql_cli.specs.FirstBench.{query_of, root_fields, rule_constant, takes_constant};
 
 use gql_base::{Copied, Items, Made, Name, Pairs, Text, TypeRef, Value};
 use gql_engine::takes_value;
@@ -16,8 +22,8 @@ use gql_form::{
 use gql_request::{IntrospectionMode, Request};
 use std::alloc::Global;
 
-/// A field of a first bench: its name, the name of its type, the constant that it answers, and the number of polls that are
-/// pending before.
+/// A field of a first bench: its name, the name of its type, the constant that it answers, and the
+/// number of polls that are pending before.
 #[derive(Debug, Drop)]
 pub struct FirstField {
     pub name: Name,
@@ -26,7 +32,8 @@ pub struct FirstField {
     pub delay: u64,
 }
 
-/// A first bench: the name of its object type, that type's fields, the text of the query, and the turns.
+/// A first bench: the name of its object type, that type's fields, the text of the query, and the
+/// turns.
 #[derive(Debug, Drop)]
 pub struct FirstBench {
     pub root: Name,
@@ -106,7 +113,8 @@ fn is_unlogged(hooks: HooksForm) -> bool
     }
 }
 
-/// Whether a schema has no root but that of queries, whose name isn't that of a scalar of every schema, and no settings.
+/// Whether a schema has no root but that of queries, whose name isn't that of a scalar of every
+/// schema, and no settings.
 fn is_bare_schema(schema: &SchemaForm) -> bool
     ensures { result ≡ is_bare_schema schema.now }
 {
@@ -299,7 +307,8 @@ fn plain_value(answered: &Answered) -> Option<&Value>
     }
 }
 
-/// Whether a field may have this type and take this value. Null is taken by each type that it may have.
+/// Whether a field may have this type and take this value. Null is taken by each type that it may
+/// have.
 fn takes_constant(type_name: &str, value: &Value) -> bool
     ensures { result ≡ takes_constant type_name.now value.now }
 {

@@ -16,14 +16,19 @@ pub fn limit_of_the_input()
 
 /// A query has one record at most, whatever its fields are and whatever the turns.
 pub fn one_record_of_a_query()
-    ensures { (task_of : List ℕ → Option BenchTask) (turns query : List ℕ) (one other : List OneEntry)
-        → IsQueryRecord task_of turns query one → IsQueryRecord task_of turns query other → one ≡ other }
+    ensures { (task_of : List ℕ
+        → Option BenchTask) (turns query : List ℕ) (one other : List OneEntry)
+        → IsQueryRecord task_of turns query one → IsQueryRecord task_of turns query other
+        → one ≡ other }
 {}
 
 /// The bytes of a bench give one thing to a command, and where that is a response, with one record.
 pub fn one_result_of_a_bench()
-    ensures written { (command : OneCommand) (bytes : List ℕ) (one other : OneWritten) (entries others : List OneEntry)
+    ensures written { (command : OneCommand) (bytes : List ℕ) (one other : OneWritten)
+        (entries others : List OneEntry)
         → Gives command bytes one entries → Gives command bytes other others → one ≡ other }
-    ensures told { (command : OneCommand) (bytes : List ℕ) (one other : OneWritten) (entries others : List OneEntry)
-        → Gives command bytes one entries → Gives command bytes other others → IfResponse one (entries ≡ others) }
+    ensures told { (command : OneCommand) (bytes : List ℕ) (one other : OneWritten)
+        (entries others : List OneEntry)
+        → Gives command bytes one entries → Gives command bytes other others
+        → IfResponse one (entries ≡ others) }
 {}

@@ -4,8 +4,8 @@ ghost use Rattle.std.specs.Prelude.{◌≡◌, Some};
 use gql_base::Items;
 use gql_resolve::Turns;
 
-/// Turns that a list tells: its next number chooses among the tasks that wait, by the remainder, and where the list is used
-/// up the first of them is chosen.
+/// Turns that a list tells: its next number chooses among the tasks that wait, by the remainder,
+/// and where the list is used up the first of them is chosen.
 #[derive(Debug, Drop)]
 pub struct ListTurns {
     numbers: Items<u64>,

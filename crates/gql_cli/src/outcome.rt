@@ -62,8 +62,8 @@ impl Outcome {
     }
 }
 
-/// Finds what is due: the words are looked at first, and where they are listed the source is read whole. A bench's request is
-/// run over a set that `tables` makes and holds.
+/// Finds what is due: the words are looked at first, and where they are listed the source is read
+/// whole. A bench's request is run over a set that `tables` makes and holds.
 pub(crate) fn decide<I: Source, M: Tables>(
     alloc: Global,
     words: &[String],
@@ -89,7 +89,8 @@ pub(crate) fn decide<I: Source, M: Tables>(
 
 /// The command of words, where they are a form that the program knows.
 fn command_of(words: &[String]) -> Option<Command>
-    ensures { MatchOption result (¬ IsListed (map string_bytes words.now)) (λ command. map string_bytes words.now ≡ words_for command) }
+    ensures { MatchOption result (¬ IsListed (map string_bytes words.now))
+        (λ command. map string_bytes words.now ≡ words_for command) }
 {
     match words {
         [word] => command_named(word.as_str()),
@@ -98,7 +99,8 @@ fn command_of(words: &[String]) -> Option<Command>
 }
 
 fn command_named(word: &str) -> Option<Command>
-    ensures { MatchOption result (¬ IsListed (word.now ∷ [])) (λ command. word.now ∷ [] ≡ words_for command) }
+    ensures { MatchOption result (¬ IsListed (word.now ∷ [])) (λ command. word.now
+        ∷ [] ≡ words_for command) }
 {
     match word {
         "execute" => Some(Command::Execute),

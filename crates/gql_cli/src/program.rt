@@ -1,5 +1,6 @@
 //! The program's top call.
-ghost use Rattle.std.specs.Prelude.{◌≡◌, ◌⊎◌, ◌+◌, ◌<◌, ◌≤◌, List, ℕ, length, map, string_bytes, IfSome};
+ghost use Rattle.std.specs.Prelude.{◌≡◌, ◌⊎◌, ◌+◌, ◌<◌, ◌≤◌, List, ℕ, length, map, string_bytes};
+ghost use Rattle.std.specs.Prelude.{IfSome};
 ghost use Rattle.std.specs.Io.KnownBytes.{Keeps, Appends};
 ghost use Rattle.gql_cli.specs.Bench.{Gives, HoldsTold};
 ghost use Rattle.gql_io.specs.Counts.{IsFull, HasRisen};
@@ -18,8 +19,8 @@ use crate::table_maker::Tables;
 use gql_io::{Sink, SinkFault, Source, write_whole};
 use std::alloc::Global;
 
-/// Runs the program on the words after its name. It reads its source whole, writes to its sink the text that is due or
-/// the line of a fault, and answers the status.
+/// Runs the program on the words after its name. It reads its source whole, writes to its sink the
+/// text that is due or the line of a fault, and answers the status.
 pub fn run<R, I: Source, O: Sink, M: Tables>(
     _rt: &R,
     alloc: Global,
@@ -51,8 +52,9 @@ pub fn run<R, I: Source, O: Sink, M: Tables>(
         × ((written : Written) × (entries : List OneEntry) × Gives command input written entries
         × (result ≡ due_status (Outcome.Bench written)))) }
 
-    // Where there is a response, its text was written, and `tables` hold the set that answered. That set told the record of
-    // the bench, which is the one that the text tells of, and nothing else.
+    // Where there is a response, its text was written, and `tables` hold the set that answered.
+    // That set told the record of the bench, which is the one that the text tells of, and nothing
+    // else.
     ensures told { (result ≡ 0) ⊎ (result ≡ 1)
         → (command : Command) × (map string_bytes words.now ≡ words_for command)
         × ((input : List ℕ) × IsInput I.left I.given source.old source.new input
@@ -64,27 +66,33 @@ pub fn run<R, I: Source, O: Sink, M: Tables>(
     // 5 comes only where a write failed.
     ensures write_fault { result ≡ 5 → HasRisen (O.faults sink.old) (O.faults sink.new) }
 
-    // Every other status but 6, of wanting memory, comes once the whole text is written that is due with it. At 5 and 6
-    // the front of the text that is due was written, and where memory was wanting before, nothing.
+    // Every other status but 6, of wanting memory, comes once the whole text is written that is due
+    // with it. At 5 and 6 the front of the text that is due was written, and where memory was
+    // wanting before, nothing.
     ensures written { IsCutOff result ⊎ ((due : Outcome)
-        × IsDue I.left I.given I.faults source.old source.new (HoldsTold (M.held tables.new) M.Set.told)
+        × IsDue I.left I.given I.faults source.old source.new
+        (HoldsTold (M.held tables.new) M.Set.told)
         (map string_bytes words.now) due
         × (result ≡ due_status due) × Appends (O.held sink.old) (O.held sink.new) (due_text due)) }
     ensures cut_off { result ≡ 5 → (due : Outcome)
-        × IsDue I.left I.given I.faults source.old source.new (HoldsTold (M.held tables.new) M.Set.told)
+        × IsDue I.left I.given I.faults source.old source.new
+        (HoldsTold (M.held tables.new) M.Set.told)
         (map string_bytes words.now) due
         × AppendsStart (O.held sink.old) (O.held sink.new) (due_text due) }
     ensures no_memory { result ≡ 6 → Keeps (O.held sink.old) (O.held sink.new) ⊎ ((due : Outcome)
-        × IsDue I.left I.given I.faults source.old source.new (HoldsTold (M.held tables.new) M.Set.told)
+        × IsDue I.left I.given I.faults source.old source.new
+        (HoldsTold (M.held tables.new) M.Set.told)
         (map string_bytes words.now) due
         × AppendsStart (O.held sink.old) (O.held sink.new) (due_text due)) }
 
-    // An input that is told and within the limit gives its text, unless a read or a write fails or memory is wanting.
+    // An input that is told and within the limit gives its text, unless a read or a write fails or
+    // memory is wanting.
     ensures complete { (command : Command) → map string_bytes words.now ≡ words_for command
         → IfSome (I.left source.old) (λ input. length input ≤ input_limit
         → ¬ HasRisen (I.faults source.old) (I.faults source.new)
         → ¬ HasRisen (O.faults sink.old) (O.faults sink.new)
-        → (result ≡ 6) ⊎ ((written : Written) × (entries : List OneEntry) × Gives command input written entries
+        → (result ≡ 6)
+        ⊎ ((written : Written) × (entries : List OneEntry) × Gives command input written entries
         × (result ≡ due_status (Outcome.Bench written))
         × Appends (O.held sink.old) (O.held sink.new) (due_text (Outcome.Bench written)))) }
 {
@@ -122,8 +130,9 @@ pub fn run_alone<I: Source, O: Sink, M: Tables>(
         × ((written : Written) × (entries : List OneEntry) × Gives command input written entries
         × (result ≡ due_status (Outcome.Bench written)))) }
 
-    // Where there is a response, its text was written, and `tables` hold the set that answered. That set told the record of
-    // the bench, which is the one that the text tells of, and nothing else.
+    // Where there is a response, its text was written, and `tables` hold the set that answered.
+    // That set told the record of the bench, which is the one that the text tells of, and nothing
+    // else.
     ensures told { (result ≡ 0) ⊎ (result ≡ 1)
         → (command : Command) × (map string_bytes words.now ≡ words_for command)
         × ((input : List ℕ) × IsInput I.left I.given source.old source.new input
@@ -135,27 +144,33 @@ pub fn run_alone<I: Source, O: Sink, M: Tables>(
     // 5 comes only where a write failed.
     ensures write_fault { result ≡ 5 → HasRisen (O.faults sink.old) (O.faults sink.new) }
 
-    // Every other status but 6, of wanting memory, comes once the whole text is written that is due with it. At 5 and 6
-    // the front of the text that is due was written, and where memory was wanting before, nothing.
+    // Every other status but 6, of wanting memory, comes once the whole text is written that is due
+    // with it. At 5 and 6 the front of the text that is due was written, and where memory was
+    // wanting before, nothing.
     ensures written { IsCutOff result ⊎ ((due : Outcome)
-        × IsDue I.left I.given I.faults source.old source.new (HoldsTold (M.held tables.new) M.Set.told)
+        × IsDue I.left I.given I.faults source.old source.new
+        (HoldsTold (M.held tables.new) M.Set.told)
         (map string_bytes words.now) due
         × (result ≡ due_status due) × Appends (O.held sink.old) (O.held sink.new) (due_text due)) }
     ensures cut_off { result ≡ 5 → (due : Outcome)
-        × IsDue I.left I.given I.faults source.old source.new (HoldsTold (M.held tables.new) M.Set.told)
+        × IsDue I.left I.given I.faults source.old source.new
+        (HoldsTold (M.held tables.new) M.Set.told)
         (map string_bytes words.now) due
         × AppendsStart (O.held sink.old) (O.held sink.new) (due_text due) }
     ensures no_memory { result ≡ 6 → Keeps (O.held sink.old) (O.held sink.new) ⊎ ((due : Outcome)
-        × IsDue I.left I.given I.faults source.old source.new (HoldsTold (M.held tables.new) M.Set.told)
+        × IsDue I.left I.given I.faults source.old source.new
+        (HoldsTold (M.held tables.new) M.Set.told)
         (map string_bytes words.now) due
         × AppendsStart (O.held sink.old) (O.held sink.new) (due_text due)) }
 
-    // An input that is told and within the limit gives its text, unless a read or a write fails or memory is wanting.
+    // An input that is told and within the limit gives its text, unless a read or a write fails or
+    // memory is wanting.
     ensures complete { (command : Command) → map string_bytes words.now ≡ words_for command
         → IfSome (I.left source.old) (λ input. length input ≤ input_limit
         → ¬ HasRisen (I.faults source.old) (I.faults source.new)
         → ¬ HasRisen (O.faults sink.old) (O.faults sink.new)
-        → (result ≡ 6) ⊎ ((written : Written) × (entries : List OneEntry) × Gives command input written entries
+        → (result ≡ 6)
+        ⊎ ((written : Written) × (entries : List OneEntry) × Gives command input written entries
         × (result ≡ due_status (Outcome.Bench written))
         × Appends (O.held sink.old) (O.held sink.new) (due_text (Outcome.Bench written)))) }
 {
@@ -168,8 +183,10 @@ pub fn run_alone<I: Source, O: Sink, M: Tables>(
 /// Writes what is due.
 fn deliver<O: Sink>(due: &Outcome, sink: &mut O) -> Status
     ensures whole { IsCutOff (code_of result)
-        ⊎ ((code_of result ≡ due_status due.now) × Appends (O.held sink.old) (O.held sink.new) (due_text due.now)) }
-    ensures start { IsCutOff (code_of result) → AppendsStart (O.held sink.old) (O.held sink.new) (due_text due.now) }
+        ⊎ ((code_of result ≡ due_status due.now)
+        × Appends (O.held sink.old) (O.held sink.new) (due_text due.now)) }
+    ensures start { IsCutOff (code_of result)
+        → AppendsStart (O.held sink.old) (O.held sink.new) (due_text due.now) }
     ensures cause { code_of result ≡ 5 → HasRisen (O.faults sink.old) (O.faults sink.new) }
 {
     match write_whole(sink, due.text().as_bytes()) {

@@ -1,8 +1,10 @@
 //! What a document asks for, where it is a query for some fields by their names alone.
-ghost use Rattle.std.specs.Prelude.{◌≡◌, ◌↔◌, ◌≢◌, All, codes, ℕ, List, [], ◌∷◌, IsTrue, IfOk, MatchOption, MatchBool};
+ghost use Rattle.std.specs.Prelude.{◌≡◌, ◌↔◌, ◌≢◌, All, codes, ℕ, List, [], ◌∷◌, IsTrue, IfOk};
+ghost use Rattle.std.specs.Prelude.{MatchOption, MatchBool};
 ghost use Rattle.gql_doc.specs.declared.document.Field.{out-Field};
 ghost use Rattle.std.specs.List.{AllZip};
-ghost use Rattle.gql_cli.specs.Query.{AreDistinct, IsSelectable, IsBare, IsBareQuery, HasOnlyName, Asks, Selects};
+ghost use Rattle.gql_cli.specs.Query.{AreDistinct, IsSelectable, IsBare, IsBareQuery, HasOnlyName};
+ghost use Rattle.gql_cli.specs.Query.{Asks, Selects};
 
 use gql_base::{Copied, Items, Made, Name, Pairs};
 use gql_doc::{
@@ -11,12 +13,14 @@ use gql_doc::{
 };
 use std::alloc::Global;
 
-/// The names that a document asks for, where it asks for nothing else, and they are names of fields that differ.
+/// The names that a document asks for, where it asks for nothing else, and they are names of fields
+/// that differ.
 pub(crate) fn selected_names(
     alloc: Global,
     document: &ExecutableDocument,
 ) -> Made<Option<Items<Name>>>
-    ensures { IfOk result (λ found. MatchOption found ((names : List (List ℕ)) → Selects document.now names → ⊥) (Selects document.now)) }
+    ensures { IfOk result (λ found. MatchOption found ((names : List (List ℕ))
+        → Selects document.now names → ⊥) (Selects document.now)) }
 {
     match asked_names(alloc, document)? {
         Some(names) => {
@@ -30,7 +34,8 @@ pub(crate) fn selected_names(
     }
 }
 
-/// True exactly where there is a name, no name stands twice, and none is that of the type's own name.
+/// True exactly where there is a name, no name stands twice, and none is that of the type's own
+/// name.
 fn are_selectable(alloc: Global, names: &[Name]) -> Made<bool>
     ensures { IfOk result (λ all. IsTrue all ↔ IsSelectable names.now) }
 {
@@ -69,7 +74,8 @@ fn are_distinct(alloc: Global, names: &[Name]) -> Made<bool>
 
 /// The names that a document asks for, where it is a query for names alone.
 fn asked_names(alloc: Global, document: &ExecutableDocument) -> Made<Option<Items<Name>>>
-    ensures { IfOk result (λ found. MatchOption found ((names : List (List ℕ)) → Asks document.now names → ⊥) (Asks document.now)) }
+    ensures { IfOk result (λ found. MatchOption found ((names : List (List ℕ))
+        → Asks document.now names → ⊥) (Asks document.now)) }
 {
     match &document.operations {
         DocumentOperations::Single(operation) if document.fragments.len() == 0 => {
@@ -81,7 +87,8 @@ fn asked_names(alloc: Global, document: &ExecutableDocument) -> Made<Option<Item
 
 /// The names that an operation asks for, where it is a query for names alone.
 fn bare_query(alloc: Global, operation: &OperationDefinition) -> Made<Option<Items<Name>>>
-    ensures { IfOk result (λ found. MatchOption found ((names : List (List ℕ)) → IsBareQuery operation.now names → ⊥) (IsBareQuery operation.now)) }
+    ensures { IfOk result (λ found. MatchOption found ((names : List (List ℕ))
+        → IsBareQuery operation.now names → ⊥) (IsBareQuery operation.now)) }
 {
     if operation.ty == OperationType::Query
         && operation.variable_definitions.is_empty()
@@ -96,7 +103,8 @@ fn bare_query(alloc: Global, operation: &OperationDefinition) -> Made<Option<Ite
 /// The names of selections, where each is a field with a name and nothing else.
 fn bare_names(alloc: Global, selections: &[Positioned<Selection>]) -> Made<Option<Items<Name>>>
     ensures { IfOk result (λ found. MatchOption found
-        ((names : List (List ℕ)) → AllZip IsBare selections.now names → ⊥) (AllZip IsBare selections.now)) }
+        ((names : List (List ℕ)) → AllZip IsBare selections.now names → ⊥)
+        (AllZip IsBare selections.now)) }
 {
     let mut names = Items::new(alloc);
     for selection in selections {
@@ -110,7 +118,8 @@ fn bare_names(alloc: Global, selections: &[Positioned<Selection>]) -> Made<Optio
 
 /// The name of a selection, where it is a field with a name and nothing else.
 fn bare_name(selection: &Positioned<Selection>) -> Option<&Name>
-    ensures { MatchOption result ((name : List ℕ) → IsBare selection.now name → ⊥) (λ name. IsBare selection.now name.now) }
+    ensures { MatchOption result ((name : List ℕ) → IsBare selection.now name
+        → ⊥) (λ name. IsBare selection.now name.now) }
 {
     let Selection::Field(field) = &selection.node else {
         return None;
@@ -124,7 +133,8 @@ fn bare_name(selection: &Positioned<Selection>) -> Option<&Name>
 
 /// True exactly where a field has nothing but its name.
 fn has_only_name(field: &Field) -> bool
-    ensures { MatchBool result (HasOnlyName field.now (out-Field field.now).name.node) ((name : List ℕ) → HasOnlyName field.now name → ⊥) }
+    ensures { MatchBool result (HasOnlyName field.now (out-Field field.now).name.node)
+        ((name : List ℕ) → HasOnlyName field.now name → ⊥) }
 {
     field.alias.is_none()
         && field.arguments.is_empty()

@@ -18,7 +18,8 @@ pub(crate) fn text_behind(alloc: Global, entries: &[RecordEntry], text: &Text) -
 
 /// Appends the lines of a record.
 fn push_lines(out: &mut String, entries: &[RecordEntry]) -> Made<()>
-    ensures { OnOk result (string_bytes out.new ≡ string_bytes out.old ++ record_lines entries.now) }
+    ensures { OnOk result (string_bytes out.new ≡ string_bytes out.old
+        ++ record_lines entries.now) }
 {
     for entry in entries {
         push_line(out, entry)?;

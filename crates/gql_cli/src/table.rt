@@ -7,8 +7,9 @@ use gql_resolve::{
 };
 use std::alloc::Global;
 
-/// The resolvers of a bench. A resolver answers by the rule of its number, after as many pending polls as the rule's delay;
-/// a number without a rule answers no value at once. The set tells its record, and the tasks that it began.
+/// The resolvers of a bench. A resolver answers by the rule of its number, after as many pending
+/// polls as the rule's delay; a number without a rule answers no value at once. The set tells its
+/// record, and the tasks that it began.
 #[derive(Debug, Drop)]
 pub struct Table {
     rules: Items<Rule>,
@@ -66,7 +67,8 @@ impl Table {
 
     /// The value that a resolver answers, if any.
     fn value_of(&self, alloc: Global, resolver: u32) -> Made<Option<FieldValue<i64>>>
-        ensures { IfOk result (λ value. plain_answer value ≡ rule_answer (slice_get self.now.rules resolver)) }
+        ensures { IfOk result (λ value. plain_answer value
+            ≡ rule_answer (slice_get self.now.rules resolver)) }
     {
         let Some(rule) = self.rules.get(resolver as usize) else {
             return Ok(None);

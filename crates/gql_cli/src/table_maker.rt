@@ -25,9 +25,11 @@ pub trait Tables {
         ensures paced { IfOk result Self.Set.is_paced }
         ensures world { IfOk result (λ set. Self.Set.world set ≡ bench.now.cells) }
         ensures answer { IfOk result (λ set. (call : Call ℤ) (cells : List ℤ)
-            → Self.Set.answer (Self.Set.rules set) call cells ≡ table_answer bench.now.rules call cells) }
+            → Self.Set.answer (Self.Set.rules set) call cells
+            ≡ table_answer bench.now.rules call cells) }
         ensures effect { IfOk result (λ set. (call : Call ℤ) (cells : List ℤ)
-            → Self.Set.effect (Self.Set.rules set) call cells ≡ table_effect bench.now.rules call cells) }
+            → Self.Set.effect (Self.Set.rules set) call cells
+            ≡ table_effect bench.now.rules call cells) }
         ensures delay { IfOk result (λ set. (resolver : ℕ)
             → Self.Set.delay (Self.Set.rules set) resolver ≡ table_delay bench.now.rules resolver) }
         ensures told { IfOk result (λ set. Self.Set.told set ≡ Some []) }
@@ -39,7 +41,8 @@ pub trait Tables {
 
     /// The record of the set that is held, and no entry where none is held.
     fn told(&self) -> &[RecordEntry]
-        ensures { MatchOption (held self.now) (result.now ≡ []) (λ set. IfSome (Self.Set.told set) (λ entries. result.now ≡ entries)) };
+        ensures { MatchOption (held self.now) (result.now
+            ≡ []) (λ set. IfSome (Self.Set.told set) (λ entries. result.now ≡ entries)) };
 }
 
 /// Makes tables.

@@ -8,8 +8,8 @@ use gql_base::{Items, Made, Name, Text, Value};
 use gql_schema::{Object, SchemaType, Types};
 use std::alloc::Global;
 
-/// A bench: the types of its schema, the name of the query root, the rules of its resolvers by their numbers, the cells of
-/// its world, its turns, and the query of its request.
+/// A bench: the types of its schema, the name of the query root, the rules of its resolvers by
+/// their numbers, the cells of its world, its turns, and the query of its request.
 #[derive(Debug, Drop)]
 pub struct Bench {
     pub types: Types,
@@ -26,9 +26,11 @@ impl Bench {
     ghost use Rattle.gql_cli.specs.Answer.{Chooses, HasChosen};
     ghost use Rattle.gql_cli.specs.BenchAnswers.{bench_answers, bench_object, IsSuited};
 
-    /// The constant that the query root's field of this name answers, or none where there is no such field.
+    /// The constant that the query root's field of this name answers, or none where there is no
+    /// such field.
     pub fn constant(&self, name: &str) -> Option<&Value>
-        ensures { option_copied result ≡ root_constant self.now.types self.now.query self.now.rules name.now }
+        ensures { option_copied result
+            ≡ root_constant self.now.types self.now.query self.now.rules name.now }
     {
         let SchemaType::Object(object) = self.types.get(self.query.as_str())? else {
             return None;

@@ -8,7 +8,8 @@ use std::test::Fail;
 const FIELDS: &str = "{\"name\":\"a\",\"type\":\"Int\",\"answer\":{\"const\":1,\"delay\":2}},\
 {\"name\":\"b\",\"type\":\"Int\",\"answer\":{\"const\":2}}";
 
-/// Whether these lines, and then the response, are the record of a query for both fields under these turns.
+/// Whether these lines, and then the response, are the record of a query for both fields under
+/// these turns.
 fn has_lines(alloc: Global, turns: &str, lines: &str) -> Made<bool> {
     let input = bench_text(alloc, FIELDS, "{ a b }", turns)?;
     let text = format!(in alloc; "{lines}{{\"data\":{{\"a\":1,\"b\":2}}}}\n")?;

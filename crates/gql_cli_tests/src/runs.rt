@@ -1,4 +1,5 @@
-//! Whole runs on benches in memory, for tests. What a test looks at is made by functions beside it, since a test is proved too.
+//! Whole runs on benches in memory, for tests. What a test looks at is made by functions beside it,
+//! since a test is proved too.
 use gql_base::{Items, Made};
 use gql_cli::{SureSink, SureSource, TableMaker, run_alone};
 use std::alloc::Global;
@@ -10,7 +11,8 @@ pub(crate) fn one_word(alloc: Global, word: &str) -> Made<Vec<String>> {
     Ok(words)
 }
 
-/// Whether a command ends with this status and this text on a source. Seven bytes of the text are taken at once.
+/// Whether a command ends with this status and this text on a source. Seven bytes of the text are
+/// taken at once.
 pub(crate) fn ends_with(
     alloc: Global,
     command: &str,

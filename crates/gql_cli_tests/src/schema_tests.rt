@@ -4,8 +4,8 @@ use gql_base::Made;
 use std::alloc::Global;
 use std::test::Fail;
 
-/// Whether a bench of these types is refused with this text. It has hooks, which aren't built, so that the schema is seen to be
-/// checked before.
+/// Whether a bench of these types is refused with this text. It has hooks, which aren't built, so
+/// that the schema is seen to be checked before.
 fn is_refused(alloc: Global, types: &str, text: &str) -> Made<bool> {
     let input = format!(in alloc;
         "{{\"schema\":{{\"query\":\"Q\",\"types\":[{types}]}},\"hooks\":\"log\",\"request\":{{\"query\":\"{{\"}}}}"
@@ -72,7 +72,8 @@ fn the_first_refusal_is_told(rt: HostRuntime) -> Result<(), Fail> {
     Ok(())
 }
 
-/// Whether a bench whose root has the name of a scalar of every schema isn't built. The scalar takes the object's place.
+/// Whether a bench whose root has the name of a scalar of every schema isn't built. The scalar
+/// takes the object's place.
 fn is_replaced(alloc: Global, root: &str) -> Made<bool> {
     let input = format!(in alloc;
         "{{\"schema\":{{\"query\":\"{root}\",\"types\":[{{\"kind\":\"object\",\"name\":\"{root}\",\

@@ -4,7 +4,8 @@ use gql_base::Made;
 use std::alloc::Global;
 use std::test::Fail;
 
-/// Whether JSON with these members beside a schema without types has this first bad place for `record`.
+/// Whether JSON with these members beside a schema without types has this first bad place for
+/// `record`.
 fn is_bad_at(alloc: Global, members: &str, place: &str) -> Made<bool> {
     let input = format!(in alloc; "{{\"schema\":{{\"query\":\"Q\",\"types\":[]}}{members}}}")?;
     let line = format!(in alloc; "bench: bad shape at {place}\n")?;

@@ -1,4 +1,5 @@
-//! Calls of benches, their tables and their turns that no whole run makes, or whose answers it doesn't show.
+//! Calls of benches, their tables and their turns that no whole run makes, or whose answers it
+//! doesn't show.
 use crate::runs::bench_text;
 use gql_base::{Items, Made, Number, Value};
 use gql_cli::{Bench, Command, ListTurns, Table, bench_of};
@@ -74,7 +75,8 @@ fn the_world_of_a_table(rt: HostRuntime) -> Result<(), Fail> {
     Ok(())
 }
 
-/// Whether four picks among three tasks are those of the numbers 5, 1 and the greatest, and then the first.
+/// Whether four picks among three tasks are those of the numbers 5, 1 and the greatest, and then
+/// the first.
 fn picks_by_remainder(turns: &mut ListTurns) -> bool {
     turns.pick(3) == 2 && turns.pick(3) == 1 && turns.pick(3) == 0 && turns.pick(3) == 0
 }

@@ -1,5 +1,5 @@
--- The document that a tree gives: the same parts, where names that stand once are looked up by name, and the places that
--- no reader of a document asks for are left out.
+-- The document that a tree gives: the same parts, where names that stand once are looked up by
+-- name, and the places that no reader of a document asks for are left out.
 use Rattle.std.specs.Prelude.{ℕ, List, [], ◌∷◌, map, Option, Some, None}
 use Rattle.std.specs.List.{flat_map}
 use mathlib.Core.Former.{Count}
@@ -24,9 +24,12 @@ use Rattle.gql_doc.specs.declared.document.DocumentOperations.{DocumentOperation
 use Rattle.gql_doc.specs.declared.document.DocumentOperations.TheVariants.{Single, Multiple}
 use Rattle.gql_doc.specs.declared.document.ExecutableDocument.{ExecutableDocument}
 use Rattle.gql_doc.specs.declared.tree.SetTree.{SetTree}
-use Rattle.gql_doc.specs.declared.tree.ValueTree.{ValueTree, Variable, Number, String, Boolean, Null, Enum}
-use Rattle.gql_doc.specs.declared.tree.ValueTree.{List', Object', Row_of-ValueTree, end_of-ValueTree}
-use Rattle.gql_doc.specs.declared.tree.ValueTree.{more_of-ValueTree, Row_of-MemberTree, end_of-MemberTree}
+use Rattle.gql_doc.specs.declared.tree.ValueTree.{ValueTree, Variable, Number, String, Boolean}
+use Rattle.gql_doc.specs.declared.tree.ValueTree.{Null, Enum}
+use Rattle.gql_doc.specs.declared.tree.ValueTree.{List', Object', Row_of-ValueTree}
+use Rattle.gql_doc.specs.declared.tree.ValueTree.{end_of-ValueTree}
+use Rattle.gql_doc.specs.declared.tree.ValueTree.{more_of-ValueTree, Row_of-MemberTree}
+use Rattle.gql_doc.specs.declared.tree.ValueTree.{end_of-MemberTree}
 use Rattle.gql_doc.specs.declared.tree.ValueTree.{more_of-MemberTree}
 use Rattle.gql_doc.specs.declared.tree.ArgumentTree.{ArgumentTree}
 use Rattle.gql_doc.specs.declared.tree.DirectiveTree.{DirectiveTree}
@@ -62,9 +65,11 @@ abbrev mutual
 
   pub members_of : {m : Count} → Row_of-MemberTree m → List (List ℕ × DocValue)
   members_of end_of-MemberTree = []
-  members_of (more_of-MemberTree name value members) = (name.node, value_of value) ∷ members_of members
+  members_of (more_of-MemberTree name value members) =
+      (name.node, value_of value) ∷ members_of members
 
--- a constant (section 2.9): the grammar lets no variable stand in it, so what a variable gives here is no matter
+-- a constant (section 2.9): the grammar lets no variable stand in it, so what a variable gives here
+-- is no matter
 abbrev mutual
   pub constant_of : ValueTree → Value
   constant_of (Variable name) = constant.Null
@@ -87,12 +92,14 @@ abbrev mutual
 
 -- Argument (section 2.6)
 abbrev pub argument_of : ArgumentTree → Argument
-argument_of argument = record { name = argument.name; value = placed argument.value.pos (value_of argument.value.node) }
+argument_of argument =
+    record { name = argument.name; value = placed argument.value.pos (value_of argument.value.node) }
 
 -- Directive (section 2.12)
 abbrev pub directive_of : DirectiveTree → Positioned Directive
 directive_of directive =
-    placed directive.pos (record { name = directive.name; arguments = map argument_of directive.arguments })
+    placed directive.pos
+    (record { name = directive.name; arguments = map argument_of directive.arguments })
 
 abbrev pub default_of : Option PlacedValue → Option (Positioned Value)
 default_of None = None
@@ -102,7 +109,12 @@ default_of (Some default) = Some (placed default.pos (constant_of default.node))
 abbrev pub variable_of : VariableTree → Positioned VariableDefinition
 variable_of variable =
     placed variable.pos
-    (record { name = variable.name; var_type = variable.ty; directives = map directive_of variable.directives; default = default_of variable.default })
+    (record {
+      name = variable.name;
+      var_type = variable.ty;
+      directives = map directive_of variable.directives;
+      default = default_of variable.default;
+    })
 
 abbrev pub set_of : Pos → List (Positioned Selection) → Positioned SelectionSet
 set_of pos selections = placed pos (roll-SelectionSet (record { items = selections }))
@@ -113,18 +125,31 @@ abbrev mutual
   selection_of (Field' alias name arguments directives set _ selections) =
       placed (head_pos alias name)
       (selection.Field (placed (head_pos alias name)
-      (roll-Field (record { alias = alias; name = name; arguments = map argument_of arguments; directives = map directive_of directives; selection_set = set_of set (selections_of selections) }))))
+      (roll-Field
+      (record {
+        alias = alias;
+        name = name;
+        arguments = map argument_of arguments;
+        directives = map directive_of directives;
+        selection_set = set_of set (selections_of selections);
+      }))))
   selection_of (Spread pos name directives) =
       placed pos (selection.FragmentSpread (placed pos
       (record { fragment_name = name; directives = map directive_of directives })))
   selection_of (Inline' pos condition directives set _ selections) =
       placed pos
       (selection.InlineFragment (placed pos
-      (roll-InlineFragment (record { type_condition = condition; directives = map directive_of directives; selection_set = set_of set (selections_of selections) }))))
+      (roll-InlineFragment
+      (record {
+        type_condition = condition;
+        directives = map directive_of directives;
+        selection_set = set_of set (selections_of selections);
+      }))))
 
   pub selections_of : {m : Count} → Row_of-SelectionTree m → List (Positioned Selection)
   selections_of end_of-SelectionTree = []
-  selections_of (more_of-SelectionTree selection selections) = selection_of selection ∷ selections_of selections
+  selections_of (more_of-SelectionTree selection selections) =
+      selection_of selection ∷ selections_of selections
 
 -- SelectionSet (section 2.4)
 abbrev pub whole_set_of : SetTree → Positioned SelectionSet
@@ -134,13 +159,22 @@ whole_set_of set = set_of set.pos (map selection_of set.selections)
 abbrev pub operation_of : OperationTree → Positioned OperationDefinition
 operation_of operation =
     placed operation.pos
-    (record { ty = operation.ty; variable_definitions = map variable_of operation.variables; directives = map directive_of operation.directives; selection_set = whole_set_of operation.set })
+    (record {
+      ty = operation.ty;
+      variable_definitions = map variable_of operation.variables;
+      directives = map directive_of operation.directives;
+      selection_set = whole_set_of operation.set;
+    })
 
 -- FragmentDefinition (section 2.8)
 abbrev pub fragment_of : FragmentTree → Positioned FragmentDefinition
 fragment_of fragment =
     placed fragment.pos
-    (record { type_condition = fragment.condition; directives = map directive_of fragment.directives; selection_set = whole_set_of fragment.set })
+    (record {
+      type_condition = fragment.condition;
+      directives = map directive_of fragment.directives;
+      selection_set = whole_set_of fragment.set;
+    })
 
 abbrev pub if_without_name : {A : Type 0} → Option PlacedName → A → Option A
 if_without_name None definition = Some definition
@@ -175,6 +209,7 @@ operations_of None named = Multiple named
 abbrev pub document_of : List DefinitionTree → ExecutableDocument
 document_of definitions =
     record {
-      operations = operations_of (first_in anonymous_of definitions) (flat_map named_of definitions);
+      operations =
+          operations_of (first_in anonymous_of definitions) (flat_map named_of definitions);
       fragments = flat_map fragments_of definitions;
     }

@@ -1,4 +1,5 @@
--- What the building of a part answers: the part, where no name in it is doubled; else the place of the first doubled name.
+-- What the building of a part answers: the part, where no name in it is doubled; else the place of
+-- the first doubled name.
 use Rattle.std.specs.Prelude.{◌≡◌, ℕ, List, [], ◌∷◌, ◌++◌, Option, Some, None, Result, Ok, Err}
 use Rattle.gql_base.specs.declared.pos.Pos.{Pos}
 use Rattle.gql_base.specs.declared.value.Value.{Value}
@@ -27,7 +28,8 @@ Refuses (Err Memory) doubled = Unit {0}
 Refuses (Err (Doubled pos)) doubled = doubled ≡ Some pos
 
 -- what becomes of the parts when one more is built
-abbrev pub Adds : {A U : Type 0} → Result U BuildError → Option Pos → List A → List A → List A → Type 0
+abbrev pub Adds : {A U : Type 0} → Result U BuildError → Option Pos → List A → List A → List A
+    → Type 0
 Adds (Ok done) doubled old new parts = (doubled ≡ None) × (new ≡ old ++ parts)
 Adds (Err Memory) doubled old new parts = Unit {0}
 Adds (Err (Doubled pos)) doubled old new parts = doubled ≡ Some pos
@@ -40,13 +42,16 @@ constant_member_of member = (member.name.node, constant_of member.value)
 
 -- the second name in an object, or in the value of a member
 abbrev pub doubled_in_member : List (List ℕ) → MemberTree → Option Pos
-doubled_in_member names member = option_or (if_doubled names member.name) (doubled_in_value member.value)
+doubled_in_member names member =
+    option_or (if_doubled names member.name) (doubled_in_value member.value)
 
 -- the first fault of parts that have names, behind those of these names
-abbrev pub first_behind : {A : Type 0} → (A → List (List ℕ)) → (List (List ℕ) → A → Option Pos) → List (List ℕ)
+abbrev pub first_behind : {A : Type 0} → (A → List (List ℕ)) → (List (List ℕ) → A → Option Pos)
+    → List (List ℕ)
     → List A → Option Pos
 first_behind names_in f names [] = None
-first_behind names_in f names (x ∷ xs) = option_or (f names x) (first_behind names_in f (names ++ names_in x) xs)
+first_behind names_in f names (x ∷ xs) =
+    option_or (f names x) (first_behind names_in f (names ++ names_in x) xs)
 
 abbrev pub doubled_among_members : List (List ℕ) → List MemberTree → Option Pos
 doubled_among_members = first_behind (λ member. member.name.node ∷ []) doubled_in_member

@@ -18,7 +18,8 @@ alias_or (Some alias) name = alias
 abbrev pub key_of : Field → Positioned Name
 key_of field = alias_or (out-Field field).alias (out-Field field).name
 
--- the default of a variable; without one `nothing`, the null value, where the type is nullable (section 6.1.2)
+-- the default of a variable; without one `nothing`, the null value, where the type is nullable
+-- (section 6.1.2)
 abbrev pub default_or : Option (Positioned Value) → TypeRef → Value → Option Value
 default_or (Some default) ty nothing = Some default.node
 default_or None ty nothing = if is_nullable ty then Some nothing else None

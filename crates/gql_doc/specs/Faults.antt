@@ -1,7 +1,8 @@
 -- The faults of a text, in words.
 use Rattle.std.specs.Prelude.{ℕ, List, codes}
 use Rattle.gql_doc.specs.declared.fault.ParseKind.{ParseKind}
-use Rattle.gql_doc.specs.declared.fault.ParseKind.TheVariants.{Character, Token, Number, Nesting, Operations, Doubled}
+use Rattle.gql_doc.specs.declared.fault.ParseKind.TheVariants.{Character, Token, Number, Nesting}
+use Rattle.gql_doc.specs.declared.fault.ParseKind.TheVariants.{Operations, Doubled}
 
 abbrev pub message_of : ParseKind → List ℕ
 message_of Character = codes "Syntax error: unexpected character"

@@ -1,7 +1,9 @@
--- The grammar of executable documents (GraphQL, October 2021, sections 2.2 to 2.12): which words of marked tokens each
--- part of a tree is written as. `levels` says how many levels of a kind may still open; sets, values and list types
--- are counted each by itself, and the values of an argument, of a default and of a directive's argument begin anew.
-use Rattle.std.specs.Prelude.{◌≡◌, ◌≢◌, ℕ, pred, ◌⊎◌, List, [], ◌∷◌, Option, Some, None, codes, if◌then◌else◌}
+-- The grammar of executable documents (GraphQL, October 2021, sections 2.2 to 2.12): which words of
+-- marked tokens each part of a tree is written as. `levels` says how many levels of a kind may
+-- still open; sets, values and list types are counted each by itself, and the values of an
+-- argument, of a default and of a directive's argument begin anew.
+use Rattle.std.specs.Prelude.{◌≡◌, ◌≢◌, ℕ, pred, ◌⊎◌, List, [], ◌∷◌, Option, Some, None, codes}
+use Rattle.std.specs.Prelude.{if◌then◌else◌}
 use mathlib.Core.Former.{Count}
 use Rattle.gql_base.specs.declared.pos.Pos.{Pos}
 use Rattle.gql_tokens.specs.declared.token.Lexeme.TheVariants as lexeme
@@ -10,15 +12,19 @@ use Rattle.gql_doc.specs.declared.document.OperationType.{OperationType}
 use Rattle.gql_doc.specs.declared.document.OperationType.TheVariants.{Query, Mutation, Subscription}
 use Rattle.gql_doc.specs.declared.tree.Variables.{Variables}
 use Rattle.gql_doc.specs.declared.tree.Variables.TheVariants.{Allowed, Forbidden}
-use Rattle.gql_doc.specs.declared.tree.ValueTree.{ValueTree, Variable, Number, String, Boolean, Null, Enum}
-use Rattle.gql_doc.specs.declared.tree.ValueTree.{List', Object', Row_of-ValueTree, end_of-ValueTree}
-use Rattle.gql_doc.specs.declared.tree.ValueTree.{more_of-ValueTree, Row_of-MemberTree, end_of-MemberTree}
+use Rattle.gql_doc.specs.declared.tree.ValueTree.{ValueTree, Variable, Number, String, Boolean}
+use Rattle.gql_doc.specs.declared.tree.ValueTree.{Null, Enum}
+use Rattle.gql_doc.specs.declared.tree.ValueTree.{List', Object', Row_of-ValueTree}
+use Rattle.gql_doc.specs.declared.tree.ValueTree.{end_of-ValueTree}
+use Rattle.gql_doc.specs.declared.tree.ValueTree.{more_of-ValueTree, Row_of-MemberTree}
+use Rattle.gql_doc.specs.declared.tree.ValueTree.{end_of-MemberTree}
 use Rattle.gql_doc.specs.declared.tree.ValueTree.{more_of-MemberTree}
 use Rattle.gql_doc.specs.declared.tree.MemberTree.{MemberTree}
 use Rattle.gql_doc.specs.declared.tree.ArgumentTree.{ArgumentTree}
 use Rattle.gql_doc.specs.declared.tree.DirectiveTree.{DirectiveTree}
 use Rattle.gql_base.specs.declared.type_ref.TypeRef as type
-use Rattle.gql_base.specs.declared.type_ref.TypeRef.{TypeRef, Row_of-TypeRef, end_of-TypeRef, more_of-TypeRef}
+use Rattle.gql_base.specs.declared.type_ref.TypeRef.{TypeRef, Row_of-TypeRef, end_of-TypeRef}
+use Rattle.gql_base.specs.declared.type_ref.TypeRef.{more_of-TypeRef}
 use Rattle.gql_doc.specs.declared.tree.VariableTree.{VariableTree}
 use Rattle.gql_doc.specs.declared.tree.SelectionTree.{SelectionTree, Field', Spread, Inline'}
 use Rattle.gql_doc.specs.declared.tree.SelectionTree.{Row_of-SelectionTree, end_of-SelectionTree}
@@ -28,7 +34,8 @@ use Rattle.gql_doc.specs.declared.tree.OperationTree.{OperationTree}
 use Rattle.gql_doc.specs.declared.tree.FragmentTree.{FragmentTree}
 use Rattle.gql_doc.specs.declared.tree.DefinitionTree.{DefinitionTree}
 use Rattle.gql_doc.specs.declared.tree.DefinitionTree.TheVariants.{Operation, Fragment}
-use Rattle.gql_doc.specs.Words.{Word, Language, Nothing, ◌▸◌, Each, Maybe, One, Sign, SignAt, Keyword}
+use Rattle.gql_doc.specs.Words.{Word, Language, Nothing, ◌▸◌, Each, Maybe, One, Sign, SignAt}
+use Rattle.gql_doc.specs.Words.{Keyword}
 use Rattle.gql_doc.specs.Words.{KeywordAt, OneAt, Opens, OpensAt, Placed}
 use Rattle.gql_doc.specs.Words.{PlacedName, PlacedType, PlacedValue}
 
@@ -52,16 +59,19 @@ MayVary Forbidden = ⊥
 -- Value (sections 2.9 and 2.10); a variable stands only where variables are allowed
 abbrev mutual
   pub IsValue : Variables → ℕ → ValueTree → Language
-  IsValue variables levels (Variable name) = λ ms. MayVary variables × (Sign sign.Dollar ▸ One (lexeme.Name name)) ms
+  IsValue variables levels (Variable name) =
+      λ ms. MayVary variables × (Sign sign.Dollar ▸ One (lexeme.Name name)) ms
   IsValue variables levels (Number number) = One (lexeme.Number number)
   IsValue variables levels (String text) = One (lexeme.String text)
   IsValue variables levels (Boolean holds) = Keyword (if holds then codes "true" else codes "false")
   IsValue variables levels Null = Keyword (codes "null")
   IsValue variables levels (Enum name) = λ ms. IsEnumName name × One (lexeme.Name name) ms
   IsValue variables levels (List' _ values) =
-      Opens levels sign.OpenBracket ▸ (AreValues variables (pred levels) values ▸ Sign sign.CloseBracket)
+      Opens levels sign.OpenBracket
+      ▸ (AreValues variables (pred levels) values ▸ Sign sign.CloseBracket)
   IsValue variables levels (Object' _ members) =
-      Opens levels sign.OpenBrace ▸ (AreMembers variables (pred levels) members ▸ Sign sign.CloseBrace)
+      Opens levels sign.OpenBrace
+      ▸ (AreMembers variables (pred levels) members ▸ Sign sign.CloseBrace)
 
   pub AreValues : Variables → ℕ → {m : Count} → Row_of-ValueTree m → Language
   AreValues variables levels end_of-ValueTree = Nothing
@@ -71,11 +81,13 @@ abbrev mutual
   pub AreMembers : Variables → ℕ → {m : Count} → Row_of-MemberTree m → Language
   AreMembers variables levels end_of-MemberTree = Nothing
   AreMembers variables levels (more_of-MemberTree name value members) =
-      (IsName name ▸ (Sign sign.Colon ▸ IsValue variables levels value)) ▸ AreMembers variables levels members
+      (IsName name ▸ (Sign sign.Colon ▸ IsValue variables levels value))
+      ▸ AreMembers variables levels members
 
 -- ObjectField (section 2.9.8)
 abbrev pub IsMember : Variables → ℕ → MemberTree → Language
-IsMember variables levels member = IsName member.name ▸ (Sign sign.Colon ▸ IsValue variables levels member.value)
+IsMember variables levels member =
+    IsName member.name ▸ (Sign sign.Colon ▸ IsValue variables levels member.value)
 
 -- a value of an argument, a default or a directive's argument, which begins its own levels
 abbrev pub IsPlacedValue : Variables → PlacedValue → Language
@@ -83,7 +95,8 @@ IsPlacedValue variables placed = Placed placed.pos (IsValue variables max_levels
 
 -- Argument (section 2.6)
 abbrev pub IsArgument : Variables → ArgumentTree → Language
-IsArgument variables argument = IsName argument.name ▸ (Sign sign.Colon ▸ IsPlacedValue variables argument.value)
+IsArgument variables argument =
+    IsName argument.name ▸ (Sign sign.Colon ▸ IsPlacedValue variables argument.value)
 
 -- something in parentheses, at least once; or not written at all
 abbrev pub InParentheses : {A : Type 0} → (A → Language) → List A → Language
@@ -97,13 +110,15 @@ AreArguments variables = InParentheses (IsArgument variables)
 -- Directive (section 2.12)
 abbrev pub IsDirective : Variables → DirectiveTree → Language
 IsDirective variables directive =
-    SignAt sign.At directive.pos ▸ (IsName directive.name ▸ AreArguments variables directive.arguments)
+    SignAt sign.At directive.pos
+    ▸ (IsName directive.name ▸ AreArguments variables directive.arguments)
 
 -- Directives (section 2.12)
 abbrev pub AreDirectives : Variables → List DirectiveTree → Language
 AreDirectives variables = Each (IsDirective variables)
 
--- Type (section 2.11): the type in a box is the one type of its row, and a `!` stands behind a type that has none
+-- Type (section 2.11): the type in a box is the one type of its row, and a `!` stands behind a type
+-- that has none
 abbrev mutual
   pub IsType : ℕ → TypeRef → Language
   IsType levels (type.Named name) = One (lexeme.Name name)
@@ -162,8 +177,8 @@ abbrev pub head_pos : Option PlacedName → PlacedName → Pos
 head_pos None name = name.pos
 head_pos (Some alias) name = alias.pos
 
--- SelectionSet and Selection (sections 2.4, 2.5 and 2.8); a set has a selection, and a field without a set has no
--- selections and its own place for that of the set
+-- SelectionSet and Selection (sections 2.4, 2.5 and 2.8); a set has a selection, and a field
+-- without a set has no selections and its own place for that of the set
 abbrev mutual
   pub IsSelection : ℕ → SelectionTree → Language
   IsSelection levels (Field' alias name arguments directives set _ selections) =
@@ -180,13 +195,15 @@ abbrev mutual
   IsSetOrNone levels field set end_of-SelectionTree = λ ms. (set ≡ field) × Nothing ms
   IsSetOrNone levels field set (more_of-SelectionTree selection selections) =
       OpensAt levels sign.OpenBrace set
-      ▸ ((IsSelection (pred levels) selection ▸ AreSelections (pred levels) selections) ▸ Sign sign.CloseBrace)
+      ▸ ((IsSelection (pred levels) selection ▸ AreSelections (pred levels) selections)
+      ▸ Sign sign.CloseBrace)
 
   pub IsSetOf : ℕ → Pos → {m : Count} → Row_of-SelectionTree m → Language
   IsSetOf levels set end_of-SelectionTree = λ _. ⊥
   IsSetOf levels set (more_of-SelectionTree selection selections) =
       OpensAt levels sign.OpenBrace set
-      ▸ ((IsSelection (pred levels) selection ▸ AreSelections (pred levels) selections) ▸ Sign sign.CloseBrace)
+      ▸ ((IsSelection (pred levels) selection ▸ AreSelections (pred levels) selections)
+      ▸ Sign sign.CloseBrace)
 
   pub AreSelections : ℕ → {m : Count} → Row_of-SelectionTree m → Language
   AreSelections levels end_of-SelectionTree = Nothing
@@ -224,14 +241,16 @@ abbrev pub IsFullOperation : OperationTree → Language
 IsFullOperation operation =
     KeywordAt (keyword operation.ty) operation.pos
     ▸ (Maybe IsName operation.name
-    ▸ (AreVariables operation.variables ▸ (AreDirectives Allowed operation.directives ▸ IsSet operation.set)))
+    ▸ (AreVariables operation.variables
+    ▸ (AreDirectives Allowed operation.directives ▸ IsSet operation.set)))
 
 -- FragmentDefinition (section 2.8)
 abbrev pub IsFragment : FragmentTree → Language
 IsFragment fragment =
     KeywordAt (codes "fragment") fragment.pos
     ▸ (IsFragmentName fragment.name
-    ▸ (IsCondition fragment.condition ▸ (AreDirectives Allowed fragment.directives ▸ IsSet fragment.set)))
+    ▸ (IsCondition fragment.condition
+    ▸ (AreDirectives Allowed fragment.directives ▸ IsSet fragment.set)))
 
 -- ExecutableDefinition (section 2.2)
 abbrev pub IsDefinition : DefinitionTree → Language
@@ -240,7 +259,8 @@ IsDefinition (Fragment fragment) = IsFragment fragment
 
 -- ExecutableDocument (section 2.2): definitions up to the end of the text, at least one
 abbrev pub IsDocument : List DefinitionTree → Language
-IsDocument definitions ms = IsNonEmpty definitions × (Each IsDefinition definitions ▸ One lexeme.End) ms
+IsDocument definitions ms =
+    IsNonEmpty definitions × (Each IsDefinition definitions ▸ One lexeme.End) ms
 
 -- a type, and then the end of the text
 abbrev pub IsTypeText : TypeRef → Language

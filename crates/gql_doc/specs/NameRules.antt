@@ -1,5 +1,5 @@
--- The rules on operations and names of a document (GraphQL, October 2021, sections 5.2.1.1, 5.2.2.1, 5.5.1.1 and 5.6.3),
--- as the place of the first fault against them.
+-- The rules on operations and names of a document (GraphQL, October 2021, sections 5.2.1.1,
+-- 5.2.2.1, 5.5.1.1 and 5.6.3), as the place of the first fault against them.
 use Rattle.std.specs.Prelude.{ℕ, Bool, List, [], ◌∷◌, ◌++◌, Option, Some, None, if◌then◌else◌}
 use Rattle.std.specs.List.{list_any}
 use Rattle.std.specs.Str.{bytes_eq}
@@ -9,7 +9,8 @@ use Rattle.std.specs.Option.{option_or}
 use Rattle.gql_doc.specs.First.{first_in}
 use Rattle.gql_doc.specs.declared.tree.SetTree.{SetTree}
 use Rattle.gql_doc.specs.declared.tree.ValueTree.{ValueTree, List', Object', Row_of-ValueTree}
-use Rattle.gql_doc.specs.declared.tree.ValueTree.{end_of-ValueTree, more_of-ValueTree, Row_of-MemberTree}
+use Rattle.gql_doc.specs.declared.tree.ValueTree.{end_of-ValueTree, more_of-ValueTree}
+use Rattle.gql_doc.specs.declared.tree.ValueTree.{Row_of-MemberTree}
 use Rattle.gql_doc.specs.declared.tree.ValueTree.{end_of-MemberTree, more_of-MemberTree}
 use Rattle.gql_doc.specs.declared.tree.ArgumentTree.{ArgumentTree}
 use Rattle.gql_doc.specs.declared.tree.DirectiveTree.{DirectiveTree}
@@ -41,12 +42,14 @@ if_unnamed (Some name) pos = None
 abbrev pub anonymous : OperationTree → Option Pos
 anonymous operation = if_unnamed operation.name operation.pos
 
--- the first anonymous operation where there is another operation; the first definition where there is no operation
+-- the first anonymous operation where there is another operation; the first definition where there
+-- is no operation
 abbrev pub wrong_among : List OperationTree → List DefinitionTree → Option Pos
 wrong_among [] [] = None
 wrong_among [] (definition ∷ definitions) = Some (definition_pos definition)
 wrong_among (operation ∷ []) definitions = None
-wrong_among (operation ∷ second ∷ others) definitions = first_in anonymous (operation ∷ second ∷ others)
+wrong_among (operation ∷ second ∷ others) definitions =
+    first_in anonymous (operation ∷ second ∷ others)
 
 abbrev pub wrong_operations : List DefinitionTree → Option Pos
 wrong_operations definitions = wrong_among (operations definitions) definitions
@@ -61,7 +64,8 @@ if_among names name pos = if is_among name names then Some pos else None
 abbrev pub if_doubled : List (List ℕ) → PlacedName → Option Pos
 if_doubled names name = if_among names name.node name.pos
 
--- The second name in an object value, the first such in a value. `names` are those before in the object.
+-- The second name in an object value, the first such in a value. `names` are those before in the
+-- object.
 abbrev mutual
   pub doubled_in_value : ValueTree → Option Pos
   doubled_in_value (List' _ values) = doubled_in_values values
@@ -70,7 +74,8 @@ abbrev mutual
 
   pub doubled_in_values : {m : Count} → Row_of-ValueTree m → Option Pos
   doubled_in_values end_of-ValueTree = None
-  doubled_in_values (more_of-ValueTree value values) = option_or (doubled_in_value value) (doubled_in_values values)
+  doubled_in_values (more_of-ValueTree value values) =
+      option_or (doubled_in_value value) (doubled_in_values values)
 
   pub doubled_in_members : List (List ℕ) → {m : Count} → Row_of-MemberTree m → Option Pos
   doubled_in_members names end_of-MemberTree = None
@@ -121,7 +126,8 @@ doubled_in_operation operation =
     (option_or (doubled_in_directives operation.directives) (doubled_in_set operation.set))
 
 abbrev pub doubled_in_fragment : FragmentTree → Option Pos
-doubled_in_fragment fragment = option_or (doubled_in_directives fragment.directives) (doubled_in_set fragment.set)
+doubled_in_fragment fragment =
+    option_or (doubled_in_directives fragment.directives) (doubled_in_set fragment.set)
 
 -- the place of an operation whose name is among those before
 abbrev pub if_named_among : List (List ℕ) → Option PlacedName → Pos → Option Pos
@@ -142,8 +148,9 @@ abbrev pub fragment_names : DefinitionTree → List (List ℕ)
 fragment_names (Operation operation) = []
 fragment_names (Fragment fragment) = fragment.name.node ∷ []
 
--- The second definition of a name, or the second name in an object value: the first such in a definition. `queries` are
--- the names of the operations before, and `fragments` those of the fragments before.
+-- The second definition of a name, or the second name in an object value: the first such in a
+-- definition. `queries` are the names of the operations before, and `fragments` those of the
+-- fragments before.
 abbrev pub doubled_in_definition : List (List ℕ) → List (List ℕ) → DefinitionTree → Option Pos
 doubled_in_definition queries fragments (Operation operation) =
     option_or (if_named_among queries operation.name operation.pos) (doubled_in_operation operation)
@@ -155,7 +162,8 @@ abbrev pub doubled_among : List (List ℕ) → List (List ℕ) → List Definiti
 doubled_among queries fragments [] = None
 doubled_among queries fragments (definition ∷ definitions) =
     option_or (doubled_in_definition queries fragments definition)
-    (doubled_among (queries ++ operation_names definition) (fragments ++ fragment_names definition) definitions)
+    (doubled_among (queries ++ operation_names definition) (fragments ++ fragment_names definition)
+    definitions)
 
 abbrev pub doubled_name : List DefinitionTree → Option Pos
 doubled_name = doubled_among [] []

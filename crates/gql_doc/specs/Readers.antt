@@ -1,6 +1,8 @@
--- Readers: what recursive descent with one token of sight answers for the tokens that are left. A reading is a value or
--- the trouble, with the tokens behind the value, or those from the trouble on.
-use Rattle.std.specs.Prelude.{◌≡◌, ℕ, zero, suc, Bool, true, false, List, [], ◌∷◌, length, Option, Some, None}
+-- Readers: what recursive descent with one token of sight answers for the tokens that are left. A
+-- reading is a value or the trouble, with the tokens behind the value, or those from the trouble
+-- on.
+use Rattle.std.specs.Prelude.{◌≡◌, ℕ, zero, suc, Bool, true, false, List, [], ◌∷◌, length, Option}
+use Rattle.std.specs.Prelude.{Some, None}
 use Rattle.std.specs.Prelude.{Result, Ok, Err}
 use Rattle.gql_base.specs.declared.pos.Pos.{Pos}
 use Rattle.gql_tokens.specs.declared.token.Token.{Token}
@@ -77,7 +79,8 @@ branch test f g tokens = choose (begins test tokens) f g tokens
 unfoldable pub many_at : {A : Type 0} → ℕ → (Token → Bool) → Reader A → Reader (List A)
 many_at zero test f tokens = (Ok [], tokens)
 many_at (suc n) test f tokens =
-    choose (begins test tokens) (f then (λ a. mapped (λ more. a ∷ more) (many_at n test f))) (gives []) tokens
+    choose (begins test tokens) (f then (λ a. mapped (λ more. a ∷ more) (many_at n test f)))
+    (gives []) tokens
 
 -- as often as the next token passes the test
 unfoldable pub many : {A : Type 0} → (Token → Bool) → Reader A → Reader (List A)
@@ -105,7 +108,8 @@ abbrev pub too_deep : {A : Type 0} → (Token → Bool) → Reader A
 too_deep opens tokens = choose (begins opens tokens) (λ here. (Err TooDeep, here))
     (λ here. (Err Unexpected, here)) tokens
 
--- What a function returned, and the tokens that it left, are the reading; but want of memory says nothing.
+-- What a function returned, and the tokens that it left, are the reading; but want of memory says
+-- nothing.
 abbrev pub Leaves : {A : Type 0} → Result A ReadError → Tokens → Reading A → Type 0
 Leaves (Ok a) left reading = reading ≡ (Ok a, left)
 Leaves (Err Memory) left reading = Unit {0}

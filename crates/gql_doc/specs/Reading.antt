@@ -1,5 +1,6 @@
 -- One reader for each part of the grammar.
-use Rattle.std.specs.Prelude.{◌≡◌, IsErr, ℕ, zero, suc, Bool, true, false, not, ◌&&◌, nat_eq, List, [], ◌∷◌}
+use Rattle.std.specs.Prelude.{◌≡◌, IsErr, ℕ, zero, suc, Bool, true, false, not, ◌&&◌, nat_eq, List}
+use Rattle.std.specs.Prelude.{[], ◌∷◌}
 use Rattle.std.specs.Prelude.{Option, Some, None, Result, Ok, Err, codes, if◌then◌else◌}
 use Rattle.std.specs.Cmp.Lexicographic.{pointwise}
 use denote.Enum.Bare.{sameb}
@@ -14,7 +15,8 @@ use Rattle.gql_doc.specs.declared.document.OperationType.{OperationType}
 use Rattle.gql_doc.specs.declared.document.OperationType.TheVariants.{Query, Mutation, Subscription}
 use Rattle.gql_doc.specs.declared.tree.Variables.{Variables}
 use Rattle.gql_doc.specs.declared.tree.Variables.TheVariants.{Allowed, Forbidden}
-use Rattle.gql_doc.specs.declared.tree.ValueTree.{ValueTree, Variable, Number, String, Boolean, Null, Enum}
+use Rattle.gql_doc.specs.declared.tree.ValueTree.{ValueTree, Variable, Number, String, Boolean}
+use Rattle.gql_doc.specs.declared.tree.ValueTree.{Null, Enum}
 use Rattle.gql_doc.specs.declared.tree.ValueTree.{List as ListValue, Object}
 use Rattle.gql_doc.specs.declared.tree.MemberTree.{MemberTree}
 use Rattle.gql_doc.specs.declared.tree.ArgumentTree.{ArgumentTree}
@@ -38,7 +40,8 @@ use Rattle.gql_doc.specs.declared.fault.ParseFault.{ParseFault}
 use Rattle.gql_doc.specs.Words.{Tokens}
 use Rattle.gql_doc.specs.Spelling.{kind_of}
 use Rattle.gql_doc.specs.Grammar.{max_levels, head_pos}
-use Rattle.gql_doc.specs.Readers.{Reader, ◌then◌, gives, mapped, past, ended, take_one, branch, many, some}
+use Rattle.gql_doc.specs.Readers.{Reader, ◌then◌, gives, mapped, past, ended, take_one, branch}
+use Rattle.gql_doc.specs.Readers.{many, some}
 use Rattle.gql_doc.specs.Readers.{optional, place_of, placed, too_deep}
 use Rattle.gql_doc.specs.Words.{PlacedName, PlacedType, PlacedValue}
 
@@ -105,7 +108,8 @@ name_in (lexeme.Name text) pos = Some (record { pos = pos; node = text })
 name_in _ pos = None
 
 abbrev pub fragment_name_in : Lexeme → Pos → Option PlacedName
-fragment_name_in (lexeme.Name text) pos = if_so (not (same_text text (codes "on"))) (record { pos = pos; node = text })
+fragment_name_in (lexeme.Name text) pos =
+    if_so (not (same_text text (codes "on"))) (record { pos = pos; node = text })
 fragment_name_in _ pos = None
 
 abbrev pub named_value : List ℕ → ValueTree
@@ -173,12 +177,14 @@ variable_value = past (take_sign sign.Dollar) (mapped (λ name. Variable name.no
 abbrev pub list_by : Reader ValueTree → Reader ValueTree
 list_by value =
     past (take_sign sign.OpenBracket)
-    (mapped ListValue (ended (many (other_than sign.CloseBracket) value) (take_sign sign.CloseBracket)))
+    (mapped ListValue
+    (ended (many (other_than sign.CloseBracket) value) (take_sign sign.CloseBracket)))
 
 abbrev pub member_by : Reader ValueTree → Reader MemberTree
 member_by value =
     take_name
-    then (λ name. past (take_sign sign.Colon) (mapped (λ value. record { name = name; value = value }) value))
+    then (λ name. past (take_sign sign.Colon)
+    (mapped (λ value. record { name = name; value = value }) value))
 
 abbrev pub object_by : Reader MemberTree → Reader ValueTree
 object_by member =
@@ -192,13 +198,16 @@ plain_value Forbidden = take_scalar
 
 abbrev pub value_by : Variables → Reader ValueTree → Reader ValueTree → Reader ValueTree
 value_by variables list object =
-    branch (is_sign sign.OpenBracket) list (branch (is_sign sign.OpenBrace) object (plain_value variables))
+    branch (is_sign sign.OpenBracket) list
+    (branch (is_sign sign.OpenBrace) object (plain_value variables))
 
 unfoldable pub value_at : Variables → ℕ → Reader ValueTree
 value_at variables zero tokens =
-    value_by variables (too_deep (is_sign sign.OpenBracket)) (too_deep (is_sign sign.OpenBrace)) tokens
+    value_by variables (too_deep (is_sign sign.OpenBracket)) (too_deep (is_sign sign.OpenBrace))
+    tokens
 value_at variables (suc n) tokens =
-    value_by variables (list_by (value_at variables n)) (object_by (member_by (value_at variables n))) tokens
+    value_by variables (list_by (value_at variables n))
+    (object_by (member_by (value_at variables n))) tokens
 
 -- a member of an object, where so many levels are left
 unfoldable pub member_at : Variables → ℕ → Reader MemberTree
@@ -215,21 +224,24 @@ object_at variables zero = too_deep (is_sign sign.OpenBrace)
 object_at variables (suc n) = object_by (member_at variables n)
 
 unfoldable pub placed_value : Variables → Reader PlacedValue
-placed_value variables = placed (λ pos value. record { pos = pos; node = value }) (value_at variables max_levels)
+placed_value variables =
+    placed (λ pos value. record { pos = pos; node = value }) (value_at variables max_levels)
 
 -- Arguments (section 2.6) and directives (section 2.12).
 
 unfoldable pub argument : Variables → Reader ArgumentTree
 argument variables =
     take_name
-    then (λ name. past (take_sign sign.Colon) (mapped (λ value. record { name = name; value = value })
+    then (λ name. past (take_sign sign.Colon)
+    (mapped (λ value. record { name = name; value = value })
     (placed_value variables)))
 
 -- in parentheses, once at least; or not at all
 abbrev pub in_parentheses : {A : Type 0} → Reader A → Reader (List A)
 in_parentheses f =
     branch (is_sign sign.OpenParen)
-    (past (take_sign sign.OpenParen) (ended (some (other_than sign.CloseParen) f) (take_sign sign.CloseParen)))
+    (past (take_sign sign.OpenParen)
+    (ended (some (other_than sign.CloseParen) f) (take_sign sign.CloseParen)))
     (gives [])
 
 unfoldable pub arguments : Variables → Reader (List ArgumentTree)
@@ -239,7 +251,8 @@ unfoldable pub directive : Variables → Reader DirectiveTree
 directive variables =
     take_sign sign.At
     then (λ pos. take_name
-    then (λ name. mapped (λ arguments. record { pos = pos; name = name; arguments = arguments }) (arguments variables)))
+    then (λ name. mapped (λ arguments. record { pos = pos; name = name; arguments = arguments })
+    (arguments variables)))
 
 unfoldable pub directives : Variables → Reader (List DirectiveTree)
 directives variables = many (is_sign sign.At) (directive variables)
@@ -247,14 +260,17 @@ directives variables = many (is_sign sign.At) (directive variables)
 -- Types (section 2.11).
 
 abbrev pub bare_type_by : Reader TypeRef → Reader TypeRef
-bare_type_by list = branch (is_sign sign.OpenBracket) list (mapped (λ name. type.Named name.node) take_name)
+bare_type_by list =
+    branch (is_sign sign.OpenBracket) list (mapped (λ name. type.Named name.node) take_name)
 
 abbrev pub list_type_by : Reader TypeRef → Reader TypeRef
-list_type_by inner = past (take_sign sign.OpenBracket) (mapped type.List (ended inner (take_sign sign.CloseBracket)))
+list_type_by inner =
+    past (take_sign sign.OpenBracket) (mapped type.List (ended inner (take_sign sign.CloseBracket)))
 
 -- a type, or one that is not null where a `!` follows
 abbrev pub null_or_not : TypeRef → Reader TypeRef
-null_or_not bare = branch (is_sign sign.Bang) (mapped (λ _. type.NonNull bare) (take_sign sign.Bang)) (gives bare)
+null_or_not bare =
+    branch (is_sign sign.Bang) (mapped (λ _. type.NonNull bare) (take_sign sign.Bang)) (gives bare)
 
 unfoldable pub type_at : ℕ → Reader TypeRef
 type_at zero tokens = (bare_type_by (too_deep (is_sign sign.OpenBracket)) then null_or_not) tokens
@@ -279,7 +295,10 @@ variable =
     then (λ pos. take_name
     then (λ name. past (take_sign sign.Colon) (placed_type
     then (λ ty. default
-    then (λ default. mapped (λ directives. record { pos = pos; name = name; ty = ty; default = default; directives = directives }) (directives Forbidden))))))
+    then (λ default. mapped
+    (λ directives. record
+    { pos = pos; name = name; ty = ty; default = default; directives = directives })
+    (directives Forbidden))))))
 
 unfoldable pub variables : Reader (List VariableTree)
 variables = in_parentheses variable
@@ -297,18 +316,21 @@ unfoldable pub condition : Reader PlacedName
 condition = past (take_word (codes "on")) take_name
 
 abbrev pub set_or_none : Pos → Reader SetTree → Reader SetTree
-set_or_none field set = branch (is_sign sign.OpenBrace) set (gives (record { pos = field; selections = [] }))
+set_or_none field set =
+    branch (is_sign sign.OpenBrace) set (gives (record { pos = field; selections = [] }))
 
 abbrev pub field_by : Reader SetTree → Reader SelectionTree
 field_by set =
     head
     then (λ head. arguments Allowed
     then (λ arguments. directives Allowed
-    then (λ directives. mapped (λ set. Field head.0 head.1 arguments directives set.pos set.selections)
+    then (λ directives. mapped
+    (λ set. Field head.0 head.1 arguments directives set.pos set.selections)
     (set_or_none (head_pos head.0 head.1) set))))
 
 abbrev pub spread_behind : Pos → Reader SelectionTree
-spread_behind pos = take_fragment_name then (λ name. mapped (λ directives. Spread pos name directives)
+spread_behind pos =
+    take_fragment_name then (λ name. mapped (λ directives. Spread pos name directives)
     (directives Allowed))
 
 abbrev pub inline_behind : Pos → Reader SetTree → Reader SelectionTree
@@ -318,7 +340,9 @@ inline_behind pos set =
     then (λ directives. mapped (λ set. Inline pos condition directives set.pos set.selections) set))
 
 abbrev pub spread_by : Reader SetTree → Reader SelectionTree
-spread_by set = take_sign sign.Spread then (λ pos. branch is_fragment_name (spread_behind pos) (inline_behind pos set))
+spread_by set =
+    take_sign sign.Spread
+    then (λ pos. branch is_fragment_name (spread_behind pos) (inline_behind pos set))
 
 abbrev pub selection_by : Reader SetTree → Reader SelectionTree
 selection_by set = branch (is_sign sign.Spread) (spread_by set) (field_by set)
@@ -351,7 +375,15 @@ set = set_at max_levels
 unfoldable pub shorthand : Reader DefinitionTree
 shorthand =
     mapped
-    (λ set. Operation (record { pos = set.pos; ty = Query; name = None; variables = []; directives = []; set = set })) set
+    (λ set. Operation
+    (record {
+      pos = set.pos;
+      ty = Query;
+      name = None;
+      variables = [];
+      directives = [];
+      set = set;
+    })) set
 
 unfoldable pub operation : Reader DefinitionTree
 operation =
@@ -359,7 +391,16 @@ operation =
     then (λ kind. optional is_name take_name
     then (λ name. variables
     then (λ variables. directives Allowed
-    then (λ directives. mapped (λ set. Operation (record { pos = kind.0; ty = kind.1; name = name; variables = variables; directives = directives; set = set })) set))))
+    then (λ directives. mapped
+    (λ set. Operation
+    (record {
+      pos = kind.0;
+      ty = kind.1;
+      name = name;
+      variables = variables;
+      directives = directives;
+      set = set;
+    })) set))))
 
 unfoldable pub fragment : Reader DefinitionTree
 fragment =
@@ -367,10 +408,19 @@ fragment =
     then (λ pos. take_fragment_name
     then (λ name. condition
     then (λ condition. directives Allowed
-    then (λ directives. mapped (λ set. Fragment (record { pos = pos; name = name; condition = condition; directives = directives; set = set })) set))))
+    then (λ directives. mapped
+    (λ set. Fragment
+    (record {
+      pos = pos;
+      name = name;
+      condition = condition;
+      directives = directives;
+      set = set;
+    })) set))))
 
 unfoldable pub definition : Reader DefinitionTree
-definition = branch (is_sign sign.OpenBrace) shorthand (branch (is_word (codes "fragment")) fragment operation)
+definition =
+    branch (is_sign sign.OpenBrace) shorthand (branch (is_word (codes "fragment")) fragment operation)
 
 -- Whole texts.
 
@@ -400,4 +450,5 @@ parsed_by f tokens = parsed (f tokens).0 (f tokens).1
 -- the fault at the next token, unless memory is wanting
 abbrev pub IsFaultAt : Tokens → ReadError → Result ParseFault AllocError → Type 0
 IsFaultAt rest Memory answer = IsErr answer
-IsFaultAt rest (Stopped trouble) answer = answer ≡ Ok (record { kind = kind_at trouble rest; pos = place_of rest })
+IsFaultAt rest (Stopped trouble) answer =
+    answer ≡ Ok (record { kind = kind_at trouble rest; pos = place_of rest })

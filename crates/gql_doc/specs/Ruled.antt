@@ -1,4 +1,5 @@
--- What the reading of a text's tokens gives, once its tree is looked at by the rules on operations and names.
+-- What the reading of a text's tokens gives, once its tree is looked at by the rules on operations
+-- and names.
 use Rattle.std.specs.Prelude.{List, Option, Some, None, Result, Ok, Err}
 use Rattle.gql_doc.specs.declared.document.ExecutableDocument.{ExecutableDocument}
 use Rattle.gql_doc.specs.declared.fault.ParseFault.{ParseFault}
@@ -17,7 +18,8 @@ abbrev pub ruled : List DefinitionTree → Result ExecutableDocument ParseFault
 ruled tree = ruled_by (rule_fault tree) (document_of tree)
 
 -- what the reading of tokens gives
-abbrev pub then_ruled : Result (List DefinitionTree) ParseFault → Result ExecutableDocument ParseFault
+abbrev pub then_ruled : Result (List DefinitionTree) ParseFault
+    → Result ExecutableDocument ParseFault
 then_ruled (Ok tree) = ruled tree
 then_ruled (Err fault) = Err fault
 

@@ -18,7 +18,8 @@ use Rattle.gql_doc.specs.Building.{document_of}
 abbrev pub AreTokensOf : List ℕ → Tokens → Type 0
 AreTokensOf text tokens = Lexes text_start text tokens
 
--- A fault against the rules on operations and names: an operation that stands wrongly, or else a doubled name.
+-- A fault against the rules on operations and names: an operation that stands wrongly, or else a
+-- doubled name.
 abbrev pub rule_fault_by : Option Pos → Option Pos → Option ParseFault
 rule_fault_by (Some pos) doubled = Some (record { kind = Operations; pos = pos })
 rule_fault_by None (Some pos) = Some (record { kind = Doubled; pos = pos })

@@ -1,5 +1,5 @@
--- Which tokens spell a tree, and which fault is the first one of tokens that spell none. `D` is the grammar's part that
--- is read, as whole documents: which words each tree is written as.
+-- Which tokens spell a tree, and which fault is the first one of tokens that spell none. `D` is the
+-- grammar's part that is read, as whole documents: which words each tree is written as.
 use Rattle.std.specs.Prelude.{◌≡◌, true, [], ◌∷◌, ◌++◌, Result, Ok, Err}
 use Rattle.gql_tokens.specs.declared.token.Token.{Token}
 use Rattle.gql_tokens.specs.declared.token.Lexeme.{Lexeme}
@@ -9,8 +9,8 @@ use Rattle.gql_doc.specs.declared.fault.ParseKind.TheVariants as kind
 use Rattle.gql_doc.specs.declared.fault.ParseFault.{ParseFault}
 use Rattle.gql_doc.specs.Words.{Tokens, Word, Language, tokens_of, NoneDeep}
 
--- which kind of fault an unexpected token is: no token begins where the last one would, a number is not supported, or
--- it is a token in the wrong place
+-- which kind of fault an unexpected token is: no token begins where the last one would, a number is
+-- not supported, or it is a token in the wrong place
 abbrev pub kind_of : Lexeme → ParseKind
 kind_of lexeme.Unexpected = kind.Character
 kind_of lexeme.Unsupported = kind.Number

@@ -1,7 +1,8 @@
--- Words of marked tokens, and languages over them. A word is a piece of a text as its tokens, where a token that opens
--- what is nested too deep carries a mark: so the grammar itself knows no limit, and a text keeps within the limits where
--- no token of it is marked.
-use Rattle.std.specs.Prelude.{◌≡◌, ℕ, zero, suc, Bool, true, false, List, [], ◌∷◌, ◌++◌, Option, Some, None}
+-- Words of marked tokens, and languages over them. A word is a piece of a text as its tokens, where
+-- a token that opens what is nested too deep carries a mark: so the grammar itself knows no limit,
+-- and a text keeps within the limits where no token of it is marked.
+use Rattle.std.specs.Prelude.{◌≡◌, ℕ, zero, suc, Bool, true, false, List, [], ◌∷◌, ◌++◌, Option}
+use Rattle.std.specs.Prelude.{Some, None}
 use Rattle.gql_base.specs.declared.pos.Pos.{Pos}
 use Rattle.gql_base.specs.declared.name.Name.{Name}
 use Rattle.gql_base.specs.declared.type_ref.TypeRef.{TypeRef}
@@ -101,7 +102,9 @@ none_left (suc n) = false
 
 -- an opening token, where so many levels are left
 abbrev pub OpensAt : ℕ → Punctuator → Pos → Language
-OpensAt levels sign pos ms = ms ≡ record { token = record { lexeme = lexeme.Punctuator sign; pos = pos }; deep = none_left levels } ∷ []
+OpensAt levels sign pos ms =
+    ms ≡ record
+    { token = record { lexeme = lexeme.Punctuator sign; pos = pos }; deep = none_left levels } ∷ []
 
 abbrev pub Opens : ℕ → Punctuator → Language
 Opens levels sign ms = (pos : Pos) × OpensAt levels sign pos ms

@@ -1,4 +1,5 @@
-//! Copies of documents and of their parts, each equal to its source. Their lists take their room at once.
+//! Copies of documents and of their parts, each equal to its source. Their lists take their room at
+//! once.
 ghost use Rattle.std.specs.Prelude.{◌≡◌, IfOk};
 
 use crate::document::{

@@ -1,7 +1,8 @@
 //! The tokens that are left to read.
 ghost use Rattle.std.specs.Prelude.{◌≡◌, [], ◌∷◌, MatchOption};
 ghost use Rattle.std.specs.Option.{option_copied};
-ghost use Rattle.gql_doc.specs.Readers.{first, behind_first, begins, place_of, too_deep as deep_at, Leaves};
+ghost use Rattle.gql_doc.specs.Readers.{first, behind_first, begins, place_of, too_deep as deep_at};
+ghost use Rattle.gql_doc.specs.Readers.{Leaves};
 ghost use Rattle.gql_doc.specs.Reading as reading;
 ghost use Rattle.gql_doc.specs.Reading.{is_sign, is_word, is_name, is_fragment_name, is_scalar};
 ghost use Rattle.gql_doc.specs.Reading.{is_end, other_than, before_end, says_sign, says_word};

@@ -21,7 +21,8 @@ use crate::variable_building::build_variables;
 use gql_base::{Items, Made, Name, Pairs, Pos};
 use std::alloc::Global;
 
-/// The definitions of a document that were built so far: an operation without a name, and those with names.
+/// The definitions of a document that were built so far: an operation without a name, and those
+/// with names.
 #[derive(Drop)]
 struct Draft {
     anonymous: Option<Positioned<OperationDefinition>>,

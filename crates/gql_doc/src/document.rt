@@ -13,7 +13,8 @@ pub struct Positioned<T> {
     pub node: T,
 }
 
-/// A document: its operations, and its fragments under their names, each in the order of the document.
+/// A document: its operations, and its fragments under their names, each in the order of the
+/// document.
 #[derive(Debug, Drop)]
 pub struct ExecutableDocument {
     pub operations: DocumentOperations,
@@ -144,8 +145,8 @@ impl Field {
 }
 
 impl VariableDefinition {
-    /// The default; without one `null` where the type is nullable, else none. The caller hands in the null value, which
-    /// the answer may refer to.
+    /// The default; without one `null` where the type is nullable, else none. The caller hands in
+    /// the null value, which the answer may refer to.
     pub fn default_value<'a>(&'a self, null: &'a Value) -> Option<&'a Value>
         ensures { option_copied result ≡ default_of self.now null.now }
     {

@@ -7,8 +7,8 @@ ghost use Rattle.gql_doc.specs.Builds.{anonymous_in, first_pos};
 use crate::tree::DefinitionTree;
 use gql_base::Pos;
 
-/// The place of the first operation that stands wrongly: an anonymous one beside another. Without operations it is that
-/// of the first definition.
+/// The place of the first operation that stands wrongly: an anonymous one beside another. Without
+/// operations it is that of the first definition.
 #[tactic(auto, using(crate::proofs::OperationLaws::none_is_wrong, crate::proofs::OperationLaws::one_is_right, crate::proofs::OperationLaws::some_are_wrong))]
 pub fn place_of_wrong_operation(definitions: &[DefinitionTree]) -> Option<Pos>
     ensures { result ≡ wrong_operations definitions.now }

@@ -1,4 +1,5 @@
-//! The tree of a text: what is written, in its order and with its places. A name that stands twice is kept twice.
+//! The tree of a text: what is written, in its order and with its places. A name that stands twice
+//! is kept twice.
 use crate::document::{OperationType, Positioned};
 use gql_base::{Items, Name, Number, Pos, Text, TypeRef};
 
@@ -56,8 +57,8 @@ pub struct VariableTree {
     pub directives: Items<DirectiveTree>,
 }
 
-/// A selection (sections 2.5 and 2.8). `set` is the place of a set's `{`, and a field without a set has no selections
-/// and its own place there. A spread and an inline fragment stand at their `...`.
+/// A selection (sections 2.5 and 2.8). `set` is the place of a set's `{`, and a field without a set
+/// has no selections and its own place there. A spread and an inline fragment stand at their `...`.
 #[derive(Debug, Drop)]
 pub enum SelectionTree {
     Field {

@@ -14,7 +14,8 @@ use gql_base::Items;
 use gql_tokens::Punctuator;
 use std::alloc::Global;
 
-/// Levels of nesting that a text may have: of sets, of list and object values together, and of list types.
+/// Levels of nesting that a text may have: of sets, of list and object values together, and of list
+/// types.
 pub const MAX_LEVELS: usize = 64;
 
 /// Reads a value that begins its own levels, with its place.

@@ -1,4 +1,5 @@
-//! The examples of sections 2.3 to 2.12 of the October 2021 specification, each with the document that it spells.
+//! The examples of sections 2.3 to 2.12 of the October 2021 specification, each with the document
+//! that it spells.
 use crate::tests::first_wrong;
 use std::test::Fail;
 
@@ -232,7 +233,8 @@ fragment pageFragment on Page{likers{count } }",
     ),
 ];
 
-/// Strings, null, objects and variables, and a definition of a type, which is in no executable document.
+/// Strings, null, objects and variables, and a definition of a type, which is in no executable
+/// document.
 const VALUES: [(&str, &str); 7] = [
     (
         "mutation {

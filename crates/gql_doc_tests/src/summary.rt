@@ -14,8 +14,8 @@ struct ShortForm {
     places: bool,
 }
 
-/// A document in short: a list between brackets, an object between braces, and everything in the order of the document. With
-/// places, each part that has one begins with `^` and its column.
+/// A document in short: a list between brackets, an object between braces, and everything in the
+/// order of the document. With places, each part that has one begins with `^` and its column.
 pub fn summary(alloc: Global, document: &ExecutableDocument, places: bool) -> Made<String> {
     let mut summary = ShortForm {
         alloc,

@@ -1,5 +1,5 @@
--- The rounds of the hooks: those of a task are entered once, before its resolver, and are told of it
--- alone.
+-- The rounds of the hooks: those of a task are entered once, before its resolver, and are told of
+-- it alone.
 use Rattle.std.specs.Prelude.{ℕ, ◌≡◌, ◌+◌, ◌≤◌, ◌==◌, if◌then◌else◌, All}
 use Rattle.std.specs.Prelude.{List, [], ◌∷◌, Option, Some, None, map, slice_get}
 use Rattle.gql_request.specs.declared.extension_context.ExtensionContext.{ExtensionContext}

@@ -4,9 +4,11 @@ use Rattle.std.specs.List.{flat_map}
 use Rattle.std.specs.declared.collections.VecDeque.{VecDeque}
 use Rattle.std.specs.declared.alloc.Global.{Global}
 
+-- a block: the numbers of waiting tasks, of which any can be taken out
 abbrev pub Block : Type 0
 Block = VecDeque ℕ Global
 
+-- the numbers in a block, in their order
 abbrev pub numbers_in : Block → List ℕ
 numbers_in block = block.items
 

@@ -14,8 +14,8 @@ pub trait Rounds {
     /// What hooks tell of a round.
     ghost Event: { Type 0 };
 
-    /// The event of the round before a task's resolver, by the data that hooks see and what they are
-    /// told of the task.
+    /// The event of the round before a task's resolver, by the data that hooks see and what they
+    /// are told of the task.
     ghost entered: { ExtensionContext → ResolveInfo → Event };
 
     /// The events that the hooks have told, where they tell them.

@@ -41,7 +41,8 @@ impl Rounds for Telling {
     }
 }
 
-/// Appends what hooks are told of a task: its path, its type and field with its alias, and the type.
+/// Appends what hooks are told of a task: its path, its type and field with its alias, and the
+/// type.
 fn push_info(out: &mut String, info: &ResolveInfo<'_>) -> Made<()> {
     for segment in info.path_node.segments {
         write!(out, "{segment}")?;

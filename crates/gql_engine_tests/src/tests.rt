@@ -1,4 +1,5 @@
-//! The engine on sets that no law speaks of. What a test looks at is made by small functions beside it.
+//! The engine on sets that no law speaks of. What a test looks at is made by small functions beside
+//! it.
 ghost use Rattle.std.specs.Prelude.{◌≡◌, ◌<◌, false, length};
 ghost use Rattle.gql_resolve.specs.Call.{is_mutation};
 

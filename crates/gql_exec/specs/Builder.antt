@@ -18,11 +18,13 @@ table_of builder = types_of builder.types
 abbrev pub settings_of : SchemaBuilder → Settings
 settings_of builder = builder.settings
 
--- whether the schema has what federation adds: since that is asked for, or since an object has a key
+-- whether the schema has what federation adds: since that is asked for, or since an object has a
+-- key
 abbrev pub is_federated : SchemaBuilder → Bool
 is_federated builder = (settings_of builder).federation || has_entities (table_of builder)
 
--- the table that is checked: with the types of federation, where there is one, and then with the scalars of every schema
+-- the table that is checked: with the types of federation, where there is one, and then with the
+-- scalars of every schema
 abbrev pub whole_table : SchemaBuilder → TypeTable
 whole_table builder = with_built_in (table_with (is_federated builder) (table_of builder))
 
@@ -30,7 +32,8 @@ whole_table builder = with_built_in (table_with (is_federated builder) (table_of
 pub record IsSchemaOf (builder : SchemaBuilder) (schema : Schema) : Type 0 where
   pub table : types_of (schemas.types_in schema) ≡ whole_table builder
   pub sound : IsSound (whole_table builder)
-  pub settings : schemas.settings_of schema ≡ record (settings_of builder) { federation = is_federated builder }
+  pub settings : schemas.settings_of schema
+      ≡ record (settings_of builder) { federation = is_federated builder }
 
 -- what finishing a builder gives: its schema, or the first refusal of the whole table
 abbrev pub GivesSchema : SchemaBuilder → Result Schema SchemaError → Type 0

@@ -1,5 +1,6 @@
 -- What a schema has beside its types, and what of it a request meets.
-use Rattle.std.specs.Prelude.{ℕ, Bool, true, false, ◌&&◌, not, List, [], Option, Some, None, if◌then◌else◌}
+use Rattle.std.specs.Prelude.{ℕ, Bool, true, false, ◌&&◌, not, List, [], Option, Some, None}
+use Rattle.std.specs.Prelude.{if◌then◌else◌}
 use Rattle.gql_doc.specs.declared.document.OperationType.{OperationType}
 use Rattle.gql_doc.specs.declared.document.OperationType.TheVariants as kinds
 use Rattle.gql_exec.specs.Limits.{default_depth}
@@ -43,8 +44,11 @@ is_disabled _ = false
 -- whether the query root has `_entities`, where there is a resolver of it
 abbrev pub has_entities_for : Settings → IntrospectionMode → Bool
 has_entities_for settings request =
-    settings.federation && not (is_disabled settings.introspection_mode) && not (is_disabled request)
+    settings.federation && not (is_disabled settings.introspection_mode)
+    && not (is_disabled request)
 
--- the number of the resolver of `_entities` for a request in a mode, or none where the query root has no such field
+-- the number of the resolver of `_entities` for a request in a mode, or none where the query root
+-- has no such field
 abbrev pub entities_for : Settings → IntrospectionMode → Option ℕ
-entities_for settings request = if has_entities_for settings request then settings.entity_resolver else None
+entities_for settings request =
+    if has_entities_for settings request then settings.entity_resolver else None

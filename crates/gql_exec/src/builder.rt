@@ -3,7 +3,8 @@ ghost use Rattle.std.specs.Prelude.{◌≡◌, ◌<◌, [], Some, true, IfOk};
 ghost use Rattle.std.below.core.specs.declared.int.usize.TheConstants.{MAX};
 ghost use Rattle.gql_base.specs.Pairs.{put};
 ghost use Rattle.gql_request.specs.Data.{put_key};
-ghost use Rattle.gql_request.specs.declared.query_env.IntrospectionMode.TheVariants.{Disabled, IntrospectionOnly};
+ghost use Rattle.gql_request.specs.declared.query_env.IntrospectionMode.TheVariants.{Disabled};
+ghost use Rattle.gql_request.specs.declared.query_env.IntrospectionMode.TheVariants.{IntrospectionOnly};
 ghost use Rattle.gql_schema.specs.Table.{types_of};
 ghost use Rattle.gql_schema.specs.Types.{type_name};
 ghost use Rattle.gql_exec.specs.Federation.{table_with};
@@ -38,7 +39,8 @@ impl SchemaBuilder {
         }
     }
 
-    /// This builder with a type under its name. A second one under a name takes the place of the first.
+    /// This builder with a type under its name. A second one under a name takes the place of the
+    /// first.
     pub fn register(mut self, alloc: Global, ty: SchemaType) -> Made<SchemaBuilder>
         ensures table { IfOk result (λ builder. table_of builder ≡ put (table_of self) (type_name ty) ty) }
         ensures settings { IfOk result (λ builder. settings_of builder ≡ settings_of self) }
@@ -51,7 +53,8 @@ impl SchemaBuilder {
     pub fn data(mut self, key: DataKey, value: Value) -> Made<SchemaBuilder>
         ensures table { IfOk result (λ builder. table_of builder ≡ table_of self) }
         ensures settings { IfOk result (λ builder. settings_of builder
-            ≡ record (settings_of self) { schema_data = put_key (settings_of self).schema_data key.0 value }) }
+            ≡ record (settings_of self)
+            { schema_data = put_key (settings_of self).schema_data key.0 value }) }
     {
         self.settings.schema_data.insert(key, value)?;
         Ok(self)
@@ -145,8 +148,9 @@ impl SchemaBuilder {
         }
     }
 
-    /// The schema, where no rule of the table of types is broken, and else the first refusal. Where federation is asked for, or an
-    /// object has a key, the table has its two types; it has the scalars of every schema.
+    /// The schema, where no rule of the table of types is broken, and else the first refusal. Where
+    /// federation is asked for, or an object has a key, the table has its two types; it has the
+    /// scalars of every schema.
     pub fn finish(self, alloc: Global) -> Made<Result<Schema, SchemaError>>
         ensures finished { IfOk result (λ outcome. GivesSchema self outcome) }
     {

@@ -1,5 +1,5 @@
-//! Schemas as requests meet them: a checked table of types with the names of its roots, its limits and its data, and the builder
-//! that makes one. Their execution is to come.
+//! Schemas as requests meet them: a checked table of types with the names of its roots, its limits
+//! and its data, and the builder that makes one. Their execution is to come.
 #![tactic(auto)]
 
 mod builder;

@@ -14,7 +14,8 @@ use gql_request::{Data, IntrospectionMode};
 use gql_schema::Types;
 use std::alloc::Global;
 
-/// A schema: a table of types in which no rule is broken, and its settings. Once it is built, it never changes.
+/// A schema: a table of types in which no rule is broken, and its settings. Once it is built, it
+/// never changes.
 #[derive(Debug, Drop)]
 pub struct Schema {
     types: Types,
@@ -27,8 +28,9 @@ impl Schema {
     ghost use Rattle.gql_exec.specs.Builder.{settings_of as settings_built, table_of};
     ghost use Rattle.gql_exec.specs.Schema.{settings_of, types_in};
 
-    /// A builder of a schema whose roots have these names. It has no types, the depth of documents is limited to 32, the number of
-    /// directives isn't, requests may ask for the schema, and there is no federation.
+    /// A builder of a schema whose roots have these names. It has no types, the depth of documents
+    /// is limited to 32, the number of directives isn't, requests may ask for the schema, and there
+    /// is no federation.
     pub fn build(
         alloc: Global,
         query: &str,
@@ -37,7 +39,8 @@ impl Schema {
     ) -> Made<SchemaBuilder>
         ensures table { IfOk result (λ builder. table_of builder ≡ []) }
         ensures settings { IfOk result (λ builder. settings_built builder
-            ≡ new_settings query.now (option_copied mutation.entry) (option_copied subscription.entry)) }
+            ≡ new_settings query.now (option_copied mutation.entry)
+            (option_copied subscription.entry)) }
     {
         let settings = Settings::new(alloc, query, mutation, subscription)?;
         Ok(SchemaBuilder::of(alloc, settings))
@@ -87,8 +90,8 @@ impl Schema {
         &self.settings
     }
 
-    /// How far a request in a mode may ask for the schema itself: for nothing else where the schema or the request has it so, and else as
-    /// far as the request says.
+    /// How far a request in a mode may ask for the schema itself: for nothing else where the schema
+    /// or the request has it so, and else as far as the request says.
     pub fn mode(&self, request: IntrospectionMode) -> IntrospectionMode
         ensures { result ≡ mode_for (settings_of self.now) request }
     {
@@ -98,8 +101,8 @@ impl Schema {
         }
     }
 
-    /// The number of the resolver of `_entities` for a request in a mode: where there is federation, and neither the schema nor the
-    /// request has introspection disabled.
+    /// The number of the resolver of `_entities` for a request in a mode: where there is
+    /// federation, and neither the schema nor the request has introspection disabled.
     pub fn entities(&self, request: IntrospectionMode) -> Option<u32>
         ensures { result ≡ entities_for (settings_of self.now) request }
     {

@@ -41,7 +41,8 @@ impl Settings {
         subscription: Option<&str>,
     ) -> Made<Settings>
         ensures { IfOk result (λ settings. settings
-            ≡ new_settings query.now (option_copied mutation.entry) (option_copied subscription.entry)) }
+            ≡ new_settings query.now (option_copied mutation.entry)
+            (option_copied subscription.entry)) }
     {
         Ok(Settings {
             query: Text::new(alloc, query)?,

@@ -7,7 +7,8 @@ use gql_schema::{Field, Object, SchemaType};
 use std::alloc::Global;
 use std::test::Fail;
 
-/// A builder with the type `Query`, which has one field of the type of a name, and the data 7 under key 1.
+/// A builder with the type `Query`, which has one field of the type of a name, and the data 7 under
+/// key 1.
 fn builder(alloc: Global, field_type: &str) -> Made<SchemaBuilder> {
     let field = Field::new(alloc, "f", TypeRef::named(alloc, field_type)?, 0)?;
     let query = Object::new(alloc, "Query")?.field(alloc, field)?;
@@ -126,7 +127,8 @@ fn is_plain(schema: &Schema) -> bool {
         && schema.entities(IntrospectionMode::Enabled) == None
 }
 
-/// Whether a schema that was told everything has it, and no entities, since its introspection is disabled.
+/// Whether a schema that was told everything has it, and no entities, since its introspection is
+/// disabled.
 fn is_full(schema: &Schema) -> bool {
     limits_are(schema, 5, Some(3))
         && has_type(schema, "_Any")

@@ -1,4 +1,5 @@
--- How a field is answered: when, with which errors and headers beside the answer, and by which one rule.
+-- How a field is answered: when, with which errors and headers beside the answer, and by which one
+-- rule.
 use Rattle.std.specs.Prelude.{ℕ, List, [], ◌∷◌, codes, Ok}
 use Rattle.serde_json.specs.Data.{Data}
 use Rattle.gql_base.specs.ReadJson.{Reading}
@@ -12,7 +13,8 @@ use Rattle.gql_form.specs.RuleForm.{rule_of}
 abbrev pub answer_words : List (List ℕ)
 answer_words =
     codes "delay" ∷ codes "added" ∷ codes "headers"
-    ∷ codes "const" ∷ codes "none" ∷ codes "fail" ∷ codes "member" ∷ codes "arg" ∷ codes "sum" ∷ codes "read" ∷ codes "bump" ∷ []
+    ∷ codes "const" ∷ codes "none" ∷ codes "fail" ∷ codes "member" ∷ codes "arg" ∷ codes "sum"
+    ∷ codes "read" ∷ codes "bump" ∷ []
 
 abbrev pub answer_of : ℕ → Data → Reading AnswerForm
 answer_of cells json = do

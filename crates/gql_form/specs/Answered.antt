@@ -1,7 +1,10 @@
--- What a bench answers: plain JSON, or one of the special objects, which count at the top, in `$list` and under `of`.
-use Rattle.std.specs.Prelude.{ℕ, Bool, false, ◌&&◌, ◌||◌, List, [], ◌∷◌, ◌++◌, length, codes, Ok, Err, if◌then◌else◌}
+-- What a bench answers: plain JSON, or one of the special objects, which count at the top, in
+-- `$list` and under `of`.
+use Rattle.std.specs.Prelude.{ℕ, Bool, false, ◌&&◌, ◌||◌, List, [], ◌∷◌, ◌++◌, length, codes, Ok}
+use Rattle.std.specs.Prelude.{Err, if◌then◌else◌}
 use Rattle.std.specs.Str.{bytes_eq}
-use Rattle.serde_json.specs.Data.{Data, null, boolean, number, string, array, object, Items, no_items, item, Members, no_members, member}
+use Rattle.serde_json.specs.Data.{Data, null, boolean, number, string, array, object, Items}
+use Rattle.serde_json.specs.Data.{no_items, item, Members, no_members, member}
 use Rattle.gql_base.specs.ReadJson.{Reading, inside, read_in}
 use Rattle.gql_base.specs.declared.path_segment.PathSegment.TheVariants.{Field, Index}
 use Rattle.gql_base.specs.declared.read_json.EnumForm.TheVariants.{Plain}
@@ -27,7 +30,9 @@ abbrev pub of_word : List ℕ
 of_word = codes "of"
 
 abbrev pub is_special : List ℕ → Bool
-is_special name = bytes_eq name own_word || bytes_eq name list_word || bytes_eq name type_word || bytes_eq name enum_word
+is_special name =
+    bytes_eq name own_word || bytes_eq name list_word || bytes_eq name type_word
+    || bytes_eq name enum_word
 
 -- whether an object has a member that makes it special
 abbrev pub has_special : Members → Bool
@@ -65,7 +70,8 @@ abbrev mutual
   answered_of (number n) = plain_of (number n)
   answered_of (string text) = plain_of (string text)
   answered_of (array items) = plain_of (array items)
-  answered_of (object members) = if has_special members then special_of members else plain_of (object members)
+  answered_of (object members) =
+      if has_special members then special_of members else plain_of (object members)
 
   -- an object with a special member has no other but `of` beside `$type`
   pub special_of : Members → Reading Answered

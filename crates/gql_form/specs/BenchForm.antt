@@ -26,7 +26,8 @@ cell_count json = list_length (get (codes "cells") json)
 
 abbrev pub bench_words : Command → List (List ℕ)
 bench_words command =
-    codes "schema" ∷ codes "cells" ∷ codes "root" ∷ codes "turns" ∷ codes "hooks" ∷ own_word command ∷ []
+    codes "schema" ∷ codes "cells" ∷ codes "root" ∷ codes "turns" ∷ codes "hooks" ∷ own_word command
+    ∷ []
 
 -- a bench of so many cells
 abbrev pub bench_of : ℕ → Command → Data → Reading BenchForm

@@ -13,7 +13,8 @@ dot = 46
 -- the parts of a text between its dots, where this much of the first part was read before
 abbrev pub parts_from : List ℕ → List ℕ → List (List ℕ)
 parts_from part [] = part ∷ []
-parts_from part (c ∷ cs) = if c == dot then part ∷ parts_from [] cs else parts_from (part ++ c ∷ []) cs
+parts_from part (c ∷ cs) =
+    if c == dot then part ∷ parts_from [] cs else parts_from (part ++ c ∷ []) cs
 
 abbrev pub parts : List ℕ → List (List ℕ)
 parts text = parts_from [] text

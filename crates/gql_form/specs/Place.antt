@@ -1,4 +1,5 @@
--- A place of a bench as it is written, such as `schema.types[0].fields[1].type`. The whole is `bench`.
+-- A place of a bench as it is written, such as `schema.types[0].fields[1].type`. The whole is
+-- `bench`.
 use Rattle.std.specs.Prelude.{ℕ, List, [], ◌∷◌, ◌++◌, codes}
 use Rattle.std.specs.Fmt.{decimal}
 use Rattle.gql_base.specs.declared.path_segment.PathSegment.{PathSegment}

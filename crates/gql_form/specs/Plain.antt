@@ -1,5 +1,6 @@
 -- Texts, names, numbers and truth values in JSON.
-use Rattle.std.specs.Prelude.{ℕ, ℤ, Bool, List, [], Option, Some, None, Ok, Err, nat_le, if◌then◌else◌, option_and_then}
+use Rattle.std.specs.Prelude.{ℕ, ℤ, Bool, List, [], Option, Some, None, Ok, Err, nat_le}
+use Rattle.std.specs.Prelude.{if◌then◌else◌, option_and_then}
 use Rattle.serde_json.specs.Data.{Data}
 use Rattle.serde_json.specs.Find.{as_str, as_number, as_u64, as_i64, as_bool}
 use Rattle.gql_base.specs.Letters.{is_name}

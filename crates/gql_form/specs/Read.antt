@@ -1,8 +1,11 @@
--- What a part of a bench's JSON is read as: a value, or the steps from outside to the first bad place.
-use Rattle.std.specs.Prelude.{ℕ, ◌==◌, List, [], ◌∷◌, ◌++◌, length, codes, Option, Some, None, Ok, Err, if◌then◌else◌, ⊤}
+-- What a part of a bench's JSON is read as: a value, or the steps from outside to the first bad
+-- place.
+use Rattle.std.specs.Prelude.{ℕ, ◌==◌, List, [], ◌∷◌, ◌++◌, length, codes, Option, Some, None, Ok}
+use Rattle.std.specs.Prelude.{Err, if◌then◌else◌, ⊤}
 use Rattle.std.specs.List.{list_any}
 use Rattle.std.specs.Str.{bytes_eq}
-use Rattle.serde_json.specs.Data.{Data, Items, no_items, item, Members, no_members, member as one_member}
+use Rattle.serde_json.specs.Data.{Data, Items, no_items, item, Members, no_members}
+use Rattle.serde_json.specs.Data.{member as one_member}
 use Rattle.serde_json.specs.Events.{items_len}
 use Rattle.serde_json.specs.Find.{get, at, as_object, as_array}
 use Rattle.gql_base.specs.ReadJson.{Reading, inside}
@@ -62,7 +65,8 @@ is_fresh name None = Ok name
 is_fresh name (Some found) = Err (Field (codes "name") ∷ [])
 
 -- an object under its member `name`, which is bad where a pair of that name was read before
-abbrev pub named_item : {A : Type 0} → (Data → Reading A) → List (List ℕ × A) → Data → Reading (List ℕ × A)
+abbrev pub named_item : {A : Type 0} → (Data → Reading A) → List (List ℕ × A) → Data
+    → Reading (List ℕ × A)
 named_item behind earlier json = do
   name ← member (codes "name") name_of json
   fresh ← is_fresh name (under name earlier)
@@ -70,7 +74,8 @@ named_item behind earlier json = do
   Ok (fresh, value)
 
 -- the items of a list of named objects, behind those that were read before
-abbrev pub named_behind : {A : Type 0} → (Data → Reading A) → List (List ℕ × A) → Items → Reading (List (List ℕ × A))
+abbrev pub named_behind : {A : Type 0} → (Data → Reading A) → List (List ℕ × A) → Items
+    → Reading (List (List ℕ × A))
 named_behind behind earlier no_items = Ok earlier
 named_behind behind earlier (item json items) = do
   pair ← inside (Index (length earlier)) (named_item behind earlier json)

@@ -15,7 +15,8 @@ use Rattle.gql_form.specs.Read.{member, each, sole}
 -- the words of the rules
 abbrev pub rule_words : List (List ℕ)
 rule_words =
-    codes "const" ∷ codes "none" ∷ codes "fail" ∷ codes "member" ∷ codes "arg" ∷ codes "sum" ∷ codes "read" ∷ codes "bump" ∷ []
+    codes "const" ∷ codes "none" ∷ codes "fail" ∷ codes "member" ∷ codes "arg" ∷ codes "sum"
+    ∷ codes "read" ∷ codes "bump" ∷ []
 
 -- the number of a cell, below the number of cells
 abbrev pub cell_of : ℕ → Data → Reading Cell

@@ -5,7 +5,8 @@ use Rattle.std.specs.Str.{bytes_eq}
 use Rattle.serde_json.specs.Data.{Data}
 use Rattle.gql_base.specs.ReadJson.{Reading}
 use Rattle.gql_request.specs.declared.query_env.IntrospectionMode.{IntrospectionMode}
-use Rattle.gql_request.specs.declared.query_env.IntrospectionMode.TheVariants.{IntrospectionOnly, Enabled, Disabled}
+use Rattle.gql_request.specs.declared.query_env.IntrospectionMode.TheVariants.{IntrospectionOnly}
+use Rattle.gql_request.specs.declared.query_env.IntrospectionMode.TheVariants.{Enabled, Disabled}
 use Rattle.gql_form.specs.declared.schema_form.Depth.{Depth}
 use Rattle.gql_form.specs.declared.schema_form.SchemaForm.{SchemaForm}
 use Rattle.gql_form.specs.declared.schema_form.Settings.{Settings}
@@ -46,7 +47,8 @@ settings_of json = do
 
 abbrev pub schema_words : List (List ℕ)
 schema_words =
-    codes "query" ∷ codes "mutation" ∷ codes "subscription" ∷ codes "types" ∷ codes "limitRecursiveDepth"
+    codes "query" ∷ codes "mutation" ∷ codes "subscription" ∷ codes "types"
+    ∷ codes "limitRecursiveDepth"
     ∷ codes "limitDirectives" ∷ codes "introspection" ∷ codes "federation" ∷ codes "entities" ∷ []
 
 abbrev pub schema_of : ℕ → Data → Reading SchemaForm
@@ -57,4 +59,10 @@ schema_of cells json = do
   types ← member (codes "types") (each (type_of cells)) json
   settings ← settings_of json
   _ ← only schema_words json
-  Ok (record { query = query; mutation = mutation; subscription = subscription; types = types; settings = settings })
+  Ok (record {
+    query = query;
+    mutation = mutation;
+    subscription = subscription;
+    types = types;
+    settings = settings;
+  })

@@ -15,7 +15,8 @@ use Rattle.gql_form.specs.declared.type_form.TypeForm.TheVariants as form
 use Rattle.gql_form.specs.declared.type_form.UnionForm.{UnionForm}
 use Rattle.gql_form.specs.declared.type_form.TypeKind.{TypeKind}
 use Rattle.gql_form.specs.declared.type_form.TypeKind.TheVariants as kind
-use Rattle.gql_form.specs.Fields.{field_of, interface_field_of, input_field_of, subscription_field_of}
+use Rattle.gql_form.specs.Fields.{field_of, interface_field_of, input_field_of}
+use Rattle.gql_form.specs.Fields.{subscription_field_of}
 use Rattle.gql_form.specs.Plain.{text_of, name_of, truth_of, ◌>>=◌}
 use Rattle.gql_form.specs.Read.{member, optional, each, listed, named, only}
 use Rattle.gql_form.specs.ScalarRule.{scalar_rule_of}
@@ -42,7 +43,8 @@ object_of cells json = do
   interfaces ← listed (codes "implements") name_of json
   key ← optional (codes "key") text_of json
   fields ← member (codes "fields") (named (field_of cells)) json
-  _ ← only (codes "kind" ∷ codes "name" ∷ codes "implements" ∷ codes "key" ∷ codes "fields" ∷ []) json
+  _ ← only (codes "kind" ∷ codes "name" ∷ codes "implements" ∷ codes "key" ∷ codes "fields" ∷ [])
+      json
   Ok (record { name = name; interfaces = interfaces; key = key; fields = fields })
 
 abbrev pub interface_of : Data → Reading InterfaceForm

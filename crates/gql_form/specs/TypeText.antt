@@ -1,6 +1,7 @@
--- The type that a text spells (GraphQL, October 2021, section 2.11), as a function of the text: the tokens that may stand in
--- a type, and what they are read as.
-use Rattle.std.specs.Prelude.{ℕ, ◌==◌, List, [], ◌∷◌, ◌++◌, Option, Some, None, if◌then◌else◌, option_map, encode_utf8_all}
+-- The type that a text spells (GraphQL, October 2021, section 2.11), as a function of the text: the
+-- tokens that may stand in a type, and what they are read as.
+use Rattle.std.specs.Prelude.{ℕ, ◌==◌, List, [], ◌∷◌, ◌++◌, Option, Some, None, if◌then◌else◌}
+use Rattle.std.specs.Prelude.{option_map, encode_utf8_all}
 use Rattle.std.specs.Result.{result_ok}
 use Rattle.std.specs.Str.{chars}
 use Rattle.serde_json.specs.Data.{Data}
@@ -28,16 +29,23 @@ behind token tokens = option_map (λ others. token ∷ others) tokens
 abbrev pub name_token : Pos → List ℕ → Token
 name_token place name = token_at place (lexeme.Name (encode_utf8_all name))
 
--- The tokens of a text from a place on, with the end as the last; none where a token stands in it that no type has.
+-- The tokens of a text from a place on, with the end as the last; none where a token stands in it
+-- that no type has.
 abbrev mutual
   pub tokens_from : Pos → List ℕ → Option (List Token)
   tokens_from place [] = Some (token_at place lexeme.End ∷ [])
   tokens_from place (c ∷ cs) =
       if is_ignored c then tokens_from (next_place place c cs) cs
       else (if c == hash then in_comment (next_place place c cs) cs
-      else (if c == 33 then behind (token_at place (lexeme.Punctuator sign.Bang)) (tokens_from (next_place place c cs) cs)
-      else (if c == 91 then behind (token_at place (lexeme.Punctuator sign.OpenBracket)) (tokens_from (next_place place c cs) cs)
-      else (if c == 93 then behind (token_at place (lexeme.Punctuator sign.CloseBracket)) (tokens_from (next_place place c cs) cs)
+      else (if c == 33
+      then behind (token_at place (lexeme.Punctuator sign.Bang))
+      (tokens_from (next_place place c cs) cs)
+      else (if c == 91
+      then behind (token_at place (lexeme.Punctuator sign.OpenBracket))
+      (tokens_from (next_place place c cs) cs)
+      else (if c == 93
+      then behind (token_at place (lexeme.Punctuator sign.CloseBracket))
+      (tokens_from (next_place place c cs) cs)
       else (if is_name_start c then in_name place (c ∷ []) (next_place place c cs) cs else None)))))
 
   pub in_comment : Pos → List ℕ → Option (List Token)
@@ -54,10 +62,17 @@ abbrev mutual
       else behind (name_token start name) (
       if is_ignored c then tokens_from (next_place place c cs) cs
       else (if c == hash then in_comment (next_place place c cs) cs
-      else (if c == 33 then behind (token_at place (lexeme.Punctuator sign.Bang)) (tokens_from (next_place place c cs) cs)
-      else (if c == 91 then behind (token_at place (lexeme.Punctuator sign.OpenBracket)) (tokens_from (next_place place c cs) cs)
-      else (if c == 93 then behind (token_at place (lexeme.Punctuator sign.CloseBracket)) (tokens_from (next_place place c cs) cs)
-      else (if is_name_start c then in_name place (c ∷ []) (next_place place c cs) cs else None))))))
+      else (if c == 33
+      then behind (token_at place (lexeme.Punctuator sign.Bang))
+      (tokens_from (next_place place c cs) cs)
+      else (if c == 91
+      then behind (token_at place (lexeme.Punctuator sign.OpenBracket))
+      (tokens_from (next_place place c cs) cs)
+      else (if c == 93
+      then behind (token_at place (lexeme.Punctuator sign.CloseBracket))
+      (tokens_from (next_place place c cs) cs)
+      else (if is_name_start c
+      then in_name place (c ∷ []) (next_place place c cs) cs else None))))))
 
 -- the type that these tokens are, if they are one
 abbrev pub type_of_tokens : Option (List Token) → Option TypeRef

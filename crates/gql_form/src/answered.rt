@@ -2,7 +2,9 @@
 ghost use Rattle.std.specs.Prelude.{◌≡◌, []};
 ghost use Rattle.serde_json.specs.Data.{member as one_member, no_members};
 ghost use Rattle.serde_json.specs.View.{view, items_view, members_view};
-ghost use Rattle.gql_form.specs.Answered.{answered_of, plain_of, own_of, enum_of, without_of, is_special, has_special, special_of, typed_of, parts_of, parts_behind};
+ghost use Rattle.gql_form.specs.Answered.{answered_of, plain_of, own_of, enum_of, without_of};
+ghost use Rattle.gql_form.specs.Answered.{is_special, has_special, special_of, typed_of, parts_of};
+ghost use Rattle.gql_form.specs.Answered.{parts_behind};
 ghost use Rattle.gql_form.specs.Faults.{IsRead};
 
 use crate::fault::Fault;

@@ -6,7 +6,9 @@ ghost use Rattle.serde_json.specs.View.{view, items_view, members_view};
 ghost use Rattle.gql_base.specs.Pairs.{under};
 ghost use Rattle.gql_base.specs.declared.path_segment.PathSegment.TheVariants.{Field};
 ghost use Rattle.gql_form.specs.Faults.{IsRead, IsReadAs};
-ghost use Rattle.gql_form.specs.Read.{there, perhaps, member, optional, items_behind, listed, is_fresh, named_item, named_behind, first_other, only, present, the_only, sole, long, nth};
+ghost use Rattle.gql_form.specs.Read.{there, perhaps, member, optional, items_behind, listed};
+ghost use Rattle.gql_form.specs.Read.{is_fresh, named_item, named_behind, first_other, only};
+ghost use Rattle.gql_form.specs.Read.{present, the_only, sole, long, nth};
 
 use crate::fault::Fault;
 use crate::form::{Form, Named, Reader};
@@ -66,7 +68,8 @@ pub(crate) fn optional<T: Form>(reader: Reader, json: &Json, name: &str) -> Resu
 
 /// What is read of a part that may be missing.
 fn read_perhaps<T: Form>(reader: Reader, found: Option<&Json>) -> Result<Option<T>, Fault>
-    ensures { IsRead result (perhaps (T.reading reader.cells) (option_map (λ d. view d.now) found.entry)) }
+    ensures { IsRead result
+        (perhaps (T.reading reader.cells) (option_map (λ d. view d.now) found.entry)) }
 {
     match found {
         Some(json) => Ok(Some(T::read(reader, json)?)),
@@ -166,7 +169,8 @@ pub(crate) fn only(reader: Reader, json: &Json, names: &[&str]) -> Result<(), Fa
 }
 
 fn read_only(reader: Reader, members: &BTreeMap<String, Json>, names: &[&str]) -> Result<(), Fault>
-    ensures { IsRead result (first_other (map (λ n. n.now) names.now) (members_view members.now.entries)) }
+    ensures { IsRead result
+        (first_other (map (λ n. n.now) names.now) (members_view members.now.entries)) }
 {
     for (name, _) in members.iter() {
         if !is_among(name.as_str(), names) {
@@ -203,7 +207,8 @@ pub(crate) fn sole<'a>(reader: Reader, json: &Json, names: &[&'a str]) -> Result
 
 /// The name of these that an object has, where it has just one.
 fn only_present<'a>(json: &Json, names: &[&'a str]) -> Option<&'a str>
-    ensures { option_map (λ n. n.now) result ≡ the_only (present (map (λ n. n.now) names.now) (view json.now)) }
+    ensures { option_map (λ n. n.now) result
+        ≡ the_only (present (map (λ n. n.now) names.now) (view json.now)) }
 {
     let mut found = None;
     for name in names {

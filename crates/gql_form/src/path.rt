@@ -33,7 +33,8 @@ impl Form for Path {
 
 /// The names that dots join in a text.
 fn read_names(reader: Reader, text: &str) -> Result<Items<Name>, Fault>
-    ensures { IsRead result (if list_all is_name (parts text.now) then Ok (parts text.now) else Err []) }
+    ensures { IsRead result (if list_all is_name (parts text.now)
+        then Ok (parts text.now) else Err []) }
 {
     let mut names = Items::new(reader.alloc);
     let mut left = text;

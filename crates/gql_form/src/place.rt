@@ -1,5 +1,6 @@
 ghost use Rattle.std.specs.Prelude.{◌≡◌, IfOk, OnOk, ◌++◌, string_bytes};
-ghost use Rattle.gql_form.specs.Place.{place_text, steps_text, first_step_text, step_text, index_text};
+ghost use Rattle.gql_form.specs.Place.{place_text, steps_text, first_step_text, step_text};
+ghost use Rattle.gql_form.specs.Place.{index_text};
 
 use gql_base::{JsonPlace, Made, PathSegment, Text};
 use std::alloc::Global;

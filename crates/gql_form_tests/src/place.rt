@@ -4,7 +4,8 @@ use gql_form::{Command, form_of};
 use std::alloc::Global;
 use std::test::Fail;
 
-/// A bench for a command around a part of it, and the place that is left off the places within that part.
+/// A bench for a command around a part of it, and the place that is left off the places within that
+/// part.
 pub(crate) struct Frame {
     pub command: Command,
     pub front: &'static str,
@@ -13,7 +14,8 @@ pub(crate) struct Frame {
 }
 
 impl Frame {
-    /// The first part of a table whose first bad place within this frame isn't the one beside it; `good` stands for none.
+    /// The first part of a table whose first bad place within this frame isn't the one beside it;
+    /// `good` stands for none.
     pub(crate) fn first_wrong(
         &self,
         alloc: Global,

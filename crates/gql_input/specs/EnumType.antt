@@ -1,5 +1,6 @@
 -- Enums whose values names stand for.
-use Rattle.std.specs.Prelude.{ℕ, Bool, List, [], ◌∷◌, ◌++◌, Option, Some, None, Result, Err, codes, if◌then◌else◌}
+use Rattle.std.specs.Prelude.{ℕ, Bool, List, [], ◌∷◌, ◌++◌, Option, Some, None, Result, Err, codes}
+use Rattle.std.specs.Prelude.{if◌then◌else◌}
 use Rattle.std.specs.Option.{ok_or}
 use Rattle.gql_base.specs.Kinds.{enum_name_of}
 use Rattle.gql_base.specs.Pairs.{under}
@@ -21,9 +22,11 @@ no_item_text name = codes "Enumeration type does not contain value \"" ++ (name 
 
 -- what a name gives at an enum, or why it gives nothing
 abbrev pub read_item : {T : Type 0} → List ℕ → List (List ℕ × T) → List ℕ → Result T (List ℕ)
-read_item type_name listed name = ok_or (under name listed) (custom_text type_name (no_item_text name))
+read_item type_name listed name =
+    ok_or (under name listed) (custom_text type_name (no_item_text name))
 
-abbrev pub read_name : {T : Type 0} → List ℕ → List (List ℕ × T) → Value → Option (List ℕ) → Result T (List ℕ)
+abbrev pub read_name : {T : Type 0} → List ℕ → List (List ℕ × T) → Value → Option (List ℕ)
+    → Result T (List ℕ)
 read_name type_name listed value None = Err (expected_text type_name value)
 read_name type_name listed value (Some name) = read_item type_name listed name
 

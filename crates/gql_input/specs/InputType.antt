@@ -1,5 +1,6 @@
 -- What values give at an input type.
-use Rattle.std.specs.Prelude.{◌≡◌, ℕ, ℤ, List, Option, Some, None, Result, Ok, Err, int_le, pos, negsuc, ◌&&◌}
+use Rattle.std.specs.Prelude.{◌≡◌, ℕ, ℤ, List, Option, Some, None, Result, Ok, Err, int_le, pos}
+use Rattle.std.specs.Prelude.{negsuc, ◌&&◌}
 use Rattle.std.specs.Prelude.{if◌then◌else◌, option_and_then}
 use Rattle.std.specs.Option.{ok_or, unwrap_or}
 use Rattle.gql_base.specs.Kinds.{is_null, number_of}
@@ -25,7 +26,8 @@ read_as kind name given = ok_or (kind (or_null given)) (expected_text name (or_n
 
 -- the number where it has 32 bits with its sign
 abbrev pub if_small : ℤ → Option ℤ
-if_small number = if int_le (negsuc 2147483647) number && int_le number (pos 2147483647) then Some number else None
+if_small number =
+    if int_le (negsuc 2147483647) number && int_le number (pos 2147483647) then Some number else None
 
 abbrev pub small_number_of : Value → Option ℤ
 small_number_of given = option_and_then if_small (number_of given)
@@ -35,7 +37,8 @@ some_read (Ok read) = Ok (Some read)
 some_read (Err message) = Err message
 
 -- what a value gives at a type to which null belongs beside the values of another
-abbrev pub read_nullable : {T : Type 0} → (Option Value → Result T (List ℕ)) → Option Value → Result (Option T) (List ℕ)
+abbrev pub read_nullable : {T : Type 0} → (Option Value → Result T (List ℕ)) → Option Value
+    → Result (Option T) (List ℕ)
 read_nullable read None = Ok None
 read_nullable read (Some given) = if is_null given then Ok None else some_read (read (Some given))
 

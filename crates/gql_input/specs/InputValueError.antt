@@ -23,4 +23,5 @@ custom_text name reason = codes "Failed to parse \"" ++ (name ++ (codes "\": " +
 -- a message once it is told of another type: a type of the same name changes nothing
 abbrev pub propagated : List ℕ → List ℕ → List ℕ → List ℕ
 propagated name other message =
-    if bytes_eq name other then message else message ++ (codes " (occurred while parsing \"" ++ (other ++ codes "\")"))
+    if bytes_eq name other
+    then message else message ++ (codes " (occurred while parsing \"" ++ (other ++ codes "\")"))

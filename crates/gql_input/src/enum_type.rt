@@ -3,7 +3,8 @@ ghost use Rattle.std.specs.Option.{option_copied};
 ghost use Rattle.gql_base.specs.Kinds.{enum_name_of};
 ghost use Rattle.gql_base.specs.declared.value.Value.TheVariants as values;
 ghost use Rattle.gql_base.specs.Pairs.{under};
-ghost use Rattle.gql_input.specs.EnumType.{item_pair, name_of_item, no_item_text, read_enum, read_item};
+ghost use Rattle.gql_input.specs.EnumType.{item_pair, name_of_item, no_item_text, read_enum};
+ghost use Rattle.gql_input.specs.EnumType.{read_item};
 ghost use Rattle.gql_input.specs.InputType.{IsReading};
 
 use crate::input_type::InputType;
@@ -101,7 +102,8 @@ fn value_under<T: EnumType>(items: &[EnumItem<T>], name: &str) -> Option<T>
 
 /// The name of the first item of a value, or none.
 fn name_for<T: EnumType>(items: &[EnumItem<T>], value: T) -> Option<&'static str>
-    ensures { option_map (λ name. name.now) result ≡ name_of_item T.eq value (map item_pair items.now) }
+    ensures { option_map (λ name. name.now) result
+        ≡ name_of_item T.eq value (map item_pair items.now) }
 {
     for item in items {
         if item.value == value {

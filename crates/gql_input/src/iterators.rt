@@ -29,7 +29,10 @@ impl<'a> Iterator for Members<'a> {
     ghost use Rattle.gql_input.specs.Accessor.{value_behind};
     ghost use Rattle.gql_input.specs.Iterators.{members_left};
 
-    ghost next_gives = { YieldsFirstBy (λ member. (member.0.now, value_behind member.1)) members_left };
+    ghost next_gives = { YieldsFirstBy (λ member. (
+      member.0.now,
+      value_behind member.1,
+    )) members_left };
 
     ghost remaining = { item_count members_left };
 

@@ -72,8 +72,8 @@ impl<'a> ListAccessor<'a> {
         }
     }
 
-    /// The items from one place up to another. It refuses where the first place is over the second, or the second over the
-    /// length.
+    /// The items from one place up to another. It refuses where the first place is over the second,
+    /// or the second over the length.
     pub fn as_slice(
         &self,
         start: usize,

@@ -1,4 +1,5 @@
-ghost use Rattle.std.specs.Prelude.{◌≡◌, ◌↔◌, IsTrue, MatchOption, MatchResult, None, Some, [], length};
+ghost use Rattle.std.specs.Prelude.{◌≡◌, ◌↔◌, IsTrue, MatchOption, MatchResult, None, Some, []};
+ghost use Rattle.std.specs.Prelude.{length};
 ghost use Rattle.gql_base.specs.Pairs.{names_of, under, values_of};
 ghost use Rattle.gql_input.specs.Accessor.{value_behind, members_behind};
 ghost use Rattle.gql_input.specs.Iterators.{keys_left, members_left, values_left};

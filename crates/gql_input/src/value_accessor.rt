@@ -54,7 +54,8 @@ impl<'a> ValueAccessor<'a> {
     /// The name of an enum's value, which may stand in a string.
     pub fn enum_name(&self) -> Result<&'a str, AccessFault<'static>>
         ensures { MatchResult result (λ name. enum_name_of (value_behind self.now) ≡ Some name.now)
-            (λ fault. (fault ≡ AccessFault.NotEnumName) × (enum_name_of (value_behind self.now) ≡ None)) }
+            (λ fault. (fault ≡ AccessFault.NotEnumName)
+            × (enum_name_of (value_behind self.now) ≡ None)) }
     {
         match self.value {
             Value::Enum(name) => Ok(name.as_str()),
@@ -80,7 +81,8 @@ impl<'a> ValueAccessor<'a> {
 
     /// The number, where the value is one that isn't negative.
     pub fn u64(&self) -> Result<u64, AccessFault<'static>>
-        ensures { result ≡ ok_or (unsigned_number_of (value_behind self.now)) AccessFault.NotUnsigned }
+        ensures { result
+            ≡ ok_or (unsigned_number_of (value_behind self.now)) AccessFault.NotUnsigned }
     {
         if let Value::Number(number) = self.value
             && let Some(unsigned) = number.as_u64()
@@ -115,7 +117,8 @@ impl<'a> ValueAccessor<'a> {
 
     /// The items, where the value is a list.
     pub fn list(&self) -> Result<ListAccessor<'a>, AccessFault<'static>>
-        ensures { MatchResult result (λ list. list_of (value_behind self.now) ≡ Some (items_behind list))
+        ensures { MatchResult result (λ list. list_of (value_behind self.now)
+            ≡ Some (items_behind list))
             (λ fault. (fault ≡ AccessFault.NotList) × (list_of (value_behind self.now) ≡ None)) }
     {
         match self.value {

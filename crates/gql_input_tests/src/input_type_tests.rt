@@ -114,7 +114,8 @@ const COLOURS: [EnumItem<Colour>; 2] = [
 
 impl EnumType for Colour {
     ghost use Rattle.std.specs.Prelude.{[], ◌∷◌, codes};
-    ghost use Rattle.gql_input_tests.specs.declared.input_type_tests.Colour.TheVariants.{Red, Green};
+    ghost use Rattle.gql_input_tests.specs.declared.input_type_tests.Colour.TheVariants.{Red};
+    ghost use Rattle.gql_input_tests.specs.declared.input_type_tests.Colour.TheVariants.{Green};
 
     ghost listed = { (codes "RED", Red) ∷ (codes "GREEN", Green) ∷ [] };
 
@@ -127,7 +128,8 @@ impl InputType for Colour {
     ghost use Rattle.std.specs.Prelude.{[], ◌∷◌, Some, codes};
     ghost use Rattle.gql_base.specs.declared.value.Value.TheVariants as value;
     ghost use Rattle.gql_input_tests.specs.declared.input_type_tests.Colour.{Colour as OneColour};
-    ghost use Rattle.gql_input_tests.specs.declared.input_type_tests.Colour.TheVariants.{Red, Green};
+    ghost use Rattle.gql_input_tests.specs.declared.input_type_tests.Colour.TheVariants.{Red};
+    ghost use Rattle.gql_input_tests.specs.declared.input_type_tests.Colour.TheVariants.{Green};
     ghost use Rattle.gql_input.specs.EnumType.{read_enum};
     ghost use Rattle.gql_input.specs.InputType.{or_null};
 
@@ -137,7 +139,8 @@ impl InputType for Colour {
 
     ghost qualified = { codes "Colour!" };
 
-    ghost read = { λ given. read_enum (codes "Colour") ((codes "RED", Red) ∷ (codes "GREEN", Green) ∷ []) (or_null given) };
+    ghost read = { λ given. read_enum (codes "Colour") ((codes "RED", Red) ∷ (codes "GREEN", Green)
+        ∷ []) (or_null given) };
 
     ghost shown = { elim [ Red ↦ value.Enum (codes "RED") | Green ↦ value.Enum (codes "GREEN") ] };
 

@@ -1,4 +1,5 @@
-//! Sources and sinks of bytes, with counts of their faults, and the reading and writing of whole texts.
+//! Sources and sinks of bytes, with counts of their faults, and the reading and writing of whole
+//! texts.
 #![tactic(auto)]
 
 mod memory;

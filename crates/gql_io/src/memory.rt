@@ -53,9 +53,11 @@ pub struct MemorySource {
 }
 
 impl MemorySource {
-    ghost use Rattle.gql_io.specs.Memory.{rest_of, given_of, read_step, failing_reads, reads, read_faults};
+    ghost use Rattle.gql_io.specs.Memory.{rest_of, given_of, read_step, failing_reads, reads};
+    ghost use Rattle.gql_io.specs.Memory.{read_faults};
 
-    /// A source that gives these bytes, at most `step` in one read. The reads with these numbers fail, counted from 0.
+    /// A source that gives these bytes, at most `step` in one read. The reads with these numbers
+    /// fail, counted from 0.
     pub fn new(bytes: Items<u8>, step: usize, failing: Items<u64>) -> MemorySource
         requires { 0 < step }
         ensures rest { rest_of result ≡ bytes }
@@ -76,7 +78,8 @@ impl Source for MemorySource {
     ghost use Rattle.std.specs.Prelude.{Some, ◌≡◌, ◌+◌, ◌≤◌, ◌++◌, ◌↔◌, min, length, take, IsErr};
     ghost use Rattle.std.specs.Prelude.{IfOk, OnOk, OnErr, Contains};
     ghost use Rattle.gql_io.specs.Counts.{one_more};
-    ghost use Rattle.gql_io.specs.Memory.{rest_of, given_of, read_step, failing_reads, reads, read_faults};
+    ghost use Rattle.gql_io.specs.Memory.{rest_of, given_of, read_step, failing_reads, reads};
+    ghost use Rattle.gql_io.specs.Memory.{read_faults};
 
     ghost left = { λ source. Some (rest_of source) };
 
@@ -120,10 +123,11 @@ pub struct MemorySink {
 }
 
 impl MemorySink {
-    ghost use Rattle.gql_io.specs.Memory.{held_by, write_step, failing_writes, writes, write_faults};
+    ghost use Rattle.gql_io.specs.Memory.{held_by, write_step, failing_writes, writes};
+    ghost use Rattle.gql_io.specs.Memory.{write_faults};
 
-    /// A sink that holds nothing yet, and takes at most `step` bytes in one write. The writes with these numbers fail,
-    /// counted from 0.
+    /// A sink that holds nothing yet, and takes at most `step` bytes in one write. The writes with
+    /// these numbers fail, counted from 0.
     pub fn new(alloc: Global, step: usize, failing: Items<u64>) -> MemorySink
         requires { 0 < step }
         ensures held { held_by result ≡ [] }
@@ -150,7 +154,8 @@ impl Sink for MemorySink {
     ghost use Rattle.std.specs.Prelude.{Some, ◌≡◌, ◌≤◌, ◌++◌, ◌↔◌, min, length, take, IfOk, OnOk};
     ghost use Rattle.std.specs.Prelude.{OnErr, IsErrOf, Contains};
     ghost use Rattle.gql_io.specs.Counts.{one_more};
-    ghost use Rattle.gql_io.specs.Memory.{held_by, write_step, failing_writes, writes, write_faults};
+    ghost use Rattle.gql_io.specs.Memory.{held_by, write_step, failing_writes, writes};
+    ghost use Rattle.gql_io.specs.Memory.{write_faults};
 
     ghost held = { λ sink. Some (held_by sink) };
 

@@ -1,4 +1,5 @@
-//! The public types can be moved to threads and shared between them, where what they are made of can.
+//! The public types can be moved to threads and shared between them, where what they are made of
+//! can.
 use crate::{
     Failed, MemorySink, MemorySource, Reading, SinkFault, StdSink, StdSource, SureSink, SureSource,
 };

@@ -1,4 +1,5 @@
-ghost use Rattle.std.specs.Prelude.{◌≡◌, ℕ, ◌<◌, ◌≤◌, List, length, take, Option, IfOk, OnErr, IsErrOf};
+ghost use Rattle.std.specs.Prelude.{◌≡◌, ℕ, ◌<◌, ◌≤◌, List, length, take, Option, IfOk, OnErr};
+ghost use Rattle.std.specs.Prelude.{IsErrOf};
 ghost use Rattle.std.specs.Io.KnownBytes.{Keeps, Appends};
 ghost use Rattle.gql_io.specs.Counts.{HasRisen};
 
@@ -15,8 +16,8 @@ pub enum SinkFault {
     NoMemory,
 }
 
-/// What bytes are written to. Contracts see the bytes that it holds, where the sink tells them, as memory does, and
-/// the number of its faults, which never falls.
+/// What bytes are written to. Contracts see the bytes that it holds, where the sink tells them, as
+/// memory does, and the number of its faults, which never falls.
 pub trait Sink {
     /// The bytes that are held, where they are told.
     ghost held: { Self → Option (List ℕ) };
@@ -24,8 +25,8 @@ pub trait Sink {
     /// How often a write failed.
     ghost faults: { Self → ℕ };
 
-    /// Takes the front of a piece, and answers how many bytes it took: at least one, unless the piece is empty. An
-    /// error leaves what is held.
+    /// Takes the front of a piece, and answers how many bytes it took: at least one, unless the
+    /// piece is empty. An error leaves what is held.
     fn write(&mut self, bytes: &[u8]) -> Result<usize, SinkFault>
         ensures within { IfOk result (λ count. count ≤ length bytes.now) }
         ensures some { IfOk result (λ count. 0 < length bytes.now → 0 < count) }

@@ -10,8 +10,8 @@ use thiserror::Error;
 #[error("a read failed")]
 pub struct Failed;
 
-/// What bytes are read from. Contracts see the bytes that are left, where the source tells them, as memory does, and
-/// two numbers that never fall: of the bytes that it gave, and of its faults.
+/// What bytes are read from. Contracts see the bytes that are left, where the source tells them, as
+/// memory does, and two numbers that never fall: of the bytes that it gave, and of its faults.
 pub trait Source {
     /// The bytes that are left, where they are told.
     ghost left: { Self → Option (List ℕ) };
@@ -22,8 +22,8 @@ pub trait Source {
     /// How often a read failed.
     ghost faults: { Self → ℕ };
 
-    /// Fills the front of a buffer, and answers how many bytes it gave. No byte for a buffer that has room means the
-    /// end. An error takes nothing.
+    /// Fills the front of a buffer, and answers how many bytes it gave. No byte for a buffer that
+    /// has room means the end. An error takes nothing.
     fn read(&mut self, buf: &mut [u8]) -> Result<usize, Failed>
         ensures within { IfOk result (λ count. count ≤ length buf.new) }
         ensures given_grows { given self.old ≤ given self.new }

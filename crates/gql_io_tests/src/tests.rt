@@ -1,4 +1,5 @@
-//! Each public call with ample memory. What a test looks at is made by functions beside it, since a test is proved too.
+//! Each public call with ample memory. What a test looks at is made by functions beside it, since a
+//! test is proved too.
 use gql_base::{Items, Made};
 use gql_io::{
     MemorySink, MemorySource, Reading, Source, StdSink, StdSource, SureSink, SureSource,
@@ -38,7 +39,8 @@ fn sources_in_memory(rt: HostRuntime) -> Result<(), Fail> {
     Ok(())
 }
 
-/// Whether a sink, two bytes at once, holds a text once another was written, where the write of this number fails.
+/// Whether a sink, two bytes at once, holds a text once another was written, where the write of
+/// this number fails.
 fn holds(alloc: Global, failing: u64, text: &str) -> Made<bool> {
     let mut sink = MemorySink::new(alloc, 2, Items::from_slice(alloc, &[failing])?);
     let written = write_whole(&mut sink, b"sink").is_ok();

@@ -1,6 +1,8 @@
--- What an answer comes to by the type of its field (GraphQL, October 2021, sections 6.4.3 and 3.5 to 3.8). Nothing is asked or
--- rolled out here: the value of an object stands in the shape with the name of its type.
-use Rattle.std.specs.Prelude.{ℕ, ℤ, ◌++◌, ◌&&◌, not, Bool, true, false, List, map, Option, Some, None, Result}
+-- What an answer comes to by the type of its field (GraphQL, October 2021, sections 6.4.3 and 3.5
+-- to 3.8). Nothing is asked or rolled out here: the value of an object stands in the shape with the
+-- name of its type.
+use Rattle.std.specs.Prelude.{ℕ, ℤ, ◌++◌, ◌&&◌, not, Bool, true, false, List, map, Option, Some}
+use Rattle.std.specs.Prelude.{None, Result}
 use Rattle.std.specs.Prelude.{Ok, Err, option_and_then, option_map, if◌then◌else◌, codes}
 use Rattle.std.specs.Fmt.{signed_decimal}
 use Rattle.std.specs.Option.{option_or}
@@ -43,13 +45,16 @@ no_array = codes "internal: expects an array"
 
 -- a value that the rule of the scalar of this name doesn't take
 abbrev pub no_scalar : List ℕ → List ℕ
-no_scalar name = codes "internal: invalid value for scalar \"" ++ (name ++ codes "\", expected \"FieldValue::Value\"")
+no_scalar name =
+    codes "internal: invalid value for scalar \""
+    ++ (name ++ codes "\", expected \"FieldValue::Value\"")
 
 -- a value that is no item of the enum of this name
 abbrev pub no_item : List ℕ → List ℕ
 no_item name = codes "internal: invalid item for enum \"" ++ (name ++ codes "\"")
 
--- what is said of an abstract type where a value names no object type, and where it names one that the abstract type hasn't
+-- what is said of an abstract type where a value names no object type, and where it names one that
+-- the abstract type hasn't
 pub record AbstractTexts : Type 0 where
   pub unnamed : List ℕ
   pub foreign : List ℕ → List ℕ
@@ -57,7 +62,9 @@ pub record AbstractTexts : Type 0 where
 -- an interface that the object doesn't implement
 abbrev pub interface_texts : List ℕ → AbstractTexts
 interface_texts name = record {
-  unnamed = codes "internal: invalid value for interface \"" ++ (name ++ codes "\", expected \"FieldValue::WithType\"");
+  unnamed =
+      codes "internal: invalid value for interface \""
+      ++ (name ++ codes "\", expected \"FieldValue::WithType\"");
   foreign = λ object. codes "internal: object \"" ++
       (object ++ (codes "\" does not implement interface \"" ++ (name ++ codes "\"")));
 }
@@ -65,7 +72,9 @@ interface_texts name = record {
 -- a union that the object isn't a member of
 abbrev pub union_texts : List ℕ → AbstractTexts
 union_texts name = record {
-  unnamed = codes "internal: invalid value for union \"" ++ (name ++ codes "\", expected \"FieldValue::WithType\"");
+  unnamed =
+      codes "internal: invalid value for union \""
+      ++ (name ++ codes "\", expected \"FieldValue::WithType\"");
   foreign = λ object. codes "internal: union \"" ++
       (name ++ (codes "\" does not contain object \"" ++ (object ++ codes "\"")));
 }
@@ -128,17 +137,23 @@ module _ {V : Type 0} where
   -- a scalar has the values that its rule takes (section 3.5)
   abbrev pub at_scalar : List ℕ → ScalarRule → Option Value → Completed V
   at_scalar name rule None = fault (no_scalar name)
-  at_scalar name rule (Some whole) = if takes rule whole then shape.Leaf (shown name whole) else fault (no_scalar name)
+  at_scalar name rule (Some whole) =
+      if takes rule whole then shape.Leaf (shown name whole) else fault (no_scalar name)
 
   -- an enum has its items, by their names or as strings (section 3.9)
   abbrev pub at_enum : List ℕ → List (List ℕ) → Option (List ℕ) → Completed V
   at_enum name items None = fault (no_item name)
-  at_enum name items (Some item) = if is_among item items then shape.Leaf (value.Enum item) else fault (no_item name)
+  at_enum name items (Some item) =
+      if is_among item items then shape.Leaf (value.Enum item) else fault (no_item name)
 
-  -- an interface or a union has the objects that it can be, where the value names one (sections 3.7 and 3.8)
-  abbrev pub at_abstract : TypeTable → List ℕ → AbstractTexts → Option (List ℕ × FieldValue V) → Completed V
+  -- an interface or a union has the objects that it can be, where the value names one (sections 3.7
+  -- and 3.8)
+  abbrev pub at_abstract : TypeTable → List ℕ → AbstractTexts → Option (List ℕ × FieldValue V)
+      → Completed V
   at_abstract table name texts None = fault texts.unnamed
-  at_abstract table name texts (Some (object, inner)) = if is_possible table name object then shape.Object object inner else fault (texts.foreign object)
+  at_abstract table name texts (Some (object, inner)) =
+      if is_possible table name object
+      then shape.Object object inner else fault (texts.foreign object)
 
   -- a value at a type of the table; no field of a sound table has another type than these
   abbrev pub at_type : TypeTable → List ℕ → Option SchemaType → FieldValue V → Completed V
@@ -154,7 +169,8 @@ module _ {V : Type 0} where
   at_type table name _ given = shape.Absent
 
   -- what is absent where a value is due is a fault
-  abbrev pub required_here : Completed V → Shape-F (List ℕ) (FieldValue V) (Completed V) → Completed V
+  abbrev pub required_here : Completed V → Shape-F (List ℕ) (FieldValue V) (Completed V)
+      → Completed V
   required_here whole Shape-F.Absent = fault no_value
   required_here whole _ = whole
 
@@ -165,7 +181,8 @@ module _ {V : Type 0} where
   -- a list: each of its items, completed at the type of items
   abbrev pub at_items : Completing V → Option (List (FieldValue V)) → Completed V
   at_items inner None = fault no_array
-  at_items inner (Some items) = shape.List inner.non_null (map (λ item. inner.completes (Some item)) items)
+  at_items inner (Some items) =
+      shape.List inner.non_null (map (λ item. inner.completes (Some item)) items)
 
   -- no value is absent
   abbrev pub if_given : (FieldValue V → Completed V) → Option (FieldValue V) → Completed V
@@ -203,4 +220,9 @@ module _ {V : Type 0} where
   -- an answer to a field of a type, with the errors and header operations beside it
   abbrev pub outcome_at : TypeTable → TypeRef → Answer V → Outcome (List ℕ) (FieldValue V)
   outcome_at table ty answer =
-      record { non_null = not (is_nullable ty); added = answer.added; headers = answer.headers; shape = shape_of table ty answer.result }
+      record {
+        non_null = not (is_nullable ty);
+        added = answer.added;
+        headers = answer.headers;
+        shape = shape_of table ty answer.result;
+      }

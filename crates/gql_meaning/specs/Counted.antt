@@ -1,4 +1,5 @@
--- How many answers merged execution asks. It is the same recursion as that of the places, with numbers in their stead.
+-- How many answers merged execution asks. It is the same recursion as that of the places, with
+-- numbers in their stead.
 use Rattle.std.specs.Prelude.{ℕ, ◌+◌, false, List, [], ◌∷◌, map, Option, Some, None}
 use Rattle.std.specs.List.{flat_map}
 use Rattle.gql_base.specs.Pairs.{values_of}
@@ -40,7 +41,8 @@ module _ {V : Type 0} (execution : Execution) (answer : Call V → Answer V) whe
   one_if (Some asking) = 1
 
   -- what is asked for a field, and for all beneath it
-  abbrev pub count_at : List ℕ → FieldValue V → Positioned Field → Beneath (List ℕ) (FieldValue V) ℕ → ℕ
+  abbrev pub count_at : List ℕ → FieldValue V → Positioned Field → Beneath (List ℕ) (FieldValue V) ℕ
+      → ℕ
   count_at object parent field below =
       one_if (field_asking false execution object parent field)
       + total (map (λ inner. total (values_of (below inner.0 inner.1)))
@@ -53,4 +55,5 @@ module _ {V : Type 0} (execution : Execution) (answer : Call V → Answer V) whe
   -- the number of answers that a query asks
   abbrev pub asked_count : ℕ → Asked V → ℕ
   asked_count levels asked =
-      total (values_of (grouped counting levels asked.object asked.parent (kept_in execution asked)))
+      total
+      (values_of (grouped counting levels asked.object asked.parent (kept_in execution asked)))

@@ -1,5 +1,7 @@
--- What a field of a request asks, and what comes of the answer (GraphQL, October 2021, sections 6.4.1 to 6.4.3).
-use Rattle.std.specs.Prelude.{ℕ, ◌||◌, Bool, true, false, List, [], Option, Some, None, option_and_then}
+-- What a field of a request asks, and what comes of the answer (GraphQL, October 2021, sections
+-- 6.4.1 to 6.4.3).
+use Rattle.std.specs.Prelude.{ℕ, ◌||◌, Bool, true, false, List, [], Option, Some, None}
+use Rattle.std.specs.Prelude.{option_and_then}
 use Rattle.std.specs.Prelude.{option_map, if◌then◌else◌, codes}
 use Rattle.std.specs.Str.{bytes_eq}
 use Rattle.gql_base.specs.declared.type_ref.TypeRef.{TypeRef}
@@ -64,11 +66,19 @@ module _ {V : Type 0} (is_root : Bool) (execution : Execution) where
   asking_at parent arguments declared =
       option_map
       (λ resolver. record {
-        call = record { is_root = is_root; resolver = resolver; parent = parent; arguments = arguments; layers = execution.layers };
+        call =
+            record {
+              is_root = is_root;
+              resolver = resolver;
+              parent = parent;
+              arguments = arguments;
+              layers = execution.layers;
+            };
         ty = declared.ty;
       }) declared.number
 
-  -- what the field of a name asks, if anything: `__typename` asks nothing, and in introspection-only mode no field does
+  -- what the field of a name asks, if anything: `__typename` asks nothing, and in
+  -- introspection-only mode no field does
   abbrev pub asking : List ℕ → FieldValue V → List ℕ → List (List ℕ × Value) → Option (Asking V)
   asking object parent name arguments =
       if execution.only_introspection || is_typename name then None
@@ -78,7 +88,8 @@ module _ {V : Type 0} (is_root : Bool) (execution : Execution) where
   abbrev pub field_asking : List ℕ → FieldValue V → Positioned Field → Option (Asking V)
   field_asking object parent field =
       asking object parent (name_of field)
-      (constants execution.known (declared_arguments execution.schema object (name_of field)) (arguments_of field))
+      (constants execution.known (declared_arguments execution.schema object (name_of field))
+      (arguments_of field))
 
   module _ (answer : Call V → Answer V) where
     -- what an answer comes to at its type, where one is asked
@@ -87,10 +98,14 @@ module _ {V : Type 0} (is_root : Bool) (execution : Execution) where
     answered_outcome (Some asked) = outcome_at execution.schema.table asked.ty (answer asked.call)
 
     -- what the field of a name comes to
-    abbrev pub named_outcome : List ℕ → FieldValue V → List ℕ → List (List ℕ × Value) → Outcome (List ℕ) (FieldValue V)
+    abbrev pub named_outcome : List ℕ → FieldValue V → List ℕ → List (List ℕ × Value)
+        → Outcome (List ℕ) (FieldValue V)
     named_outcome object parent name arguments =
-        if is_typename name then typename_outcome object else answered_outcome (asking object parent name arguments)
+        if is_typename name
+        then typename_outcome object else answered_outcome (asking object parent name arguments)
 
     -- what an occurrence comes to, at the constants of its arguments
-    abbrev pub field_outcome : List ℕ → FieldValue V → Positioned Field → Outcome (List ℕ) (FieldValue V)
-    field_outcome = outcome_named named_outcome execution.known (declared_arguments execution.schema)
+    abbrev pub field_outcome : List ℕ → FieldValue V → Positioned Field
+        → Outcome (List ℕ) (FieldValue V)
+    field_outcome =
+        outcome_named named_outcome execution.known (declared_arguments execution.schema)

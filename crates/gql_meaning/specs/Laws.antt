@@ -9,7 +9,8 @@ use Rattle.gql_doc.specs.declared.document.Positioned.{Positioned}
 use Rattle.gql_meaning.specs.Completion.{shape_of}
 use Rattle.gql_meaning.specs.Counted.{asked_count}
 use Rattle.gql_meaning.specs.Execution.{Execution, setting_in}
-use Rattle.gql_meaning.specs.Responses.{Asked, asking_keys, last_world, mutation_apart, mutation_merged}
+use Rattle.gql_meaning.specs.Responses.{Asked, asking_keys, last_world, mutation_apart}
+use Rattle.gql_meaning.specs.Responses.{mutation_merged}
 use Rattle.gql_meaning.specs.Responses.{query_apart, query_merged, world_behind_first}
 use Rattle.gql_place.specs.Filled.{objects_in}
 use Rattle.gql_resolve.specs.Call.{Call}
@@ -22,13 +23,17 @@ use Rattle.gql_select.specs.Documents.{reading}
 -- an answer comes to objects alone that its type can be
 abbrev pub CompletionFits : (V : Type 0) → Type 0
 CompletionFits V =
-    (table : TypeTable) (ty : TypeRef) (result : Result (Option (FieldValue V)) Error) (object : List ℕ)
-    → Contains (objects_in (shape_of table ty result)) object → Contains (possible table (innermost ty)) object
+    (table : TypeTable) (ty : TypeRef) (result : Result (Option (FieldValue V)) Error)
+    (object : List ℕ)
+    → Contains (objects_in (shape_of table ty result)) object
+    → Contains (possible table (innermost ty)) object
 
--- a query without conflicts comes to the same places, whether each occurrence is answered apart or each key once
+-- a query without conflicts comes to the same places, whether each occurrence is answered apart or
+-- each key once
 abbrev pub QueryApartIsMerged : (V E : Type 0) → Type 0
 QueryApartIsMerged V E =
-    (execution : Execution) (answer : Call V → Answer V) (told : Positioned Field → E) (levels : ℕ) (asked : Asked V)
+    (execution : Execution) (answer : Call V → Answer V) (told : Positioned Field → E) (levels : ℕ)
+    (asked : Asked V)
     → conflicts (reading (setting_in execution)) told levels asked.object asked.selections ≡ []
     → query_apart execution answer levels asked ≡ query_merged execution answer levels asked
 
@@ -37,11 +42,13 @@ abbrev pub MutationApartIsMerged : (V W E : Type 0) → Type 0
 MutationApartIsMerged V W E =
     (execution : Execution) (answer : Call V → W → Answer V) (effect : Call V → W → W)
     (told : Positioned Field → E) (levels : ℕ) (asked : Asked V) (world : W)
-    → conflicts (reading (setting_in execution)) told (suc levels) asked.object asked.selections ≡ []
+    → conflicts (reading (setting_in execution)) told (suc levels) asked.object asked.selections
+    ≡ []
     → mutation_apart execution effect answer levels asked world
     ≡ mutation_merged execution effect answer levels asked world
 
--- the world behind all root keys that ask an answer is the last one: the others leave the world as it was
+-- the world behind all root keys that ask an answer is the last one: the others leave the world as
+-- it was
 abbrev pub OnlyAnswersChangeWorlds : (V W : Type 0) → Type 0
 OnlyAnswersChangeWorlds V W =
     (execution : Execution) (effect : Call V → W → W) (asked : Asked V) (world : W)

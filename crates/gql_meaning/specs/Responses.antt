@@ -1,6 +1,8 @@
--- The responses of queries and mutations (GraphQL, October 2021, sections 6.2 to 6.4): merged execution, in which each key of a set is
--- answered once, and apart execution, in which each occurrence is, and places under one key are joined.
-use Rattle.std.specs.Prelude.{ℕ, Bool, true, false, List, [], Option, Some, None, is_some, take, filter}
+-- The responses of queries and mutations (GraphQL, October 2021, sections 6.2 to 6.4): merged
+-- execution, in which each key of a set is answered once, and apart execution, in which each
+-- occurrence is, and places under one key are joined.
+use Rattle.std.specs.Prelude.{ℕ, Bool, true, false, List, [], Option, Some, None, is_some, take}
+use Rattle.std.specs.Prelude.{filter}
 use Rattle.gql_base.specs.declared.pos.Pos.{Pos}
 use Rattle.gql_base.specs.declared.server_error.ServerError.{ServerError}
 use Rattle.gql_base.specs.declared.value.Value.{Value}
@@ -29,7 +31,8 @@ use Rattle.gql_select.specs.Reading.{merged, Reading}
 abbrev pub Members : Type 0
 Members = List (List ℕ × Place)
 
--- what an operation asks for: the object at its root and the root's value, and the selections as they are written
+-- what an operation asks for: the object at its root and the root's value, and the selections as
+-- they are written
 pub record Asked (V : Type 0) : Type 0 where
   pub object : List ℕ
   pub parent : FieldValue V
@@ -50,17 +53,20 @@ module _ {V : Type 0} (execution : Execution) where
   placed is_root answer = answered (λ field. field.pos) (field_outcome is_root execution answer)
 
   -- how fields become places, by these answers
-  abbrev pub placing : (Call V → Answer V) → Placing (List ℕ) (FieldValue V) (Positioned Field) (Positioned Selection) Place
+  abbrev pub placing : (Call V → Answer V)
+      → Placing (List ℕ) (FieldValue V) (Positioned Field) (Positioned Selection) Place
   placing answer = record { reading = kept_reading execution; place = placed false answer }
 
   module _ (answer : Call V → Answer V) (levels : ℕ) (asked : Asked V) where
     -- ExecuteQuery: the members of the root, each key answered once
     abbrev pub query_merged : Members
-    query_merged = grouped (placing answer) levels asked.object asked.parent (kept_in execution asked)
+    query_merged =
+        grouped (placing answer) levels asked.object asked.parent (kept_in execution asked)
 
     -- the same, each occurrence answered apart
     abbrev pub query_apart : Members
-    query_apart = respond (placing answer) join levels asked.object asked.parent (kept_in execution asked)
+    query_apart =
+        respond (placing answer) join levels asked.object asked.parent (kept_in execution asked)
 
   -- what an occurrence at the root of a mutation asks
   abbrev pub root_asking : Asked V → Positioned Field → Option (Asking V)
@@ -91,7 +97,8 @@ module _ {V : Type 0} (execution : Execution) where
 
     -- the world behind so many of its root keys that ask an answer
     abbrev pub world_behind_first : ℕ → Asked V → W → W
-    world_behind_first count asked world = world_behind (world_after asked) world (take count (asking_keys asked))
+    world_behind_first count asked world =
+        world_behind (world_after asked) world (take count (asking_keys asked))
 
     -- how a mutation is answered: the root in each world, and what is beneath it
     abbrev pub mutating : (Call V → W → Answer V) → Asked V
@@ -104,19 +111,23 @@ module _ {V : Type 0} (execution : Execution) where
     }
 
     module _ (answer : Call V → W → Answer V) (levels : ℕ) (asked : Asked V) (world : W) where
-      -- ExecuteMutation: the root keys one after another, each answered in the world that those before it left
+      -- ExecuteMutation: the root keys one after another, each answered in the world that those
+      -- before it left
       abbrev pub mutation_merged : Members
       mutation_merged =
-          serial_grouped (mutating answer asked) levels asked.object asked.parent (kept_in execution asked) world
+          serial_grouped (mutating answer asked) levels asked.object asked.parent
+          (kept_in execution asked) world
 
       -- the same, each occurrence below the root answered apart
       abbrev pub mutation_apart : Members
       mutation_apart =
-          serial_respond (mutating answer asked) join levels asked.object asked.parent (kept_in execution asked) world
+          serial_respond (mutating answer asked) join levels asked.object asked.parent
+          (kept_in execution asked) world
 
 -- the place of a whole response: its data may be null
 abbrev pub root_place : Pos → Members → Place
-root_place pos members = record { pos = pos; non_null = false; added = []; headers = []; tree = tree.Object members }
+root_place pos members =
+    record { pos = pos; non_null = false; added = []; headers = []; tree = tree.Object members }
 
 -- a response (section 7.1), with what is done to the headers of the HTTP response
 pub record Response : Type 0 where

@@ -2,15 +2,17 @@
 
 ghost use Rattle.gql_meaning.specs.Laws.{CompletionFits, IntrospectionAsksNothing};
 ghost use Rattle.gql_meaning.specs.Laws.{IntrospectionChangesNoWorld, IntrospectionNeedsNoAnswer};
-ghost use Rattle.gql_meaning.specs.Laws.{MutationApartIsMerged, OnlyAnswersChangeWorlds, QueryApartIsMerged};
+ghost use Rattle.gql_meaning.specs.Laws.{MutationApartIsMerged, OnlyAnswersChangeWorlds};
+ghost use Rattle.gql_meaning.specs.Laws.{QueryApartIsMerged};
 
-/// An answer comes to objects alone that the type of its field can be (GraphQL, October 2021, section 6.4.3).
+/// An answer comes to objects alone that the type of its field can be (GraphQL, October 2021,
+/// section 6.4.3).
 pub fn completion_fits<V>()
     ensures { CompletionFits V }
 {}
 
-/// A query that has no conflicts comes to the same places, whether each occurrence of a field asks an answer of its own or each
-/// key of a set asks one (section 6.3.2).
+/// A query that has no conflicts comes to the same places, whether each occurrence of a field asks
+/// an answer of its own or each key of a set asks one (section 6.3.2).
 pub fn query_apart_is_merged<V, E>()
     ensures { QueryApartIsMerged V E }
 {}

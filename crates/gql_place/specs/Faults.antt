@@ -14,7 +14,12 @@ use Rattle.gql_place.specs.declared.place.Tree.TheFolds.{fold-Place, fold-Tree}
 -- an error at a position of the request and a path of the response
 abbrev pub located : Pos → List PathSegment → Error → ServerError
 located pos path error =
-    record { message = error.message; locations = pos ∷ []; path = path; extensions = error.extensions }
+    record {
+      message = error.message;
+      locations = pos ∷ [];
+      path = path;
+      extensions = error.extensions;
+    }
 
 -- the errors at each path
 abbrev pub AtPath : Type 0
@@ -27,7 +32,8 @@ beneath_members members path = flat_map (λ m. m.1 (path ++ Field m.0 ∷ [])) m
 -- the errors of the items of a list, the first of which has this index
 abbrev pub beneath_items : ℕ → List AtPath → AtPath
 beneath_items index [] path = []
-beneath_items index (item ∷ items) path = item (path ++ Index index ∷ []) ++ beneath_items (index + 1) items path
+beneath_items index (item ∷ items) path =
+    item (path ++ Index index ∷ []) ++ beneath_items (index + 1) items path
 
 -- the errors of what stands at a place at this position: its fault, or those beneath it
 abbrev pub tree_step : Tree-F (Pos → AtPath) AtPath → Pos → AtPath

@@ -1,4 +1,5 @@
--- The tree of a completed answer: each object in it has the members that are found beneath it (GraphQL, October 2021, section 6.4.3).
+-- The tree of a completed answer: each object in it has the members that are found beneath it
+-- (GraphQL, October 2021, section 6.4.3).
 use Rattle.std.specs.Prelude.{ℕ, Bool, List, [], ◌∷◌, map}
 use Rattle.std.specs.List.{flat_map}
 use Rattle.gql_base.specs.declared.error.Error.{Error}
@@ -13,7 +14,8 @@ use Rattle.gql_place.specs.declared.shape.Shape.TheFolds.{fold-Shape}
 
 -- an item of a list: errors and header operations stand at the list's own place
 abbrev pub item_of : Pos → Bool → Tree → Place
-item_of pos non_null tree = record { pos = pos; non_null = non_null; added = []; headers = []; tree = tree }
+item_of pos non_null tree =
+    record { pos = pos; non_null = non_null; added = []; headers = []; tree = tree }
 
 module _ {O P : Type 0} where
   -- one level of a shape: an object has the members beneath it, and items have places of their own
@@ -50,4 +52,10 @@ pub record Outcome (O P : Type 0) : Type 0 where
 -- the place of a field at a position
 abbrev pub place_with : {O P : Type 0} → Pos → Outcome O P → (O → P → List (List ℕ × Place)) → Place
 place_with pos outcome below =
-    record { pos = pos; non_null = outcome.non_null; added = outcome.added; headers = outcome.headers; tree = fill pos below outcome.shape }
+    record {
+      pos = pos;
+      non_null = outcome.non_null;
+      added = outcome.added;
+      headers = outcome.headers;
+      tree = fill pos below outcome.shape;
+    }

@@ -1,4 +1,5 @@
--- What the places of a response do to the headers of the HTTP response: each place before those beneath it, nulled or not.
+-- What the places of a response do to the headers of the HTTP response: each place before those
+-- beneath it, nulled or not.
 use Rattle.std.specs.Prelude.{List, [], ◌++◌}
 use Rattle.std.specs.List.{flat_map}
 use Rattle.gql_request.specs.declared.header_op.HeaderOp.{HeaderOp}

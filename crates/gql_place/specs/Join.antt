@@ -1,6 +1,8 @@
--- How the places of one key are joined: the first's position, added errors, headers and fault stay; objects are united key by key, and
--- lists item by item (GraphQL, October 2021, section 6.4.3, MergeSelectionSets: the fields of one key are one field, with the selections of
--- all). The recursion runs over the second place and builds a function of the first: with no first, the second stands as it is.
+-- How the places of one key are joined: the first's position, added errors, headers and fault stay;
+-- objects are united key by key, and lists item by item (GraphQL, October 2021, section 6.4.3,
+-- MergeSelectionSets: the fields of one key are one field, with the selections of all). The
+-- recursion runs over the second place and builds a function of the first: with no first, the
+-- second stands as it is.
 use Rattle.std.specs.Prelude.{ℕ, List, [], ◌∷◌, map, Option, Some, None}
 use Rattle.gql_base.specs.Pairs.{under, put}
 use Rattle.gql_place.specs.declared.place.Place.{Place}
@@ -38,7 +40,8 @@ abbrev pub onto_list : List OntoPlace → Tree → Tree-F Tree Place → Tree
 onto_list others first (Tree-F.List items) = tree.List (onto_items items others)
 onto_list others first _ = first
 
--- what stands at the second place, onto what stands at the first: two objects and two lists are united, of all others the first stays
+-- what stands at the second place, onto what stands at the first: two objects and two lists are
+-- united, of all others the first stays
 abbrev pub tree_step : Tree-F OntoTree OntoPlace → OntoTree
 tree_step Tree-F.Absent None = tree.Absent
 tree_step (Tree-F.Leaf leaf) None = tree.Leaf leaf
@@ -51,7 +54,14 @@ tree_step _ (Some first) = first
 
 -- the first's place with both trees; alone it is itself
 abbrev pub place_step : Place-F OntoTree OntoPlace → OntoPlace
-place_step second None = record { pos = second.pos; non_null = second.non_null; added = second.added; headers = second.headers; tree = second.tree None }
+place_step second None =
+    record {
+      pos = second.pos;
+      non_null = second.non_null;
+      added = second.added;
+      headers = second.headers;
+      tree = second.tree None;
+    }
 place_step second (Some first) = record first { tree = second.tree (Some first.tree) }
 
 -- a place, onto the first

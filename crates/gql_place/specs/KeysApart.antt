@@ -15,7 +15,8 @@ names_apart (name ∷ names) = not (list_any (bytes_eq name) names) && names_apa
 
 -- one level of what stands at a place: the keys of an object are apart, and all beneath is so
 abbrev pub tree_step : Tree-F Bool Bool → Bool
-tree_step (Tree-F.Object members) = names_apart (names_of members) && list_all (λ member. member.1) members
+tree_step (Tree-F.Object members) =
+    names_apart (names_of members) && list_all (λ member. member.1) members
 tree_step (Tree-F.List items) = list_all (λ apart. apart) items
 tree_step _ = true
 

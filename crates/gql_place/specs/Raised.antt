@@ -1,5 +1,7 @@
--- The value of a place, where null is raised through the places that may not be null (GraphQL, October 2021, section 6.4.4).
-use Rattle.std.specs.Prelude.{ℕ, Bool, true, false, List, [], ◌∷◌, map, Option, Some, None, option_map, unwrap_or}
+-- The value of a place, where null is raised through the places that may not be null (GraphQL,
+-- October 2021, section 6.4.4).
+use Rattle.std.specs.Prelude.{ℕ, Bool, true, false, List, [], ◌∷◌, map, Option, Some, None}
+use Rattle.std.specs.Prelude.{option_map, unwrap_or}
 use Rattle.std.specs.List.{zip}
 use Rattle.gql_base.specs.Pairs.{names_of, values_of}
 use Rattle.gql_base.specs.declared.value.Value.{Value}
@@ -9,7 +11,8 @@ use Rattle.gql_place.specs.declared.place.Tree.{Tree}
 use Rattle.gql_place.specs.declared.place.Tree.TheOpen.{Tree-F, Place-F}
 use Rattle.gql_place.specs.declared.place.Tree.TheFolds.{fold-Place, fold-Tree}
 
--- a value that is wanting is null where null may stand; else it is wanting for the place around it too
+-- a value that is wanting is null where null may stand; else it is wanting for the place around it
+-- too
 abbrev pub null_if : Bool → Option Value → Option Value
 null_if non_null (Some found) = Some found
 null_if true None = None
@@ -30,7 +33,8 @@ all_items (Some item ∷ rest) = with_first item (all_items rest)
 abbrev pub all_members : List (List ℕ × Option Value) → Option (List (List ℕ × Value))
 all_members members = option_map (zip (names_of members)) (all_items (values_of members))
 
--- the value of what stands at a place: a fault has none, nor has an object or a list of which a part is wanting
+-- the value of what stands at a place: a fault has none, nor has an object or a list of which a
+-- part is wanting
 abbrev pub tree_step : Tree-F (Option Value) (Option Value) → Option Value
 tree_step Tree-F.Absent = Some value.Null
 tree_step (Tree-F.Leaf leaf) = Some leaf

@@ -6,9 +6,9 @@ use crate::place::{Place, Tree};
 use gql_base::{Items, Made, Name, Pairs};
 use std::alloc::Global;
 
-/// Two places of one key as one: the first's position, added errors and header operations stay. Objects are united key by
-/// key, first keys first, and lists item by item, where further items of the second are left out. Of other trees the first
-/// stays. No part is copied.
+/// Two places of one key as one: the first's position, added errors and header operations stay.
+/// Objects are united key by key, first keys first, and lists item by item, where further items of
+/// the second are left out. Of other trees the first stays. No part is copied.
 pub fn join(alloc: Global, first: Place, second: Place) -> Made<Place>
     ensures { IfOk result (λ made. made ≡ joined first second) }
 {

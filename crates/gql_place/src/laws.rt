@@ -4,8 +4,9 @@ ghost use Rattle.gql_place.specs.Laws.{DocumentsApartAreMerged, JoinedWithItself
 ghost use Rattle.gql_place.specs.Laws.{MutationPlacesApartAreMerged};
 ghost use Rattle.gql_place.specs.Laws.{PlacesApartAreMerged};
 
-/// The places of answers, of which each occurrence has one of its own, joined under their keys, are those of merged
-/// execution, where the set agrees with itself (GraphQL, October 2021, section 6.3.2).
+/// The places of answers, of which each occurrence has one of its own, joined under their keys, are
+/// those of merged execution, where the set agrees with itself (GraphQL, October 2021, section
+/// 6.3.2).
 pub fn places_apart_are_merged<O, P, F, X>()
     ensures { PlacesApartAreMerged O P F X }
 {}
@@ -15,8 +16,8 @@ pub fn mutation_places_apart_are_merged<O, P, F, X, W>()
     ensures { MutationPlacesApartAreMerged O P F X W }
 {}
 
-/// Where a document has no conflicts between the fields of one key, what `@skip` and `@include` leave of it comes to the
-/// same places whether each occurrence is answered apart or each key once.
+/// Where a document has no conflicts between the fields of one key, what `@skip` and `@include`
+/// leave of it comes to the same places whether each occurrence is answered apart or each key once.
 pub fn documents_apart_are_merged<P, E>()
     ensures { DocumentsApartAreMerged P E }
 {}

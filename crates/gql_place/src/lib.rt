@@ -1,5 +1,5 @@
-//! Places of a response: how they are joined, how null is raised through them, and which errors and header operations
-//! they have (GraphQL, October 2021, sections 6.3 and 6.4).
+//! Places of a response: how they are joined, how null is raised through them, and which errors and
+//! header operations they have (GraphQL, October 2021, sections 6.3 and 6.4).
 #![tactic(auto)]
 
 mod copying;

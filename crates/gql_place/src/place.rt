@@ -1,7 +1,8 @@
 use gql_base::{Error, Items, Pairs, Pos, Value};
 use gql_request::HeaderOp;
 
-/// A place of a response: what came to stand there, before nulls are raised (GraphQL, October 2021, section 6.4).
+/// A place of a response: what came to stand there, before nulls are raised (GraphQL, October 2021,
+/// section 6.4).
 #[cycle(place)]
 #[derive(Debug, Drop)]
 pub struct Place {

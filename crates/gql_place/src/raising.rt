@@ -1,13 +1,14 @@
 ghost use Rattle.std.specs.Prelude.{◌≡◌, IfOk};
 ghost use Rattle.gql_place.specs.Raised.{raised, value_at as value_of, tree_value as value_of_tree};
-ghost use Rattle.gql_place.specs.Raised.{member_values as values_of_members, item_values as values_of_items};
+ghost use Rattle.gql_place.specs.Raised.{member_values as values_of_members};
+ghost use Rattle.gql_place.specs.Raised.{item_values as values_of_items};
 
 use crate::place::{Place, Tree};
 use gql_base::{Copied, Items, Made, Pairs, Value};
 use std::alloc::Global;
 
-/// The value of a whole response: a failed place is null where it may be null, and else makes the place around it fail
-/// (GraphQL, October 2021, section 6.4.4).
+/// The value of a whole response: a failed place is null where it may be null, and else makes the
+/// place around it fail (GraphQL, October 2021, section 6.4.4).
 pub fn raise(alloc: Global, place: &Place) -> Made<Value>
     ensures { IfOk result (λ value. value ≡ raised place.now) }
 {

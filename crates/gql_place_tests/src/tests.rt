@@ -1,4 +1,5 @@
-//! What no clause says in plain sight: printed texts of small responses. Each public call is called with ample memory.
+//! What no clause says in plain sight: printed texts of small responses. Each public call is called
+//! with ample memory.
 use gql_base::{
     Copied, Error, Items, Made, Name, Number, Pairs, Pos, Text, Value, json_of, push_errors,
 };

@@ -7,7 +7,8 @@ use Rattle.gql_base.specs.Pairs.{under_by, put_by}
 abbrev pub under_key : {T : Type 0} → ℕ → List (ℕ × T) → Option T
 under_key key ps = under_by nat_eq key ps
 
--- the pairs once this key has this value: a key that is there keeps its place, another goes to the end
+-- the pairs once this key has this value: a key that is there keeps its place, another goes to the
+-- end
 abbrev pub put_key : {T : Type 0} → List (ℕ × T) → ℕ → T → List (ℕ × T)
 put_key ps key value = put_by nat_eq ps key value
 

@@ -7,7 +7,9 @@ use Rattle.gql_request.specs.declared.extension_context.ExtensionContext.{Extens
 
 -- the layers in the order of search: the request's, the session's, the schema's
 abbrev pub layers_of : ExtensionContext → List (List (ℕ × Value))
-layers_of context = option_to_list (option_copied context.query_data) ++ context.session_data.now ∷ context.schema_data.now ∷ []
+layers_of context =
+    option_to_list (option_copied context.query_data)
+    ++ context.session_data.now ∷ context.schema_data.now ∷ []
 
 -- the value of a key in the first of these layers that has it
 abbrev pub held_by : ExtensionContext → ℕ → Option Value

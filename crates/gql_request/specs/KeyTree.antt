@@ -1,6 +1,8 @@
--- How data find their keys: each key has two links to keys that were added later. The way to a key begins at the first key, and where
--- a key is another one it takes the link of the lowest bit of the key that is sought, which is then left out.
-use Rattle.std.specs.Prelude.{◌≡◌, ℕ, ◌+◌, ◌*◌, ◌/◌, ◌%◌, ◌<◌, ◌≤◌, ◌==◌, List, [], Option, Some, None}
+-- How data find their keys: each key has two links to keys that were added later. The way to a key
+-- begins at the first key, and where a key is another one it takes the link of the lowest bit of
+-- the key that is sought, which is then left out.
+use Rattle.std.specs.Prelude.{◌≡◌, ℕ, ◌+◌, ◌*◌, ◌/◌, ◌%◌, ◌<◌, ◌≤◌, ◌==◌, List, [], Option, Some}
+use Rattle.std.specs.Prelude.{None}
 use Rattle.std.specs.Prelude.{length, slice_get, slice_set, slice_index_or}
 use Rattle.std.specs.List.{position_or_len}
 use Rattle.gql_request.specs.declared.key_tree.Sought.{Sought}
@@ -24,7 +26,8 @@ pub record IsKeyTree (keys : List ℕ) (links : List (Option ℕ)) : Type 0 wher
   -- each key has two links
   pub two : length links ≡ 2 * length keys
   -- a link goes to a key that was added later
-  pub later : (link next : ℕ) → end_of links link ≡ Some next → (link < 2 * next) × (next < length keys)
+  pub later : (link next : ℕ) → end_of links link ≡ Some next
+      → (link < 2 * next) × (next < length keys)
   -- the way to each key comes to it
   pub reached : (place key : ℕ) → slice_get keys place ≡ Some key → Leads links place 0 key
 
@@ -36,11 +39,13 @@ first_place sought keys = position_or_len (λ key. sought == key) keys
 abbrev pub Extends : List (Option ℕ) → List (Option ℕ) → Type 0
 Extends links more = (link next : ℕ) → end_of links link ≡ Some next → end_of more link ≡ Some next
 
--- that the way from a place, by the bits that are left, ends at a link that goes nowhere: a key at that link would be reached
+-- that the way from a place, by the bits that are left, ends at a link that goes nowhere: a key at
+-- that link would be reached
 pub record Ends (links : List (Option ℕ)) (place bits link : ℕ) : Type 0 where
   pub within : link < length links
   pub free : end_of links link ≡ None
-  pub leads : (more : List (Option ℕ)) (goal : ℕ) → Extends links more → end_of more link ≡ Some goal
+  pub leads : (more : List (Option ℕ)) (goal : ℕ) → Extends links more
+      → end_of more link ≡ Some goal
       → Leads more goal place bits
 
 -- where the way from a place by these bits ends: there is no key at all, or there is such a link
@@ -61,4 +66,5 @@ with_end links (Some link) place = slice_set links link (Some place)
 -- what a search for a key along the way from a place finds
 abbrev pub Finds : List ℕ → List (Option ℕ) → ℕ → ℕ → ℕ → Sought → Type 0
 Finds keys links key place bits (At found) = (first_place key keys ≡ found) × (found < length keys)
-Finds keys links key place bits (Missing end) = (length keys ≤ first_place key keys) × EndsAt links place bits end
+Finds keys links key place bits (Missing end) =
+    (length keys ≤ first_place key keys) × EndsAt links place bits end

@@ -1,5 +1,6 @@
 -- Paths to the places of a response (GraphQL, October 2021, section 7.1.2).
-use Rattle.std.specs.Prelude.{◌≡◌, ℕ, zero, suc, ◌-◌, List, [], ◌∷◌, Option, Some, None, fold, take, length}
+use Rattle.std.specs.Prelude.{◌≡◌, ℕ, zero, suc, ◌-◌, List, [], ◌∷◌, Option, Some, None, fold, take}
+use Rattle.std.specs.Prelude.{length}
 use Rattle.gql_base.specs.declared.path_segment.PathSegment.{PathSegment}
 use Rattle.gql_base.specs.declared.path_segment.PathSegment.TheVariants.{Field, Index}
 
@@ -21,7 +22,8 @@ prefixes_from (suc n) xs = take (suc n) xs ∷ prefixes_from n xs
 abbrev pub proper_prefixes : {A : Type 0} → List A → List (List A)
 proper_prefixes xs = prefixes_from (length xs - 1) xs
 
--- what an iterator over paths gives: the first of those that are left, and leaves the others; at the end none, and leaves none
+-- what an iterator over paths gives: the first of those that are left, and leaves the others; at
+-- the end none, and leaves none
 abbrev pub YieldsPrefix : {A : Type 0} → List A → Option A → List A → Type 0
 YieldsPrefix left (Some first) rest = left ≡ first ∷ rest
 YieldsPrefix left None rest = (left ≡ []) × (rest ≡ [])

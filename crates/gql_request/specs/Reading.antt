@@ -1,10 +1,12 @@
--- What reading a request from a value gives: the request, or the text of the first reason against it.
+-- What reading a request from a value gives: the request, or the text of the first reason against
+-- it.
 use Rattle.std.specs.Prelude.{◌≡◌, ℕ, List, Option, Some, None, Result, Ok, Err, codes}
 use Rattle.gql_request.specs.declared.reading.Fault.{Fault}
 use Rattle.gql_request.specs.declared.reading.Fault.TheVariants.{Refused, NoMemory}
 use Rattle.gql_request.specs.declared.reading.Reason.{Reason}
 use Rattle.gql_request.specs.declared.reading.Reason.TheVariants.{NoObject, NoQueryText, NoNameText}
-use Rattle.gql_request.specs.declared.reading.Reason.TheVariants.{VariablesList, NoVariables, NoExtensions}
+use Rattle.gql_request.specs.declared.reading.Reason.TheVariants.{VariablesList, NoVariables}
+use Rattle.gql_request.specs.declared.reading.Reason.TheVariants.{NoExtensions}
 use Rattle.gql_request.specs.declared.reading.Reason.TheVariants.{NoRequest}
 
 abbrev pub Reading : Type 0 → Type 0

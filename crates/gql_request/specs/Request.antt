@@ -1,5 +1,7 @@
--- Requests, their documents, and how a request stands in a value (GraphQL, October 2021, section 6.1).
-use Rattle.std.specs.Prelude.{◌≡◌, ℕ, List, [], Option, Some, None, Result, Ok, Err, MatchResult, codes, ⊤}
+-- Requests, their documents, and how a request stands in a value (GraphQL, October 2021, section
+-- 6.1).
+use Rattle.std.specs.Prelude.{◌≡◌, ℕ, List, [], Option, Some, None, Result, Ok, Err, MatchResult}
+use Rattle.std.specs.Prelude.{codes, ⊤}
 use Rattle.std.specs.Borrow.{Fml, Bor, MutBor, follows_so}
 use Rattle.std.specs.Str.{chars}
 use Rattle.std.specs.declared.alloc.AllocError.{AllocError}
@@ -37,20 +39,26 @@ abbrev pub with_document : Request → ExecutableDocument → Request
 with_document request document = record request { document = Some document }
 
 -- what a request's document is: the one that is set, and without one what the query reads as
-abbrev pub GivesParsed : Option ExecutableDocument → List ℕ → Result ExecutableDocument ParseFault → Type 0
+abbrev pub GivesParsed : Option ExecutableDocument → List ℕ → Result ExecutableDocument ParseFault
+    → Type 0
 GivesParsed (Some document) query outcome = outcome ≡ Ok document
 GivesParsed None query outcome = GivesDocument (chars query) outcome
 
--- the request once its document was asked for: it has the document that was given, and after a refusal or want of memory it is as before
-abbrev pub IsAfterParsing : Request → Result (Result (Bor ExecutableDocument) ParseFault) AllocError → Request → Type 0
+-- the request once its document was asked for: it has the document that was given, and after a
+-- refusal or want of memory it is as before
+abbrev pub IsAfterParsing : Request → Result (Result (Bor ExecutableDocument) ParseFault) AllocError
+    → Request → Type 0
 IsAfterParsing before result after = MatchResult result
-    (λ outcome. MatchResult outcome (λ document. after ≡ with_document before document.now) (λ _. after ≡ before))
+    (λ outcome. MatchResult outcome (λ document. after ≡ with_document before document.now)
+    (λ _. after ≡ before))
     (λ _. after ≡ before)
 
 -- that the request ends so, once the document that was given is let go
-abbrev pub ends_parsed : MutBor Request → Result (Result (Bor ExecutableDocument) ParseFault) AllocError → Fml
+abbrev pub ends_parsed : MutBor Request
+    → Result (Result (Bor ExecutableDocument) ParseFault) AllocError → Fml
 ends_parsed request result =
-    follows_so the_row the_row request.ghost_name none (λ _ _. ⊤) (IsAfterParsing request.now result)
+    follows_so the_row the_row request.ghost_name none (λ _ _. ⊤)
+    (IsAfterParsing request.now result)
 
 -- The readings of the members of a request, each by its kind.
 
@@ -97,7 +105,11 @@ request_in members = do
   operation_name ← operation_name_in (under (codes "operationName") members)
   variables ← variables_in (under (codes "variables") members)
   extensions ← extensions_in (under (codes "extensions") members)
-  Ok (record (request_for query) { operation_name = operation_name; variables = variables; extensions = extensions })
+  Ok (record (request_for query) {
+    operation_name = operation_name;
+    variables = variables;
+    extensions = extensions;
+  })
 
 abbrev pub request_here : Value-F Value → Reading Request
 request_here (Value-F.Object members) = request_in members

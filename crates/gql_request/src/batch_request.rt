@@ -81,7 +81,8 @@ impl BatchRequest {
     #[tactic(auto, using(crate::proofs::BatchLemmas::none_changed, crate::proofs::BatchLemmas::one_changed, crate::proofs::BatchLemmas::all_changed))]
     pub fn variables(mut self, alloc: Global, variables: &Variables) -> Made<BatchRequest>
         ensures { IfOk result
-            (λ batch. batch ≡ each_request (λ request. record request { variables = variables.now }) self) }
+            (λ batch. batch
+            ≡ each_request (λ request. record request { variables = variables.now }) self) }
     {
         for place in 0..self.len() {
             self.at_mut(place).variables = variables.try_clone(alloc)?;
@@ -93,7 +94,10 @@ impl BatchRequest {
     #[tactic(auto, using(crate::proofs::BatchLemmas::none_changed, crate::proofs::BatchLemmas::one_changed, crate::proofs::BatchLemmas::all_changed))]
     pub fn data(mut self, alloc: Global, key: DataKey, value: &Value) -> Made<BatchRequest>
         ensures { IfOk result
-            (λ batch. batch ≡ each_request (λ request. record request { query_data = put_key request.query_data key.0 value.now }) self) }
+            (λ batch. batch
+            ≡ each_request
+            (λ request. record request
+            { query_data = put_key request.query_data key.0 value.now }) self) }
     {
         for place in 0..self.len() {
             let copy = value.try_clone(alloc)?;
@@ -113,14 +117,16 @@ impl BatchRequest {
     /// This batch, to whose requests fields of the schema alone have values.
     pub fn introspection_only(self) -> BatchRequest
         ensures { result ≡ each_request
-            (λ request. record request { introspection_mode = IntrospectionMode.IntrospectionOnly }) self }
+            (λ request. record request { introspection_mode = IntrospectionMode.IntrospectionOnly })
+            self }
     {
         self.in_mode(IntrospectionMode::IntrospectionOnly)
     }
 
     #[tactic(auto, using(crate::proofs::BatchLemmas::none_changed, crate::proofs::BatchLemmas::one_changed, crate::proofs::BatchLemmas::all_changed))]
     fn in_mode(mut self, mode: IntrospectionMode) -> BatchRequest
-        ensures { result ≡ each_request (λ request. record request { introspection_mode = mode }) self }
+        ensures { result
+            ≡ each_request (λ request. record request { introspection_mode = mode }) self }
     {
         for place in 0..self.len() {
             self.at_mut(place).introspection_mode = mode;
@@ -128,7 +134,8 @@ impl BatchRequest {
         self
     }
 
-    /// The batch that a value holds, or the first reason why it holds none: a list of requests, or one request.
+    /// The batch that a value holds, or the first reason why it holds none: a list of requests, or
+    /// one request.
     pub fn from_json(alloc: Global, value: &Value) -> Made<Result<BatchRequest, ParseRequestError>>
         ensures { IfOk result (λ read. Tells read (batch_of value.now)) }
     {

@@ -20,7 +20,8 @@ pub struct DataKey(pub u32);
 #[error("no data is under this key")]
 pub struct NoData(pub DataKey);
 
-/// Values under keys. Contracts see the list of the pairs of a key's number and its value, in order of insertion.
+/// Values under keys. Contracts see the list of the pairs of a key's number and its value, in order
+/// of insertion.
 #[derive(Debug, Drop)]
 pub struct Data {
     tree: KeyTree,
@@ -57,8 +58,8 @@ impl Data {
         }
     }
 
-    /// Sets the value under a key. A key that is there keeps its place, and another goes to the end. Where memory is
-    /// wanting the data stay as they were.
+    /// Sets the value under a key. A key that is there keeps its place, and another goes to the
+    /// end. Where memory is wanting the data stay as they were.
     #[tactic(auto, using(crate::proofs::DataLemmas::put_found, crate::proofs::DataLemmas::inserts))]
     pub fn insert(&mut self, key: DataKey, value: Value) -> Made<()>
         ensures ok { OnOk result (self.new ≡ put_key self.old key.0 value) }
@@ -97,8 +98,8 @@ impl Data {
         self.values.is_empty()
     }
 
-    /// Sets the values of the others in their order, each as `insert` does. Room for all of them is made first: where
-    /// memory is wanting, no value is set, and the data stay as they were.
+    /// Sets the values of the others in their order, each as `insert` does. Room for all of them is
+    /// made first: where memory is wanting, no value is set, and the data stay as they were.
     pub fn merge(&mut self, other: Data) -> Made<()>
         ensures ok { OnOk result (self.new ≡ put_keys self.old other) }
         ensures err { OnErr result (self.new ≡ self.old) }
@@ -115,7 +116,8 @@ impl Data {
         Ok(())
     }
 
-    /// True exactly where the other data have the same keys in the same order, with the same values.
+    /// True exactly where the other data have the same keys in the same order, with the same
+    /// values.
     #[tactic(auto, using(crate::proofs::DataLemmas::same_data))]
     pub fn equals(&self, other: &Data) -> bool
         ensures { IsTrue result ↔ (self.now ≡ other.now) }
@@ -193,7 +195,8 @@ fn put_all(
     ensures tree { IsKeyTree tree.new.keys.items tree.new.links.items }
     ensures same { length values.new.items ≡ length tree.new.keys.items }
     ensures pairs { zip tree.new.keys.items values.new.items
-        ≡ put_keys (zip tree.old.keys.items values.old.items) (zip other_keys.now other_values.items) }
+        ≡ put_keys (zip tree.old.keys.items values.old.items)
+        (zip other_keys.now other_values.items) }
 {
     let mut place = 0;
     for value in other_values {

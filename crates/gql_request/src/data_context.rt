@@ -30,7 +30,8 @@ pub trait DataContext<'a> {
 
 /// What was found in an earlier layer, else what this one has.
 pub fn found_or<'a>(earlier: Option<&'a Value>, layer: &'a Data, key: DataKey) -> Option<&'a Value>
-    ensures { option_copied result ≡ option_or (option_copied earlier.entry) (under_key key.0 layer.now) }
+    ensures { option_copied result
+        ≡ option_or (option_copied earlier.entry) (under_key key.0 layer.now) }
 {
     match earlier {
         Some(value) => Some(value),

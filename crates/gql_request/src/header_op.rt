@@ -22,8 +22,9 @@ impl Copied for HeaderOp {
     }
 }
 
-/// Operations are equal where they are of one kind with the same name and the same value, and both values are kept out of
-/// logs or neither is: a plain comparison of values looks at their bytes alone.
+/// Operations are equal where they are of one kind with the same name and the same value, and both
+/// values are kept out of logs or neither is: a plain comparison of values looks at their bytes
+/// alone.
 impl PartialEq for HeaderOp {
     ghost use Rattle.std.specs.Prelude.{◌≡◌, ◌↔◌, IsTrue};
     ghost use Rattle.gql_base.specs.Same.{is_same, is_same_laws};
@@ -62,7 +63,8 @@ fn same_op(a: &HeaderOp, b: &HeaderOp) -> bool
     }
 }
 
-/// Whether two values have the same bytes, and the same answer to whether they are kept out of logs.
+/// Whether two values have the same bytes, and the same answer to whether they are kept out of
+/// logs.
 fn same_header_value(a: &HeaderValue, b: &HeaderValue) -> bool
     ensures { IsTrue result ↔ (a.now ≡ b.now) }
 {

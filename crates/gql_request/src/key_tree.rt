@@ -7,9 +7,10 @@ ghost use Rattle.gql_request.specs.KeyTree.{IsKeyTree, Leads, EndsAt, EndsWithin
 use gql_base::Made;
 use std::alloc::Global;
 
-/// Keys in order of insertion. The key at a place has the links of the numbers `2 * place` and `2 * place + 1`, each to the
-/// place of a key that was added later. The way to a key begins at the first key; at another key it takes the link of the
-/// lowest bit of the key that is sought, and leaves that bit out.
+/// Keys in order of insertion. The key at a place has the links of the numbers `2 * place` and
+/// `2 * place + 1`, each to the place of a key that was added later. The way to a key begins at the
+/// first key; at another key it takes the link of the lowest bit of the key that is sought, and
+/// leaves that bit out.
 #[derive(Debug, Drop)]
 pub struct KeyTree {
     pub keys: Vec<u32>,

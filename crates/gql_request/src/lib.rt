@@ -1,5 +1,5 @@
-//! Requests and responses, and what a request brings to its execution: data of the layers, the environment of a query, and
-//! the path to a place.
+//! Requests and responses, and what a request brings to its execution: data of the layers, the
+//! environment of a query, and the path to a place.
 #![tactic(auto)]
 
 mod batch_request;

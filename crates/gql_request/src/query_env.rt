@@ -28,7 +28,8 @@ impl Default for IntrospectionMode {
     }
 }
 
-/// What an execution knows of its request: the chosen operation, the fragments that it may spread, and its variables.
+/// What an execution knows of its request: the chosen operation, the fragments that it may spread,
+/// and its variables.
 #[derive(Debug, Drop)]
 pub struct QueryEnv {
     pub variables: Variables,
@@ -44,7 +45,8 @@ pub struct QueryEnv {
 impl QueryEnv {
     ghost use Rattle.gql_request.specs.QueryEnv.{levels_of, NestsIn};
 
-    /// What an execution knows, where the sets of the operation and of what it spreads nest within these levels.
+    /// What an execution knows, where the sets of the operation and of what it spreads nest within
+    /// these levels.
     pub fn new(
         variables: Variables,
         operation_name: Option<Text>,

@@ -7,7 +7,8 @@ ghost use Rattle.gql_request.specs.Path.{last_field};
 use gql_base::{Items, Made, PathSegment, Text};
 use std::alloc::Global;
 
-/// A place of a response by its path, which has at least one segment (GraphQL, October 2021, section 7.1.2).
+/// A place of a response by its path, which has at least one segment (GraphQL, October 2021,
+/// section 7.1.2).
 #[derive(Clone, Copy, Debug)]
 pub struct QueryPathNode<'a> {
     pub segments: &'a [PathSegment],
@@ -73,7 +74,8 @@ fn text_of(alloc: Global, segment: &PathSegment) -> Made<Text>
 
 /// Appends a dot, but before the segment at place 0 nothing.
 fn push_dot(out: &mut String, place: usize) -> Made<()>
-    ensures { OnOk result (string_bytes out.new ≡ string_bytes out.old ++ before (codes ".") place) }
+    ensures { OnOk result (string_bytes out.new ≡ string_bytes out.old
+        ++ before (codes ".") place) }
 {
     if place == 0 { Ok(()) } else { out.push('.') }
 }

@@ -2,7 +2,8 @@
 ghost use Rattle.std.specs.Prelude.{◌≡◌};
 ghost use Rattle.std.specs.Option.{option_copied};
 ghost use Rattle.gql_request.specs.Reading.{IsRead, reason_text};
-ghost use Rattle.gql_request.specs.Request.{query_in, operation_name_in, variables_in, extensions_in};
+ghost use Rattle.gql_request.specs.Request.{query_in, operation_name_in, variables_in};
+ghost use Rattle.gql_request.specs.Request.{extensions_in};
 
 use gql_base::{Copied, Made, Pairs, Text, Value, Variables};
 use std::alloc::{AllocError, Global};

@@ -56,7 +56,8 @@ impl Request {
 
     /// This request for the operation of a name.
     pub fn operation_name(self, alloc: Global, name: &str) -> Made<Request>
-        ensures { IfOk result (λ request. request ≡ record self { operation_name = Some name.now }) }
+        ensures { IfOk result (λ request. request
+            ≡ record self { operation_name = Some name.now }) }
     {
         Ok(Request {
             operation_name: Some(Text::new(alloc, name)?),
@@ -92,7 +93,8 @@ impl Request {
 
     /// This request, to which fields of the schema alone have values.
     pub fn only_introspection(self) -> Request
-        ensures { result ≡ record self { introspection_mode = IntrospectionMode.IntrospectionOnly } }
+        ensures { result
+            ≡ record self { introspection_mode = IntrospectionMode.IntrospectionOnly } }
     {
         Request {
             introspection_mode: IntrospectionMode::IntrospectionOnly,
@@ -100,8 +102,8 @@ impl Request {
         }
     }
 
-    /// The document that is set. Without one it reads the query, and sets and answers the document; the first fault of the
-    /// query changes nothing.
+    /// The document that is set. Without one it reads the query, and sets and answers the document;
+    /// the first fault of the query changes nothing.
     pub fn parsed_query(&mut self, alloc: Global) -> Made<Result<&ExecutableDocument, ParseFault>>
         ensures* after { sem 𝓛 (ends_parsed self.entry result) }
         ensures given { IfOk result (λ outcome. MatchResult outcome

@@ -38,7 +38,8 @@ impl Response {
 
     /// A response with these errors and no data.
     pub fn from_errors(alloc: Global, errors: Items<ServerError>) -> Response
-        ensures { result ≡ record { result = Value.Null; extensions = []; errors = errors; headers = [] } }
+        ensures { result
+            ≡ record { result = Value.Null; extensions = []; errors = errors; headers = [] } }
     {
         Response {
             result: Value::Null,
@@ -51,7 +52,8 @@ impl Response {
     /// This response with one more extension, in place of one of its name.
     pub fn extension(mut self, name: &str, value: Value) -> Made<Response>
         ensures { IfOk result
-            (λ response. response ≡ record self { extensions = set_in_order self.extensions name.now value }) }
+            (λ response. response
+            ≡ record self { extensions = set_in_order self.extensions name.now value }) }
     {
         self.extensions.set(name, value)?;
         Ok(self)
@@ -90,7 +92,8 @@ impl Response {
         }
     }
 
-    /// The JSON text of the response: its data, and then its extensions and errors, each if there are any.
+    /// The JSON text of the response: its data, and then its extensions and errors, each if there
+    /// are any.
     pub fn json(&self, alloc: Global) -> Made<Text>
         ensures { IfOk result (λ text. text ≡ response_json self.now) }
     {
@@ -112,7 +115,8 @@ impl JsonText for Response {
 
 /// Appends the JSON text of a response.
 pub fn push_response(out: &mut String, response: &Response) -> Made<()>
-    ensures { OnOk result (string_bytes out.new ≡ string_bytes out.old ++ response_json response.now) }
+    ensures { OnOk result (string_bytes out.new ≡ string_bytes out.old
+        ++ response_json response.now) }
 {
     out.push_str("{\"data\":")?;
     push_json(out, &response.result)?;
@@ -133,7 +137,8 @@ fn push_extensions(out: &mut String, extensions: &ErrorExtensionValues) -> Made<
 }
 
 fn push_error_list(out: &mut String, errors: &[ServerError]) -> Made<()>
-    ensures { OnOk result (string_bytes out.new ≡ string_bytes out.old ++ errors_member errors.now) }
+    ensures { OnOk result (string_bytes out.new ≡ string_bytes out.old
+        ++ errors_member errors.now) }
 {
     if errors.is_empty() {
         return Ok(());

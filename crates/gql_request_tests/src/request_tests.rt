@@ -18,7 +18,8 @@ fn variables(alloc: Global, number: u64) -> Made<Variables> {
     Ok(Variables::from_value(alloc, value))
 }
 
-/// The numbers under the key 1 and of the variable a, the operation and the mode of a request, in words.
+/// The numbers under the key 1 and of the variable a, the operation and the mode of a request, in
+/// words.
 fn summary(alloc: Global, request: &Request) -> Made<Text> {
     let mut out = String::from_str(alloc, request.query.as_str())?;
     if let Some(name) = &request.operation_name {
@@ -100,7 +101,8 @@ fn value_of_kind(alloc: Global, kind: &str) -> Made<Value> {
     }
 }
 
-/// What reading a request of one member gives: the request in words and its extensions, or the error in words.
+/// What reading a request of one member gives: the request in words and its extensions, or the
+/// error in words.
 fn read_text(alloc: Global, member: &str, kind: &str) -> Made<Text> {
     let value = object(alloc, member, value_of_kind(alloc, kind)?)?;
     match Request::from_json(alloc, &value)? {
@@ -270,7 +272,8 @@ fn batches_have_modes(rt: HostRuntime) -> Result<(), Fail> {
     Ok(())
 }
 
-/// Whether asking for a document gave one whose only operation stands at this column, or a fault where that is none.
+/// Whether asking for a document gave one whose only operation stands at this column, or a fault
+/// where that is none.
 fn stands_at(outcome: Result<&ExecutableDocument, ParseFault>, column: Option<usize>) -> bool {
     match outcome {
         Ok(document) => match &document.operations {

@@ -1,4 +1,5 @@
-//! Each public call with ample memory. What a test looks at is made by small functions beside it, since a test is proved too.
+//! Each public call with ample memory. What a test looks at is made by small functions beside it,
+//! since a test is proved too.
 ghost use Rattle.std.specs.Prelude.{◌≡◌, [], ◌∷◌, IfOk};
 
 use gql_base::{Copied, Items, Made, Number, PathSegment, Text, Value};

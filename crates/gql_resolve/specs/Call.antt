@@ -1,4 +1,5 @@
--- What a resolver's answer may depend on. A task's number, the path, the alias and what is selected beneath are no part of it.
+-- What a resolver's answer may depend on. A task's number, the path, the alias and what is selected
+-- beneath are no part of it.
 use Rattle.std.specs.Prelude.{ℕ, Bool, true, false, ◌&&◌, List, [], ◌∷◌}
 use Rattle.gql_base.specs.declared.value.Value.{Value}
 use Rattle.gql_doc.specs.declared.document.OperationType.{OperationType}
@@ -30,11 +31,13 @@ is_single [] = false
 is_single (x ∷ []) = true
 is_single (x ∷ y ∷ ys) = false
 
--- the call that a context makes: it is for a root key of a mutation where the operation is a mutation and the path has one segment
+-- the call that a context makes: it is for a root key of a mutation where the operation is a
+-- mutation and the path has one segment
 abbrev pub call_of : {V : Type 0} → ResolverContext V → Call V
 call_of context =
     record {
-      is_root = is_mutation context.env.now.operation.node.ty && is_single context.path_node.segments.now;
+      is_root =
+          is_mutation context.env.now.operation.node.ty && is_single context.path_node.segments.now;
       resolver = context.resolver;
       parent = context.parent_value.now;
       arguments = members_behind context.args;

@@ -25,9 +25,11 @@ plain_answer value = record { result = Ok value; added = []; headers = [] }
 
 module _ {V W E : Type 0} (answer : Call V → W → Answer V) where
   -- a value is the answer in the world, which stays; at a root key of a mutation its effect is none
-  abbrev pub StartsLawfully : {F : Type 0} → (Call V → W → W) → Call V → W → W → Result (FieldFuture V F) E → Type 0
+  abbrev pub StartsLawfully : {F : Type 0} → (Call V → W → W) → Call V → W → W
+      → Result (FieldFuture V F) E → Type 0
   StartsLawfully effect call old new (Ok (Value value)) =
-      (new ≡ old) × (plain_answer value ≡ answer call old) × (IsTrue call.is_root → effect call old ≡ old)
+      (new ≡ old) × (plain_answer value ≡ answer call old)
+      × (IsTrue call.is_root → effect call old ≡ old)
   StartsLawfully effect call old new (Ok (Future future)) = new ≡ old
   StartsLawfully effect call old new (Err want) = new ≡ old
 
@@ -37,8 +39,10 @@ module _ {V W E : Type 0} (answer : Call V → W → Answer V) where
   PollsLawfully call old new (Ok Pending) = new ≡ old
   PollsLawfully call old new (Err want) = new ≡ old
 
-  -- a completed poll of a root gives the answer in the world before it, and the world becomes the effect
+  -- a completed poll of a root gives the answer in the world before it, and the world becomes the
+  -- effect
   abbrev pub PollsRootLawfully : (Call V → W → W) → Call V → W → W → Result (Polled V) E → Type 0
-  PollsRootLawfully effect call old new (Ok (Ready given)) = (new ≡ effect call old) × (given ≡ answer call old)
+  PollsRootLawfully effect call old new (Ok (Ready given)) =
+      (new ≡ effect call old) × (given ≡ answer call old)
   PollsRootLawfully effect call old new (Ok Pending) = new ≡ old
   PollsRootLawfully effect call old new (Err want) = new ≡ old

@@ -6,7 +6,8 @@ use Rattle.gql_resolve.specs.declared.answer.Polled.{Polled}
 use Rattle.gql_resolve.specs.declared.answer.Polled.TheVariants.{Ready, Pending}
 
 module _ {V F : Type 0} (number : F → ℕ) where
-  -- a future begins with the delay as its number, and a value comes at once only where the delay is 0
+  -- a future begins with the delay as its number, and a value comes at once only where the delay is
+  -- 0
   abbrev pub StartsPaced : ℕ → FieldFuture V F → Type 0
   StartsPaced delay (Value value) = delay ≡ 0
   StartsPaced delay (Future future) = number future ≡ delay

@@ -8,8 +8,8 @@ use gql_base::{Error, Items, Made};
 use gql_request::HeaderOp;
 use http_header::{HeaderName, HeaderValue};
 
-/// What a resolver answers: its value, if any, or its error; errors beside that; and what it does to the headers of the
-/// HTTP response.
+/// What a resolver answers: its value, if any, or its error; errors beside that; and what it does
+/// to the headers of the HTTP response.
 #[derive(Debug, Drop)]
 pub struct Answer<V> {
     pub result: Result<Option<FieldValue<V>>, Error>,

@@ -4,7 +4,8 @@ ghost use Rattle.std.specs.Option.{option_copied};
 use gql_base::Value;
 use gql_request::{Data, DataContext, DataKey, NoData, found_or};
 
-/// The data that a resolver sees, in layers. A key is searched in the order in which they stand here.
+/// The data that a resolver sees, in layers. A key is searched in the order in which they stand
+/// here.
 #[derive(Clone, Copy)]
 pub struct Layers<'a> {
     /// What hooks added for this execution, if any.

@@ -1,4 +1,5 @@
-//! What a resolver set is: the answers of resolvers, the calls that ask for them, and what makes a set lawful.
+//! What a resolver set is: the answers of resolvers, the calls that ask for them, and what makes a
+//! set lawful.
 #![tactic(auto)]
 
 mod answer;

@@ -5,7 +5,8 @@ use crate::resolver_context::ResolverContext;
 use gql_base::{Made, Text};
 use std::alloc::Global;
 
-/// One entry of the record of an execution: that a task was polled, or that it was started and gave its value at once.
+/// One entry of the record of an execution: that a task was polled, or that it was started and gave
+/// its value at once.
 #[derive(Debug, Drop)]
 pub struct RecordEntry {
     /// The task's number, in the order of making.

@@ -23,7 +23,8 @@ pub struct ResolverContext<'a, V> {
     pub parent_value: &'a FieldValue<V>,
     /// The path to the field.
     pub path_node: QueryPathNode<'a>,
-    /// The field as it stands in the document. Its set, with what it spreads, nests within the levels of the environment.
+    /// The field as it stands in the document. Its set, with what it spreads, nests within the
+    /// levels of the environment.
     pub item: &'a Field,
     /// The environment of the query.
     pub env: &'a QueryEnv,

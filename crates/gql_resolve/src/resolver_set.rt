@@ -3,7 +3,8 @@ ghost use Rattle.gql_resolve.specs.Call.{Call, call_of};
 ghost use Rattle.gql_resolve.specs.Lawful.{PromisesStart, PromisesPoll, StartsLawfully};
 ghost use Rattle.gql_resolve.specs.Lawful.{PollsLawfully, PollsRootLawfully};
 ghost use Rattle.gql_resolve.specs.Paced.{StartsPaced, PollsPaced};
-ghost use Rattle.gql_resolve.specs.Record.{with_more, entries_of_start, entries_of_poll, tasks_of_start};
+ghost use Rattle.gql_resolve.specs.Record.{with_more, entries_of_start, entries_of_poll};
+ghost use Rattle.gql_resolve.specs.Record.{tasks_of_start};
 
 use crate::answer::Polled;
 use crate::field_future::FieldFuture;
@@ -11,8 +12,8 @@ use crate::resolver_context::ResolverContext;
 use gql_base::Made;
 use std::alloc::Global;
 
-/// The resolvers of a schema, by their numbers. A resolver is started for a task, and where it gives a future, that is
-/// polled until it is ready.
+/// The resolvers of a schema, by their numbers. A resolver is started for a task, and where it
+/// gives a future, that is polled until it is ready.
 pub trait ResolverSet {
     ghost use Rattle.std.specs.Prelude.{ℕ, List, Option};
     ghost use Rattle.gql_resolve.specs.declared.answer.Answer.{Answer};
@@ -96,7 +97,8 @@ pub trait ResolverSet {
         ensures told { told self.new ≡ with_more (told self.old) (entries_of_poll call.now result) }
         ensures begun { begun self.new ≡ begun self.old };
 
-    /// Asks a future for its answer, as a root of a mutation: the answer comes with the effect on the world.
+    /// Asks a future for its answer, as a root of a mutation: the answer comes with the effect on
+    /// the world.
     fn poll_root(
         &mut self,
         alloc: Global,

@@ -1,4 +1,5 @@
-//! What resolvers answer can be moved to threads and shared between them, where their own values can.
+//! What resolvers answer can be moved to threads and shared between them, where their own values
+//! can.
 use crate::{Answer, FieldValue, Layers, Polled, ResolverContext};
 
 fn shared<T: Send + Sync>() {}

@@ -1,4 +1,5 @@
-//! What a resolver's context borrows, for tests: a field and an operation without selections, and few data.
+//! What a resolver's context borrows, for tests: a field and an operation without selections, and
+//! few data.
 
 ghost use Rattle.std.specs.Prelude.{◌≡◌, ◌<◌, [], IfOk, length};
 ghost use Rattle.std.proofs.Props.{props};

@@ -9,8 +9,8 @@ use gql_resolve::{
 };
 use std::alloc::Global;
 
-/// Resolvers that answer their own numbers, each after as many pending polls as the delay. The world is the number of the
-/// resolver that was the last root of a mutation.
+/// Resolvers that answer their own numbers, each after as many pending polls as the delay. The
+/// world is the number of the resolver that was the last root of a mutation.
 #[derive(Drop)]
 pub struct Echo {
     pub world: u64,
@@ -37,7 +37,9 @@ impl Echo {
     }
 
     fn note(&mut self, alloc: Global, call: &ResolverContext<'_, u64>, ready: bool) -> Made<()>
-        ensures ok { OnOk result (self.new ≡ record self.old { entries = self.old.entries ++ entry_of call.now ready ∷ [] }) }
+        ensures ok { OnOk result
+            (self.new ≡ record self.old
+            { entries = self.old.entries ++ entry_of call.now ready ∷ [] }) }
         ensures err { OnErr result (self.new ≡ self.old) }
     {
         self.entries.push(RecordEntry::of(alloc, call, ready)?)

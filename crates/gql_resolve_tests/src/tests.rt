@@ -1,5 +1,5 @@
-//! Each public call with ample memory, and the traits through their bounds at a tiny set. What a test looks at is made by
-//! small functions beside it, since a test is proved too.
+//! Each public call with ample memory, and the traits through their bounds at a tiny set. What a
+//! test looks at is made by small functions beside it, since a test is proved too.
 ghost use Rattle.gql_resolve.specs.Call.{call_of};
 
 use crate::parts::Parts;
@@ -90,8 +90,8 @@ fn told_two(set: &Echo) -> bool {
     }
 }
 
-/// Whether a set that doesn't wait answers its resolver's number at the first poll, which is its world after a root, and
-/// tells each poll.
+/// Whether a set that doesn't wait answers its resolver's number at the first poll, which is its
+/// world after a root, and tells each poll.
 fn echoes(alloc: Global, call: &ResolverContext<'_, u64>) -> Made<bool> {
     let mut set = Echo::new(alloc, 0);
     let root = asked(alloc, &mut set, call, true);

@@ -1,4 +1,5 @@
--- Which types may stand where an interface promises another (GraphQL, October 2021, section 3.6, "Type Validation").
+-- Which types may stand where an interface promises another (GraphQL, October 2021, section 3.6,
+-- "Type Validation").
 use Rattle.std.specs.Prelude.{ℕ, Bool, false, List}
 use Rattle.gql_base.specs.declared.type_ref.TypeRef.{TypeRef, out-TypeRef}
 use Rattle.gql_base.specs.declared.type_ref.TypeRef.TheOpen.{TypeRef-F}
@@ -6,7 +7,8 @@ use Rattle.gql_base.specs.declared.type_ref.TypeRef.TheFolds.{fold-TypeRef}
 use Rattle.gql_schema.specs.Fits.{nullable_of}
 use Rattle.gql_schema.specs.TableReading.{TypeTable, has_type}
 
--- a name is covariant to itself, and the name of an object to an interface or union that has the object
+-- a name is covariant to itself, and the name of an object to an interface or union that has the
+-- object
 abbrev pub named_covariant : TypeTable → List ℕ → TypeRef-F TypeRef → Bool
 named_covariant table name (TypeRef-F.Named promised) = has_type table promised name
 named_covariant table name _ = false
@@ -17,11 +19,12 @@ list_covariant inner _ = false
 
 -- one level of a type, with what the types inside are covariant to
 abbrev pub covariant_step : TypeTable → TypeRef-F (TypeRef → Bool) → TypeRef → Bool
-covariant_step table (TypeRef-F.Named name) promised = named_covariant table name (out-TypeRef promised)
+covariant_step table (TypeRef-F.Named name) promised =
+    named_covariant table name (out-TypeRef promised)
 covariant_step table (TypeRef-F.NonNull inner) promised = inner (nullable_of promised)
 covariant_step table (TypeRef-F.List inner) promised = list_covariant inner (out-TypeRef promised)
 
--- whether a type is covariant to one that is promised: equal, or non-null over a covariant type, or lists of covariant types, or an
--- object that the promised interface or union has
+-- whether a type is covariant to one that is promised: equal, or non-null over a covariant type, or
+-- lists of covariant types, or an object that the promised interface or union has
 abbrev pub is_covariant : TypeTable → TypeRef → TypeRef → Bool
 is_covariant table = fold-TypeRef (TypeRef → Bool) (covariant_step table)

@@ -36,7 +36,8 @@ with_any table = put table (codes "_Any") (types.Scalar (new_scalar (codes "_Any
 
 -- the table with the union of entities, of these members
 abbrev pub with_entity_union : TypeTable → List (List ℕ) → TypeTable
-with_entity_union table members = put table (codes "_Entity") (types.Union (new_union (codes "_Entity") members))
+with_entity_union table members =
+    put table (codes "_Entity") (types.Union (new_union (codes "_Entity") members))
 
 -- the table whose two names are taken, so that no object stands under them
 abbrev pub reserved : TypeTable → TypeTable
@@ -48,12 +49,19 @@ with_entities table = with_entity_union (reserved table) (entities (reserved tab
 
 -- two types of an example, of which one is an entity
 abbrev example : TypeTable
-example =
-    (codes "O", types.Object (record { name = codes "O"; fields = []; interfaces = []; keys = codes "id" ∷ [] }))
-    ∷ (codes "P", types.Object (record { name = codes "P"; fields = []; interfaces = []; keys = [] })) ∷ []
+example = (
+  codes "O",
+  types.Object
+      (record { name = codes "O"; fields = []; interfaces = []; keys = codes "id" ∷ [] }),
+)
+    ∷ (
+      codes "P",
+      types.Object (record { name = codes "P"; fields = []; interfaces = []; keys = [] }),
+    ) ∷ []
 
 pub entities_of_an_example : entities example ≡ codes "O" ∷ []
 entities_of_an_example = refl
 
-pub names_with_entities : names_of (with_entities example) ≡ codes "O" ∷ codes "P" ∷ codes "_Any" ∷ codes "_Entity" ∷ []
+pub names_with_entities : names_of (with_entities example) ≡ codes "O" ∷ codes "P" ∷ codes "_Any"
+    ∷ codes "_Entity" ∷ []
 names_with_entities = refl

@@ -1,9 +1,11 @@
--- The rules of a table of types (GraphQL, October 2021, section 3, "Type Validation"). Each is a fault at a place, or none. At one
--- place the rule on unsupported names comes first, and the others in the order of their numbers:
+-- The rules of a table of types (GraphQL, October 2021, section 3, "Type Validation"). Each is a
+-- fault at a place, or none. At one place the rule on unsupported names comes first, and the others
+-- in the order of their numbers:
 --   1 a name isn't registered; 2 a type stands where its kind can't; 3 a non-null of a non-null; 4 a field of a oneof input object isn't
 --   nullable, or has a default; 5 an object lacks what an interface promises; 6 a member of a union is no object; 7 an input object
 --   contains itself; 8 a name isn't supported; 9 a default doesn't fit.
-use Rattle.std.specs.Prelude.{ℕ, Bool, true, false, ◌&&◌, ◌||◌, not, List, [], ◌∷◌, Option, Some, None, Result, IfOk, is_some, ◌≡◌, if◌then◌else◌}
+use Rattle.std.specs.Prelude.{ℕ, Bool, true, false, ◌&&◌, ◌||◌, not, List, [], ◌∷◌, Option, Some}
+use Rattle.std.specs.Prelude.{None, Result, IfOk, is_some, ◌≡◌, if◌then◌else◌}
 use Rattle.std.specs.List.{list_all}
 use Rattle.std.specs.Option.{option_or}
 use Rattle.gql_base.specs.Pairs.{under}
@@ -23,7 +25,10 @@ use Rattle.gql_schema.specs.Object.{object_name, fields_of, interfaces_of}
 use Rattle.gql_schema.specs.Subscription.{subscription_name, event_fields}
 use Rattle.gql_schema.specs.SubscriptionField.{event_name, event_type, event_arguments}
 use Rattle.gql_schema.specs.TableReading.{TypeTable, is_known_object}
-use Rattle.gql_schema.specs.Texts.{dotted, not_found_text, misplaced_text, doubled_text, not_nullable_text, has_default_text, unsatisfied_text, no_object_text, self_containing_text, unsupported_text, unfit_text}
+use Rattle.gql_schema.specs.Texts.{dotted, not_found_text, misplaced_text, doubled_text}
+use Rattle.gql_schema.specs.Texts.{not_nullable_text, has_default_text, unsatisfied_text}
+use Rattle.gql_schema.specs.Texts.{no_object_text, self_containing_text, unsupported_text}
+use Rattle.gql_schema.specs.Texts.{unfit_text}
 use Rattle.gql_schema.specs.Types.{type_name}
 use Rattle.gql_schema.specs.Union.{union_name, members_of}
 use Rattle.gql_schema.specs.declared.field.Field.{Field}
@@ -79,7 +84,9 @@ kind_fault misplaced ty = option_or (misplaced_fault misplaced (innermost ty)) (
 
 -- the rules on a type at a place, where some kinds can't stand
 abbrev pub type_fault : TypeTable → (Option SchemaType → Bool) → TypeRef → Option SchemaError
-type_fault table misplaced ty = option_or (name_fault table (innermost ty)) (kind_fault (misplaced (under (innermost ty) table)) ty)
+type_fault table misplaced ty =
+    option_or (name_fault table (innermost ty))
+    (kind_fault (misplaced (under (innermost ty) table)) ty)
 
 abbrev pub output_fault : TypeTable → TypeRef → Option SchemaError
 output_fault table ty = type_fault table is_no_output ty
@@ -96,21 +103,26 @@ unfit_default table path ty None = None
 unfit_default table path ty (Some value) = fault_if (not (fits table value ty)) 9 (unfit_text path)
 
 abbrev pub default_fault : TypeTable → List ℕ → InputValue → Option SchemaError
-default_fault table owner input = unfit_default table (dotted owner (input_name input)) (input_type input) (default_of input)
+default_fault table owner input =
+    unfit_default table (dotted owner (input_name input)) (input_type input) (default_of input)
 
 -- an argument of what has this name
 abbrev pub argument_fault : TypeTable → List ℕ → InputValue → Option SchemaError
-argument_fault table owner input = option_or (input_fault table (input_type input)) (default_fault table owner input)
+argument_fault table owner input =
+    option_or (input_fault table (input_type input)) (default_fault table owner input)
 
 abbrev pub arguments_fault : TypeTable → List ℕ → List (List ℕ × InputValue) → Option SchemaError
 arguments_fault table owner arguments = first_found (λ p. argument_fault table owner p.1) arguments
 
 -- a field of the type of this name: its type, then its arguments
-abbrev pub field_fault : TypeTable → List ℕ → List ℕ → TypeRef → List (List ℕ × InputValue) → Option SchemaError
-field_fault table owner name ty arguments = option_or (output_fault table ty) (arguments_fault table (dotted owner name) arguments)
+abbrev pub field_fault : TypeTable → List ℕ → List ℕ → TypeRef → List (List ℕ × InputValue)
+    → Option SchemaError
+field_fault table owner name ty arguments =
+    option_or (output_fault table ty) (arguments_fault table (dotted owner name) arguments)
 
 abbrev pub object_field_fault : TypeTable → List ℕ → Field → Option SchemaError
-object_field_fault table owner field = field_fault table owner (field_name field) (field_type field) (arguments_of field)
+object_field_fault table owner field =
+    field_fault table owner (field_name field) (field_type field) (arguments_of field)
 
 -- whether two types are the same
 abbrev pub is_same_type : TypeRef → TypeRef → Bool
@@ -133,8 +145,8 @@ is_spare promised (name, argument) = is_some (under name promised) || is_optiona
 abbrev pub has_only_spare : List (List ℕ × InputValue) → List (List ℕ × InputValue) → Bool
 has_only_spare promised arguments = list_all (is_spare promised) arguments
 
--- whether a field keeps what an interface promises of it: a covariant type, each argument with its type, and no further one that can't
--- be left out
+-- whether a field keeps what an interface promises of it: a covariant type, each argument with its
+-- type, and no further one that can't be left out
 abbrev pub keeps : TypeTable → InterfaceField → Option Field → Bool
 keeps table promised None = false
 keeps table promised (Some field) =
@@ -148,71 +160,91 @@ promise_fault table object interface promised =
     (unsatisfied_text (object_name object) (interface_name interface) (promised_name promised))
 
 abbrev pub interface_promises_fault : TypeTable → Object → Interface → Option SchemaError
-interface_promises_fault table object interface = first_found (λ p. promise_fault table object interface p.1) (promised_fields interface)
+interface_promises_fault table object interface =
+    first_found (λ p. promise_fault table object interface p.1) (promised_fields interface)
 
 abbrev pub promises_fault : TypeTable → Object → List ℕ → Option SchemaType → Option SchemaError
-promises_fault table object name (Some (types.Interface interface)) = interface_promises_fault table object interface
+promises_fault table object name (Some (types.Interface interface)) =
+    interface_promises_fault table object interface
 promises_fault table object name _ = misplaced_fault true name
 
 -- an interface that an object implements
 abbrev pub implemented_fault : TypeTable → Object → List ℕ → Option SchemaError
-implemented_fault table object name = option_or (name_fault table name) (promises_fault table object name (under name table))
+implemented_fault table object name =
+    option_or (name_fault table name) (promises_fault table object name (under name table))
 
 -- a member of a union
 abbrev pub member_fault : TypeTable → Union → List ℕ → Option SchemaError
 member_fault table union name =
-    option_or (name_fault table name) (fault_if (not (is_known_object (under name table))) 6 (no_object_text (union_name union) name))
+    option_or (name_fault table name)
+    (fault_if (not (is_known_object (under name table))) 6
+    (no_object_text (union_name union) name))
 
 -- a field of a oneof input object
 abbrev pub oneof_fault : InputObject → InputValue → Option SchemaError
 oneof_fault input field =
     option_or
-    (fault_if (is_oneof input && not (is_nullable (input_type field))) 4 (not_nullable_text (dotted (input_object_name input) (input_name field))))
-    (fault_if (is_oneof input && is_some (default_of field)) 4 (has_default_text (dotted (input_object_name input) (input_name field))))
+    (fault_if (is_oneof input && not (is_nullable (input_type field))) 4
+    (not_nullable_text (dotted (input_object_name input) (input_name field))))
+    (fault_if (is_oneof input && is_some (default_of field)) 4
+    (has_default_text (dotted (input_object_name input) (input_name field))))
 
 -- what follows the faults of a field's type
 abbrev pub input_rest_fault : TypeTable → InputObject → InputValue → Option SchemaError
-input_rest_fault table input field = option_or (oneof_fault input field) (default_fault table (input_object_name input) field)
+input_rest_fault table input field =
+    option_or (oneof_fault input field) (default_fault table (input_object_name input) field)
 
 -- a field of an input object
 abbrev pub input_field_fault : TypeTable → InputObject → InputValue → Option SchemaError
-input_field_fault table input field = option_or (input_fault table (input_type field)) (input_rest_fault table input field)
+input_field_fault table input field =
+    option_or (input_fault table (input_type field)) (input_rest_fault table input field)
 
 -- the parts of the kinds of types, each in its order
 abbrev pub object_fields_fault : TypeTable → Object → Option SchemaError
-object_fields_fault table object = first_found (λ p. object_field_fault table (object_name object) p.1) (fields_of object)
+object_fields_fault table object =
+    first_found (λ p. object_field_fault table (object_name object) p.1) (fields_of object)
 
 abbrev pub interfaces_fault : TypeTable → Object → Option SchemaError
 interfaces_fault table object = first_found (implemented_fault table object) (interfaces_of object)
 
 -- an object: its fields, then the interfaces that it implements
 abbrev pub object_fault : TypeTable → Object → Option SchemaError
-object_fault table object = option_or (object_fields_fault table object) (interfaces_fault table object)
+object_fault table object =
+    option_or (object_fields_fault table object) (interfaces_fault table object)
 
 abbrev pub promised_field_fault : TypeTable → List ℕ → InterfaceField → Option SchemaError
-promised_field_fault table owner field = field_fault table owner (promised_name field) (promised_type field) (promised_arguments field)
+promised_field_fault table owner field =
+    field_fault table owner (promised_name field) (promised_type field) (promised_arguments field)
 
 abbrev pub promised_fields_fault : TypeTable → Interface → Option SchemaError
-promised_fields_fault table interface = first_found (λ p. promised_field_fault table (interface_name interface) p.1) (promised_fields interface)
+promised_fields_fault table interface =
+    first_found (λ p. promised_field_fault table (interface_name interface) p.1)
+    (promised_fields interface)
 
 abbrev pub event_field_fault : TypeTable → List ℕ → SubscriptionField → Option SchemaError
-event_field_fault table owner field = field_fault table owner (event_name field) (event_type field) (event_arguments field)
+event_field_fault table owner field =
+    field_fault table owner (event_name field) (event_type field) (event_arguments field)
 
 abbrev pub event_fields_fault : TypeTable → Subscription → Option SchemaError
-event_fields_fault table subscription = first_found (λ p. event_field_fault table (subscription_name subscription) p.1) (event_fields subscription)
+event_fields_fault table subscription =
+    first_found (λ p. event_field_fault table (subscription_name subscription) p.1)
+    (event_fields subscription)
 
 abbrev pub members_fault : TypeTable → Union → Option SchemaError
 members_fault table union = first_found (member_fault table union) (members_of union)
 
 abbrev pub input_fields_fault : TypeTable → InputObject → Option SchemaError
-input_fields_fault table input = first_found (λ p. input_field_fault table input p.1) (input_fields input)
+input_fields_fault table input =
+    first_found (λ p. input_field_fault table input p.1) (input_fields input)
 
 abbrev pub self_containing_fault : Bool → List ℕ → Option SchemaError
 self_containing_fault contains name = fault_if contains 7 (self_containing_text name)
 
 -- an input object, of which it is known whether it contains itself
 abbrev pub input_object_fault : TypeTable → Bool → InputObject → Option SchemaError
-input_object_fault table contains input = option_or (self_containing_fault contains (input_object_name input)) (input_fields_fault table input)
+input_object_fault table contains input =
+    option_or (self_containing_fault contains (input_object_name input))
+    (input_fields_fault table input)
 
 -- the first fault of a type's parts; whether an input object contains itself is given
 abbrev pub parts_fault : TypeTable → Bool → SchemaType → Option SchemaError
@@ -226,4 +258,5 @@ parts_fault table contains (types.Enum enum) = None
 
 -- the first fault of a type: its own name's, then those of its parts
 abbrev pub fault_of : TypeTable → Bool → SchemaType → Option SchemaError
-fault_of table contains ty = option_or (unsupported_fault (type_name ty)) (parts_fault table contains ty)
+fault_of table contains ty =
+    option_or (unsupported_fault (type_name ty)) (parts_fault table contains ty)

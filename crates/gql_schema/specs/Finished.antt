@@ -1,5 +1,6 @@
 -- What finishing a table gives.
-use Rattle.std.specs.Prelude.{◌≡◌, ℕ, Bool, ◌||◌, false, List, codes, length, take, Result, Ok, Err, IfOk}
+use Rattle.std.specs.Prelude.{◌≡◌, ℕ, Bool, ◌||◌, false, List, codes, length, take, Result, Ok, Err}
+use Rattle.std.specs.Prelude.{IfOk}
 use Rattle.std.specs.Str.{bytes_eq}
 use Rattle.gql_base.specs.Pairs.{under, names_of}
 use Rattle.gql_schema.specs.Sound.{IsFirstRefusal, IsSound}
@@ -15,9 +16,12 @@ IsFinished table (Err error) = IsFirstRefusal table error
 
 -- whether this is the name of a scalar that every schema has
 abbrev pub is_built_in : List ℕ → Bool
-is_built_in name = bytes_eq name (codes "Int") || bytes_eq name (codes "String") || bytes_eq name (codes "Boolean") || bytes_eq name (codes "ID")
+is_built_in name =
+    bytes_eq name (codes "Int") || bytes_eq name (codes "String") || bytes_eq name (codes "Boolean")
+    || bytes_eq name (codes "ID")
 
--- a finished table: each name keeps its place, and under each but those of the scalars stands what stood there
+-- a finished table: each name keeps its place, and under each but those of the scalars stands what
+-- stood there
 pub record KeepsOthers (table finished : TypeTable) : Type 0 where
   pub places : take (length table) (names_of finished) ≡ names_of table
   pub types : (name : List ℕ) → is_built_in name ≡ false → under name finished ≡ under name table

@@ -1,5 +1,6 @@
 -- Which values fit a type of inputs (GraphQL, October 2021, sections 3.5, 3.9 to 3.12 and 5.6.1).
-use Rattle.std.specs.Prelude.{ℕ, Bool, true, false, ◌&&◌, ◌||◌, not, List, [], ◌∷◌, map, Option, Some, None, is_some, codes, if◌then◌else◌}
+use Rattle.std.specs.Prelude.{ℕ, Bool, true, false, ◌&&◌, ◌||◌, not, List, [], ◌∷◌, map, Option}
+use Rattle.std.specs.Prelude.{Some, None, is_some, codes, if◌then◌else◌}
 use Rattle.std.specs.List.{list_all}
 use Rattle.std.specs.Str.{bytes_eq}
 use Rattle.gql_base.specs.Pairs.{under}
@@ -33,7 +34,8 @@ pub record Layers : Type 0 where
 
 abbrev pub layers_step : TypeRef-F Layers → Layers
 layers_step (TypeRef-F.Named name) = record { non_null = false; doubled = false }
-layers_step (TypeRef-F.NonNull inner) = record { non_null = true; doubled = inner.non_null || inner.doubled }
+layers_step (TypeRef-F.NonNull inner) =
+    record { non_null = true; doubled = inner.non_null || inner.doubled }
 layers_step (TypeRef-F.List inner) = record { non_null = false; doubled = inner.doubled }
 
 abbrev pub layers : TypeRef → Layers
@@ -55,7 +57,9 @@ is_known_input (Some ty) = is_input_kind ty
 
 -- whether a type may stand at an input
 abbrev pub is_input_type : TypeTable → TypeRef → Bool
-is_input_type table ty = not (is_unsupported (innermost ty)) && is_known_input (under (innermost ty) table) && not (is_doubled ty)
+is_input_type table ty =
+    not (is_unsupported (innermost ty)) && is_known_input (under (innermost ty) table)
+    && not (is_doubled ty)
 
 -- what a non-null is of
 abbrev pub nullable_here : TypeRef → TypeRef-F TypeRef → TypeRef
@@ -78,7 +82,8 @@ is_item items (Value-F.String text) = is_among text items
 is_item items (Value-F.Enum name) = is_among name items
 is_item items _ = false
 
--- whether a value other than null fits a type that takes values whole: a scalar by its rule, an enum its items
+-- whether a value other than null fits a type that takes values whole: a scalar by its rule, an
+-- enum its items
 abbrev pub fits_whole : Option SchemaType → Value-F (Unit {0}) → Bool
 fits_whole (Some (types.Scalar scalar)) value = takes_bare (rule_of scalar) value
 fits_whole (Some (types.Enum enum)) value = is_item (items_of enum) value
@@ -92,11 +97,13 @@ pub record Fitting : Type 0 where
 -- a member that an input object declares, with a value that fits
 abbrev pub fits_declared : TypeTable → Fitting → Option InputValue → Bool
 fits_declared table fitting None = false
-fits_declared table fitting (Some input) = is_input_type table (input_type input) && fitting.at (input_type input)
+fits_declared table fitting (Some input) =
+    is_input_type table (input_type input) && fitting.at (input_type input)
 
 -- a field of an input object that can be left out, or is among the members
 abbrev pub is_given : {X : Type 0} → List (List ℕ × X) → List ℕ × InputValue → Bool
-is_given members (name, input) = is_nullable (input_type input) || is_some (default_of input) || is_some (under name members)
+is_given members (name, input) =
+    is_nullable (input_type input) || is_some (default_of input) || is_some (under name members)
 
 abbrev pub is_non_null : Fitting → Option InputValue → Bool
 is_non_null fitting None = false
@@ -108,7 +115,8 @@ is_one input ((name, fitting) ∷ []) = is_non_null fitting (under name (input_f
 is_one input _ = false
 
 abbrev pub are_declared : TypeTable → InputObject → List (List ℕ × Fitting) → Bool
-are_declared table input members = list_all (λ m. fits_declared table m.1 (under m.0 (input_fields input))) members
+are_declared table input members =
+    list_all (λ m. fits_declared table m.1 (under m.0 (input_fields input))) members
 
 abbrev pub are_given : {X : Type 0} → InputObject → List (List ℕ × X) → Bool
 are_given input members = list_all (is_given members) (input_fields input)
@@ -117,9 +125,11 @@ are_given input members = list_all (is_given members) (input_fields input)
 abbrev pub has_number : InputObject → List (List ℕ × Fitting) → Bool
 has_number input members = if is_oneof input then is_one input members else true
 
--- members that are all declared and fit, with all that can't be left out; of a oneof input object one alone
+-- members that are all declared and fit, with all that can't be left out; of a oneof input object
+-- one alone
 abbrev pub fits_input : TypeTable → InputObject → List (List ℕ × Fitting) → Bool
-fits_input table input members = are_declared table input members && are_given input members && has_number input members
+fits_input table input members =
+    are_declared table input members && are_given input members && has_number input members
 
 abbrev pub fits_object : TypeTable → Option SchemaType → List (List ℕ × Fitting) → Bool
 fits_object table (Some (types.InputObject input)) members = fits_input table input members
@@ -134,7 +144,8 @@ abbrev pub is_null_here : {X : Type 0} → Value-F X → Bool
 is_null_here Value-F.Null = true
 is_null_here value = false
 
--- one level of a value at a type: null fits the nullable types, and any other value a list of what it fits itself
+-- one level of a value at a type: null fits the nullable types, and any other value a list of what
+-- it fits itself
 abbrev pub fits_here : TypeTable → Value-F Fitting → TypeRef → Bool
 fits_here table Value-F.Null ty = is_nullable ty
 fits_here table (Value-F.List items) ty = fits_list table ty (item_type ty) items
@@ -158,14 +169,16 @@ fitting_member table (name, value) = (name, fitting table value)
 abbrev pub fittings : TypeTable → List (List ℕ × Value) → List (List ℕ × Fitting)
 fittings table members = map (fitting_member table) members
 
--- whether a value fits a field of an input object, if there is the field, and whether it is no null either
+-- whether a value fits a field of an input object, if there is the field, and whether it is no null
+-- either
 abbrev pub fits_field : TypeTable → Value → Option InputValue → Bool
 fits_field table value field = fits_declared table (fitting table value) field
 
 abbrev pub fills_field : TypeTable → Value → Option InputValue → Bool
 fills_field table value field = is_non_null (fitting table value) field
 
--- whether an input object declares these members with values that fit, and whether an object of them fits it
+-- whether an input object declares these members with values that fit, and whether an object of
+-- them fits it
 abbrev pub declares : TypeTable → InputObject → List (List ℕ × Value) → Bool
 declares table input members = are_declared table input (fittings table members)
 

@@ -1,4 +1,5 @@
--- What an object type shows: its name, and its fields under their names, in the order in which they were added.
+-- What an object type shows: its name, and its fields under their names, in the order in which they
+-- were added.
 use Rattle.std.specs.Prelude.{ℕ, List, [], ◌∷◌, ◌++◌}
 use Rattle.gql_schema.specs.Field.{field_name}
 use Rattle.gql_schema.specs.declared.object.Object.{Object}

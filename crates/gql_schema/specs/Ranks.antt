@@ -1,5 +1,6 @@
 -- Numbers of the types of a table, by which input objects are known not to contain themselves.
-use Rattle.std.specs.Prelude.{◌≡◌, ℕ, ◌≤◌, Bool, true, List, Option, Some, None, nat_le, slice_index}
+use Rattle.std.specs.Prelude.{◌≡◌, ℕ, ◌≤◌, Bool, true, List, Option, Some, None, nat_le}
+use Rattle.std.specs.Prelude.{slice_index}
 use Rattle.std.specs.List.{list_all}
 use Rattle.gql_base.specs.Names.{place_of}
 use Rattle.gql_base.specs.Pairs.{names_of}
@@ -30,7 +31,8 @@ abbrev pub is_low_field : TypeTable → List ℕ → ℕ → List ℕ × InputVa
 is_low_field table ranks most field = is_low table ranks most (needed_name field)
 
 abbrev pub has_low_fields : TypeTable → List ℕ → ℕ → InputObject → Bool
-has_low_fields table ranks most input = list_all (is_low_field table ranks most) (input_fields input)
+has_low_fields table ranks most input =
+    list_all (is_low_field table ranks most) (input_fields input)
 
 -- whether all that an input object can't do without has at most this number
 abbrev pub needs_low : TypeTable → List ℕ → ℕ → Option SchemaType → Bool
@@ -42,4 +44,6 @@ is_ranked table ranks (name, ty) = needs_low table ranks (rank_of table ranks na
 
 -- no input object needs one of a higher number than its own
 abbrev pub AreRanks : TypeTable → List ℕ → Type 0
-AreRanks table ranks = (from to : List ℕ) → is_among to (needed_by table from) ≡ true → rank_of table ranks to ≤ rank_of table ranks from
+AreRanks table ranks =
+    (from to : List ℕ) → is_among to (needed_by table from) ≡ true
+    → rank_of table ranks to ≤ rank_of table ranks from

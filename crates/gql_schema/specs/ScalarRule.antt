@@ -1,5 +1,6 @@
 -- Which values the rule of a scalar takes (GraphQL, October 2021, section 3.5).
-use Rattle.std.specs.Prelude.{◌≡◌, ℕ, ℤ, pos, negsuc, ◌^◌, ◌-◌, ◌&&◌, ◌||◌, Bool, true, false, List, [], ◌∷◌, codes, int_le, refl}
+use Rattle.std.specs.Prelude.{◌≡◌, ℕ, ℤ, pos, negsuc, ◌^◌, ◌-◌, ◌&&◌, ◌||◌, Bool, true, false, List}
+use Rattle.std.specs.Prelude.{[], ◌∷◌, codes, int_le, refl}
 use Rattle.gql_base.specs.declared.value.Value.{Value, out-Value}
 use Rattle.gql_base.specs.declared.value.Value.TheOpen.{Value-F}
 use Rattle.gql_schema.specs.NameSet.{is_among}

@@ -1,5 +1,7 @@
--- Sound tables, and the first refusal of another. The places of a table are taken in the order of the registration of their types.
-use Rattle.std.specs.Prelude.{◌≡◌, ℕ, ◌<◌, Bool, true, List, [], Option, Some, None, codes, length, slice_get}
+-- Sound tables, and the first refusal of another. The places of a table are taken in the order of
+-- the registration of their types.
+use Rattle.std.specs.Prelude.{◌≡◌, ℕ, ◌<◌, Bool, true, List, [], Option, Some, None, codes, length}
+use Rattle.std.specs.Prelude.{slice_get}
 use Rattle.std.specs.Bool.{Decides}
 use Rattle.std.specs.List.{filter_map}
 use Rattle.gql_base.specs.Pairs.{under, put, values_of}
@@ -48,7 +50,8 @@ needed_by table name = needed_in (under name table)
 -- a value of the first input object needs one of the second, in one step or more
 pub data Reaches (table : TypeTable) (start : List ℕ) : List ℕ → Type 0 where
   at_once : (to : List ℕ) → is_among to (needed_by table start) ≡ true → Reaches table start to
-  further : (via to : List ℕ) → Reaches table start via → is_among to (needed_by table via) ≡ true → Reaches table start to
+  further : (via to : List ℕ) → Reaches table start via → is_among to (needed_by table via) ≡ true
+      → Reaches table start to
 
 -- a value of the input object needs one of itself
 abbrev pub NeedsItself : TypeTable → List ℕ → Type 0
@@ -60,14 +63,17 @@ ContainsItself table (types.InputObject input) = NeedsItself table (input_object
 ContainsItself table _ = ⊥
 
 -- the first fault of a type, or none
-pub record IsFaultOf (table : TypeTable) (ty : SchemaType) (found : Option SchemaError) : Type 0 where
-  pub contains : Bool
-  pub decides : Decides contains (ContainsItself table ty)
-  pub is : found ≡ fault_of table contains ty
+pub record IsFaultOf (table : TypeTable) (ty : SchemaType) (found : Option SchemaError) : Type 0
+  where
+    pub contains : Bool
+    pub decides : Decides contains (ContainsItself table ty)
+    pub is : found ≡ fault_of table contains ty
 
 -- none of the first types has a fault
 abbrev pub AreFaultFree : TypeTable → ℕ → Type 0
-AreFaultFree table count = (place : ℕ) → place < count → (ty : SchemaType) → slice_get (values_of table) place ≡ Some ty → IsFaultOf table ty None
+AreFaultFree table count =
+    (place : ℕ) → place < count → (ty : SchemaType) → slice_get (values_of table) place ≡ Some ty
+    → IsFaultOf table ty None
 
 -- no place of a table is at fault
 abbrev pub IsSound : TypeTable → Type 0
@@ -92,5 +98,8 @@ with_scalar table name rule = put table name (types.Scalar (new_scalar name rule
 -- the table with the scalars that every schema has; a type registered under such a name is replaced
 abbrev pub with_built_in : TypeTable → TypeTable
 with_built_in table =
-    with_scalar (with_scalar (with_scalar (with_scalar table (codes "Int") rules.Int) (codes "String") rules.Text) (codes "Boolean") rules.Bool)
+    with_scalar
+    (with_scalar
+    (with_scalar (with_scalar table (codes "Int") rules.Int) (codes "String") rules.Text)
+    (codes "Boolean") rules.Bool)
     (codes "ID") rules.Id

@@ -12,4 +12,5 @@ event_fields subscription = subscription.fields
 
 -- the same subscription with one more field
 abbrev pub with_field : Subscription → SubscriptionField → Subscription
-with_field subscription field = record subscription { fields = subscription.fields ++ (event_name field, field) ∷ [] }
+with_field subscription field =
+    record subscription { fields = subscription.fields ++ (event_name field, field) ∷ [] }

@@ -20,4 +20,5 @@ event_arguments field = field.arguments
 
 -- the same field with one more argument; one of the same name is replaced in its place
 abbrev pub with_argument : SubscriptionField → InputValue → SubscriptionField
-with_argument field argument = record field { arguments = put field.arguments (input_name argument) argument }
+with_argument field argument =
+    record field { arguments = put field.arguments (input_name argument) argument }

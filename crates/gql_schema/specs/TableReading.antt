@@ -1,6 +1,9 @@
--- What a table of types tells: fields, the objects that a type can be, and conditions on types (GraphQL, October 2021, sections 3.6
--- to 3.8 and 5.5.2.3). A table is a list of types under their names.
-use Rattle.std.specs.Prelude.{◌≡◌, ℕ, Bool, true, false, ◌&&◌, ◌||◌, List, [], ◌∷◌, codes, refl, Option, Some, None, option_map, option_and_then, filter, if◌then◌else◌}
+-- What a table of types tells: fields, the objects that a type can be, and conditions on types
+-- (GraphQL, October 2021, sections 3.6 to 3.8 and 5.5.2.3). A table is a list of types under their
+-- names.
+use Rattle.std.specs.Prelude.{◌≡◌, ℕ, Bool, true, false, ◌&&◌, ◌||◌, List, [], ◌∷◌, codes, refl}
+use Rattle.std.specs.Prelude.{Option, Some, None, option_map, option_and_then, filter}
+use Rattle.std.specs.Prelude.{if◌then◌else◌}
 use Rattle.std.specs.Str.{bytes_eq}
 use Rattle.gql_base.specs.Pairs.{under, names_of}
 use Rattle.gql_base.specs.declared.type_ref.TypeRef.{TypeRef}
@@ -22,25 +25,39 @@ use Rattle.gql_schema.specs.declared.subscription_field.SubscriptionField.{Subsc
 abbrev pub TypeTable : Type 0
 TypeTable = List (List ℕ × SchemaType)
 
--- a field as it is declared: its type, the number of its resolver or source, which a field of an interface lacks, and its arguments
+-- a field as it is declared: its type, the number of its resolver or source, which a field of an
+-- interface lacks, and its arguments
 pub record Declared : Type 0 where
   pub ty : TypeRef
   pub number : Option ℕ
   pub arguments : List (List ℕ × InputValue)
 
 abbrev pub of_object : Field → Declared
-of_object field = record { ty = field_type field; number = Some (resolver_of field); arguments = arguments_of field }
+of_object field =
+    record {
+      ty = field_type field;
+      number = Some (resolver_of field);
+      arguments = arguments_of field;
+    }
 
 abbrev pub of_interface : InterfaceField → Declared
-of_interface field = record { ty = promised_type field; number = None; arguments = promised_arguments field }
+of_interface field =
+    record { ty = promised_type field; number = None; arguments = promised_arguments field }
 
 abbrev pub of_subscription : SubscriptionField → Declared
-of_subscription field = record { ty = event_type field; number = Some (source_of field); arguments = event_arguments field }
+of_subscription field =
+    record {
+      ty = event_type field;
+      number = Some (source_of field);
+      arguments = event_arguments field;
+    }
 
 abbrev pub declared_in : List ℕ → SchemaType → Option Declared
 declared_in name (types.Object object) = option_map of_object (under name (fields_of object))
-declared_in name (types.Interface interface) = option_map of_interface (under name (promised_fields interface))
-declared_in name (types.Subscription subscription) = option_map of_subscription (under name (event_fields subscription))
+declared_in name (types.Interface interface) =
+    option_map of_interface (under name (promised_fields interface))
+declared_in name (types.Subscription subscription) =
+    option_map of_subscription (under name (event_fields subscription))
 declared_in name _ = None
 
 -- the field of this name of the object, interface or subscription T
@@ -59,9 +76,11 @@ abbrev pub is_known_object : Option SchemaType → Bool
 is_known_object None = false
 is_known_object (Some ty) = is_object ty
 
--- whether a type that isn't the object itself has the object O: an interface that O implements, or a union that holds O
+-- whether a type that isn't the object itself has the object O: an interface that O implements, or
+-- a union that holds O
 abbrev pub has_object : List ℕ → SchemaType → SchemaType → Bool
-has_object name object (types.Interface interface) = object_implements (interface_name interface) object
+has_object name object (types.Interface interface) =
+    object_implements (interface_name interface) object
 has_object name object (types.Union union) = is_object object && is_among name (members_of union)
 has_object name object _ = false
 
@@ -71,7 +90,8 @@ both_known test _ _ = false
 
 -- whether the type T has the object O
 abbrev pub has_type : TypeTable → List ℕ → List ℕ → Bool
-has_type table type object = bytes_eq type object || both_known (has_object object) (under object table) (under type table)
+has_type table type object =
+    bytes_eq type object || both_known (has_object object) (under object table) (under type table)
 
 -- whether a condition on types lets the object O through; no condition lets each through
 abbrev pub covers : TypeTable → Option (List ℕ) → List ℕ → Bool
@@ -96,8 +116,11 @@ chosen is_chosen name = if is_chosen then name ∷ [] else []
 
 -- two types of an example: an object O that implements an interface I
 abbrev example : TypeTable
-example =
-    (codes "O", types.Object (record { name = codes "O"; fields = []; interfaces = codes "I" ∷ []; keys = [] }))
+example = (
+  codes "O",
+  types.Object
+      (record { name = codes "O"; fields = []; interfaces = codes "I" ∷ []; keys = [] }),
+)
     ∷ (codes "I", types.Interface (record { name = codes "I"; fields = [] })) ∷ []
 
 pub an_interface_covers : covers example (Some (codes "I")) (codes "O") ≡ true

@@ -26,10 +26,14 @@ has_default_text field = around (codes "Field \"") field (codes "\" must not hav
 
 abbrev pub unsatisfied_text : List ℕ → List ℕ → List ℕ → List ℕ
 unsatisfied_text object interface field =
-    around (codes "Object \"") object (around (codes "\" does not satisfy interface \"") interface (around (codes "\" at field \"") field (codes "\"")))
+    around (codes "Object \"") object
+    (around (codes "\" does not satisfy interface \"") interface
+    (around (codes "\" at field \"") field (codes "\"")))
 
 abbrev pub no_object_text : List ℕ → List ℕ → List ℕ
-no_object_text union member = around (codes "Union \"") union (around (codes "\" has member \"") member (codes "\" that is no object"))
+no_object_text union member =
+    around (codes "Union \"") union
+    (around (codes "\" has member \"") member (codes "\" that is no object"))
 
 abbrev pub self_containing_text : List ℕ → List ℕ
 self_containing_text name = around (codes "Input object \"") name (codes "\" contains itself")
@@ -40,5 +44,6 @@ unsupported_text name = around (codes "Type \"") name (codes "\" is not supporte
 abbrev pub unfit_text : List ℕ → List ℕ
 unfit_text path = around (codes "Default of \"") path (codes "\" does not fit")
 
-pub an_unsatisfied : unsatisfied_text (codes "O") (codes "I") (codes "f") ≡ codes "Object \"O\" does not satisfy interface \"I\" at field \"f\""
+pub an_unsatisfied : unsatisfied_text (codes "O") (codes "I") (codes "f")
+    ≡ codes "Object \"O\" does not satisfy interface \"I\" at field \"f\""
 an_unsatisfied = refl

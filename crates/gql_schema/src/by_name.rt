@@ -1,4 +1,5 @@
-ghost use Rattle.std.specs.Prelude.{◌≡◌, [], ◌∷◌, ◌++◌, ◌<◌, length, slice_get, map, None, OnOk, OnErr, IfSome, Some};
+ghost use Rattle.std.specs.Prelude.{◌≡◌, [], ◌∷◌, ◌++◌, ◌<◌, length, slice_get, map, None, OnOk};
+ghost use Rattle.std.specs.Prelude.{OnErr, IfSome, Some};
 ghost use Rattle.std.specs.Option.{option_copied};
 ghost use Rattle.gql_base.specs.Names.{place_of};
 ghost use Rattle.gql_base.specs.Pairs.{under, put};
@@ -8,8 +9,8 @@ use gql_base::{Copied, Made, Name, Pairs};
 use std::alloc::Global;
 use std::marker::Model;
 
-/// Items with names of their own, no name twice, in order and found by name. Contracts see the list of the items under their
-/// names.
+/// Items with names of their own, no name twice, in order and found by name. Contracts see the list
+/// of the items under their names.
 #[derive(Debug, Drop)]
 pub struct ByName<T: Named> {
     pairs: Pairs<T>,

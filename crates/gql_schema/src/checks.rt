@@ -1,8 +1,11 @@
 //! The rules of a whole type: its name's, then those of its parts in their order.
 ghost use Rattle.std.specs.Prelude.{IfOk};
-ghost use Rattle.gql_schema.specs.Faults.{Tells, event_fields_fault, fault_of, input_field_fault, input_fields_fault};
-ghost use Rattle.gql_schema.specs.Faults.{input_object_fault, input_rest_fault, interfaces_fault, member_fault, members_fault};
-ghost use Rattle.gql_schema.specs.Faults.{object_fault, object_fields_fault, oneof_fault, parts_fault, promised_fields_fault};
+ghost use Rattle.gql_schema.specs.Faults.{Tells, event_fields_fault, fault_of, input_field_fault};
+ghost use Rattle.gql_schema.specs.Faults.{input_fields_fault};
+ghost use Rattle.gql_schema.specs.Faults.{input_object_fault, input_rest_fault, interfaces_fault};
+ghost use Rattle.gql_schema.specs.Faults.{member_fault, members_fault};
+ghost use Rattle.gql_schema.specs.Faults.{object_fault, object_fields_fault, oneof_fault};
+ghost use Rattle.gql_schema.specs.Faults.{parts_fault, promised_fields_fault};
 ghost use Rattle.gql_schema.specs.Ranks.{AreRanks};
 ghost use Rattle.gql_schema.specs.Sound.{IsFaultOf, IsFaultOfAll};
 ghost use Rattle.gql_schema.specs.Table.{types_of};

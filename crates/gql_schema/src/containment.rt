@@ -4,7 +4,8 @@ ghost use Rattle.std.specs.Bool.{Decides};
 ghost use Rattle.std.specs.Option.{option_copied};
 ghost use Rattle.gql_schema.specs.NameSet.{with_names, with_optional};
 ghost use Rattle.gql_schema.specs.Ranks.{AreRanks};
-ghost use Rattle.gql_schema.specs.Sound.{ContainsItself, NeedsItself, needed_in, needed_names, needed_of};
+ghost use Rattle.gql_schema.specs.Sound.{ContainsItself, NeedsItself, needed_in, needed_names};
+ghost use Rattle.gql_schema.specs.Sound.{needed_of};
 ghost use Rattle.gql_schema.specs.Table.{types_of};
 
 use crate::input_object::InputObject;
@@ -31,8 +32,8 @@ pub fn type_contains_itself(
     }
 }
 
-/// True exactly where a value of the input object needs one of itself. It does not where all that it needs at once has lower
-/// numbers; only else is there a walk.
+/// True exactly where a value of the input object needs one of itself. It does not where all that
+/// it needs at once has lower numbers; only else is there a walk.
 #[tactic(auto, using(crate::proofs::RankLemmas::falls_free))]
 fn contains_itself(alloc: Global, types: &Types, ranks: &[usize], start: &str) -> Made<bool>
     requires { AreRanks (types_of types.now) ranks.now }
@@ -45,7 +46,8 @@ fn contains_itself(alloc: Global, types: &Types, ranks: &[usize], start: &str) -
     reaches_itself(alloc, types, start)
 }
 
-/// True exactly where a value of the input object needs one of itself. The walk enters each input object once.
+/// True exactly where a value of the input object needs one of itself. The walk enters each input
+/// object once.
 fn reaches_itself(alloc: Global, types: &Types, start: &str) -> Made<bool>
     ensures { IfOk result (λ contains. Decides contains (NeedsItself (types_of types.now) start.now)) }
 {
@@ -62,7 +64,8 @@ fn reaches_itself(alloc: Global, types: &Types, start: &str) -> Made<bool>
 
 /// Adds the names of the types that the fields of an input object can't do without.
 fn add_needed(alloc: Global, reached: &mut NameSet, ty: Option<&SchemaType>) -> Made<()>
-    ensures { OnOk result (reached.new ≡ with_names reached.old (needed_in (option_copied ty.entry))) }
+    ensures { OnOk result (reached.new
+        ≡ with_names reached.old (needed_in (option_copied ty.entry))) }
 {
     match ty {
         Some(SchemaType::InputObject(input)) => add_needed_of(alloc, reached, input),

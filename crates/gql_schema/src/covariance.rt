@@ -2,7 +2,8 @@ ghost use Rattle.std.specs.Prelude.{◌≡◌};
 ghost use Rattle.std.specs.Option.{option_copied};
 ghost use Rattle.gql_schema.specs.Covariance.{is_covariant};
 ghost use Rattle.gql_schema.specs.Table.{types_of};
-ghost use Rattle.gql_schema.specs.TableReading.{both_known, covers, has_object, has_type, is_known_object, is_object};
+ghost use Rattle.gql_schema.specs.TableReading.{both_known, covers, has_object, has_type};
+ghost use Rattle.gql_schema.specs.TableReading.{is_known_object, is_object};
 
 use crate::fits::nullable;
 use crate::schema_type::SchemaType;
@@ -10,8 +11,8 @@ use crate::types::Types;
 use gql_base::TypeRef;
 
 impl Types {
-    /// True exactly where a condition on types lets the object through: none, the object itself, an interface that it
-    /// implements, or a union that holds it.
+    /// True exactly where a condition on types lets the object through: none, the object itself, an
+    /// interface that it implements, or a union that holds it.
     pub fn covers(&self, condition: Option<&str>, object: &str) -> bool
         ensures { result ≡ covers (types_of self.now) (option_copied condition.entry) object.now }
     {
@@ -30,7 +31,8 @@ pub fn type_has(types: &Types, name: &str, object: &str) -> bool
 }
 
 fn known_type_has(object: Option<&SchemaType>, ty: Option<&SchemaType>, name: &str) -> bool
-    ensures { result ≡ both_known (has_object name.now) (option_copied object.entry) (option_copied ty.entry) }
+    ensures { result
+        ≡ both_known (has_object name.now) (option_copied object.entry) (option_copied ty.entry) }
 {
     match (object, ty) {
         (Some(object), Some(ty)) => has_object_type(name, object, ty),

@@ -9,8 +9,8 @@ use crate::interface_field::InterfaceField;
 use crate::subscription_field::SubscriptionField;
 use gql_base::TypeRef;
 
-/// A field as an object, an interface or a subscription declares it: its type, the number of its resolver or source, which a
-/// field of an interface lacks, and its arguments.
+/// A field as an object, an interface or a subscription declares it: its type, the number of its
+/// resolver or source, which a field of an interface lacks, and its arguments.
 #[derive(Clone, Copy)]
 pub struct DeclaredField<'a> {
     pub ty: &'a TypeRef,

@@ -1,6 +1,7 @@
 //! What federation adds to a table: a scalar for representations, and the union of the entities.
 ghost use Rattle.std.specs.Prelude.{◌≡◌, IfOk};
-ghost use Rattle.gql_schema.specs.Entities.{entities, has_entities, is_entity, with_any, with_entities, with_entity_union};
+ghost use Rattle.gql_schema.specs.Entities.{entities, has_entities, is_entity, with_any};
+ghost use Rattle.gql_schema.specs.Entities.{with_entities, with_entity_union};
 ghost use Rattle.gql_schema.specs.Table.{types_of};
 
 use crate::name_set::NameSet;
@@ -38,8 +39,9 @@ impl Types {
         Ok(names)
     }
 
-    /// This table with the scalar `_Any`, which takes every value, and the union `_Entity` of the objects with a key. Types that
-    /// were registered under these names are replaced in their places.
+    /// This table with the scalar `_Any`, which takes every value, and the union `_Entity` of the
+    /// objects with a key. Types that were registered under these names are replaced in their
+    /// places.
     pub fn with_entities(self, alloc: Global) -> Made<Types>
         ensures { IfOk result (λ types. types_of types ≡ with_entities (types_of self)) }
     {
@@ -58,7 +60,8 @@ impl Types {
     }
 
     fn with_entity_union(self, alloc: Global, members: NameSet) -> Made<Types>
-        ensures { IfOk result (λ types. types_of types ≡ with_entity_union (types_of self) members) }
+        ensures { IfOk result (λ types. types_of types
+            ≡ with_entity_union (types_of self) members) }
     {
         let union_type = Union::with_members(Name::new(alloc, "_Entity")?, members);
         let mut types = self;

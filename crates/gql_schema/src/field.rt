@@ -7,8 +7,8 @@ use crate::same::Same;
 use gql_base::{Copied, Made, Name, TypeRef};
 use std::alloc::Global;
 
-/// A field of an object (GraphQL, October 2021, section 3.6): its name, its type, the number of the resolver that answers it,
-/// and its arguments.
+/// A field of an object (GraphQL, October 2021, section 3.6): its name, its type, the number of the
+/// resolver that answers it, and its arguments.
 #[derive(Debug, Drop)]
 pub struct Field {
     name: Name,
@@ -18,7 +18,8 @@ pub struct Field {
 }
 
 impl Field {
-    ghost use Rattle.gql_schema.specs.Field.{field_name, field_type, resolver_of, arguments_of, with_argument};
+    ghost use Rattle.gql_schema.specs.Field.{field_name, field_type, resolver_of, arguments_of};
+    ghost use Rattle.gql_schema.specs.Field.{with_argument};
 
     /// A field without arguments.
     pub fn new(alloc: Global, name: &str, ty: TypeRef, resolver: u32) -> Made<Field>

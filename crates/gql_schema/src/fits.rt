@@ -1,8 +1,11 @@
 ghost use Rattle.std.specs.Prelude.{◌≡◌};
 ghost use Rattle.std.specs.Option.{option_copied};
-ghost use Rattle.gql_schema.specs.Fits.{all_fit, are_given, declares, fills_field, fits, fits_field, fits_members};
-ghost use Rattle.gql_schema.specs.Fits.{fits_whole, fitting, fittings, has_number, is_doubled, is_given, is_input_type};
-ghost use Rattle.gql_schema.specs.Fits.{is_item, is_known_input, is_one, is_unsupported, item_type, nullable_of};
+ghost use Rattle.gql_schema.specs.Fits.{all_fit, are_given, declares, fills_field, fits};
+ghost use Rattle.gql_schema.specs.Fits.{fits_field, fits_members};
+ghost use Rattle.gql_schema.specs.Fits.{fits_whole, fitting, fittings, has_number, is_doubled};
+ghost use Rattle.gql_schema.specs.Fits.{is_given, is_input_type};
+ghost use Rattle.gql_schema.specs.Fits.{is_item, is_known_input, is_one, is_unsupported, item_type};
+ghost use Rattle.gql_schema.specs.Fits.{nullable_of};
 ghost use Rattle.gql_schema.specs.ScalarRule.{bare_of};
 ghost use Rattle.gql_schema.specs.Table.{types_of};
 

@@ -1,4 +1,5 @@
-ghost use Rattle.std.specs.Prelude.{◌≡◌, ◌↔◌, [], ◌<◌, None, IsTrue, IsSome, IfOk, length, slice_get, Some, false, true};
+ghost use Rattle.std.specs.Prelude.{◌≡◌, ◌↔◌, [], ◌<◌, None, IsTrue, IsSome, IfOk, length};
+ghost use Rattle.std.specs.Prelude.{slice_get, Some, false, true};
 ghost use Rattle.std.specs.Option.{option_copied};
 ghost use Rattle.gql_base.specs.Pairs.{under, values_of, HasDistinctNames};
 ghost use Rattle.gql_schema.specs.Keyed.{IsKeyed};
@@ -20,7 +21,8 @@ pub struct InputObject {
 
 impl InputObject {
     ghost use Rattle.gql_schema.specs.InputValue.{input_name};
-    ghost use Rattle.gql_schema.specs.InputObject.{input_object_name, input_fields, is_oneof, with_field, as_oneof};
+    ghost use Rattle.gql_schema.specs.InputObject.{input_object_name, input_fields, is_oneof};
+    ghost use Rattle.gql_schema.specs.InputObject.{with_field, as_oneof};
 
     /// An input object without fields.
     pub fn new(alloc: Global, name: &str) -> Made<InputObject>

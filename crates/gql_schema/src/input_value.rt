@@ -6,8 +6,8 @@ use crate::same::Same;
 use gql_base::{Copied, Made, Name, TypeRef, Value};
 use std::alloc::Global;
 
-/// An argument, or a field of an input object (GraphQL, October 2021, sections 3.6.1 and 3.10): its name, its type and its
-/// default value, where it has one.
+/// An argument, or a field of an input object (GraphQL, October 2021, sections 3.6.1 and 3.10): its
+/// name, its type and its default value, where it has one.
 #[derive(Debug, Drop)]
 pub struct InputValue {
     name: Name,

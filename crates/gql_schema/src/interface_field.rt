@@ -7,7 +7,8 @@ use crate::same::Same;
 use gql_base::{Copied, Made, Name, TypeRef};
 use std::alloc::Global;
 
-/// A field that an interface promises (GraphQL, October 2021, section 3.7): its name, its type and its arguments.
+/// A field that an interface promises (GraphQL, October 2021, section 3.7): its name, its type and
+/// its arguments.
 #[derive(Debug, Drop)]
 pub struct InterfaceField {
     name: Name,
@@ -16,7 +17,8 @@ pub struct InterfaceField {
 }
 
 impl InterfaceField {
-    ghost use Rattle.gql_schema.specs.InterfaceField.{promised_name, promised_type, promised_arguments, with_argument};
+    ghost use Rattle.gql_schema.specs.InterfaceField.{promised_name, promised_type};
+    ghost use Rattle.gql_schema.specs.InterfaceField.{promised_arguments, with_argument};
 
     /// A field without arguments.
     pub fn new(alloc: Global, name: &str, ty: TypeRef) -> Made<InterfaceField>

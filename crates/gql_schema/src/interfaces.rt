@@ -7,8 +7,8 @@ use gql_base::{Copied, Items, Made, Name};
 use std::alloc::Global;
 use std::marker::Model;
 
-/// The names of the interfaces that an object implements, none twice: a slice in order, beside a set that finds them.
-/// Contracts see the list of the names.
+/// The names of the interfaces that an object implements, none twice: a slice in order, beside a
+/// set that finds them. Contracts see the list of the names.
 #[derive(Debug, Drop)]
 pub struct Interfaces {
     list: Items<Name>,

@@ -1,4 +1,5 @@
-ghost use Rattle.std.specs.Prelude.{◌≡◌, [], ◌∷◌, ◌++◌, ◌<◌, length, slice_get, OnOk, OnErr, Some, false};
+ghost use Rattle.std.specs.Prelude.{◌≡◌, [], ◌∷◌, ◌++◌, ◌<◌, length, slice_get, OnOk, OnErr, Some};
+ghost use Rattle.std.specs.Prelude.{false};
 ghost use Rattle.gql_schema.specs.NameSet.{is_among, with_name};
 
 use crate::same::Same;
@@ -6,7 +7,8 @@ use gql_base::{Copied, Made, Name, Names};
 use std::alloc::Global;
 use std::marker::Model;
 
-/// Names in order, none twice, and found without going through them. Contracts see the list of the names.
+/// Names in order, none twice, and found without going through them. Contracts see the list of the
+/// names.
 #[derive(Debug, Drop)]
 pub struct NameSet {
     names: Names,

@@ -1,5 +1,6 @@
-//! A walk that numbers types so that each stands above what it needs; types that need each other have one number. These are the
-//! strongly connected components of Tarjan's walk. No contract rests on the numbers: who uses them tests them first.
+//! A walk that numbers types so that each stands above what it needs; types that need each other
+//! have one number. These are the strongly connected components of Tarjan's walk. No contract rests
+//! on the numbers: who uses them tests them first.
 use crate::containment::needed_type;
 use crate::schema_type::SchemaType;
 use crate::types::Types;
@@ -155,7 +156,8 @@ impl Walk {
         }
     }
 
-    /// Numbers the types that need each other, once the first of them is left, and tells the type before on the way.
+    /// Numbers the types that need each other, once the first of them is left, and tells the type
+    /// before on the way.
     fn leave(&mut self, place: usize) {
         let lowest = read(self.lowest.as_slice(), place);
         if lowest == read(self.entered.as_slice(), place) {

@@ -1,4 +1,5 @@
-ghost use Rattle.std.specs.Prelude.{◌≡◌, ◌↔◌, [], ◌<◌, None, IsTrue, IsSome, IfOk, length, slice_get, Some};
+ghost use Rattle.std.specs.Prelude.{◌≡◌, ◌↔◌, [], ◌<◌, None, IsTrue, IsSome, IfOk, length};
+ghost use Rattle.std.specs.Prelude.{slice_get, Some};
 ghost use Rattle.std.specs.Option.{option_copied};
 ghost use Rattle.gql_base.specs.Pairs.{under, values_of, HasDistinctNames};
 ghost use Rattle.gql_schema.specs.Keyed.{IsKeyed};
@@ -12,8 +13,8 @@ use crate::same::Same;
 use gql_base::{Copied, Items, Made, Name, Text};
 use std::alloc::Global;
 
-/// An object type (GraphQL, October 2021, section 3.6): its name, its fields in the order in which they were added, the
-/// interfaces that it implements, and its keys.
+/// An object type (GraphQL, October 2021, section 3.6): its name, its fields in the order in which
+/// they were added, the interfaces that it implements, and its keys.
 #[derive(Debug, Drop)]
 pub struct Object {
     name: Name,
@@ -24,7 +25,8 @@ pub struct Object {
 
 impl Object {
     ghost use Rattle.gql_schema.specs.Field.{field_name};
-    ghost use Rattle.gql_schema.specs.Object.{object_name, fields_of, interfaces_of, keys_of, with_field, with_interface, with_key};
+    ghost use Rattle.gql_schema.specs.Object.{object_name, fields_of, interfaces_of, keys_of};
+    ghost use Rattle.gql_schema.specs.Object.{with_field, with_interface, with_key};
 
     /// An object type without fields.
     pub fn new(alloc: Global, name: &str) -> Made<Object>
@@ -61,7 +63,8 @@ impl Object {
         Ok(object)
     }
 
-    /// Says that the object implements an interface of this name. A second one of a name changes nothing.
+    /// Says that the object implements an interface of this name. A second one of a name changes
+    /// nothing.
     pub fn implement(self, alloc: Global, interface: &str) -> Made<Object>
         ensures { IfOk result (λ object. object ≡ with_interface self interface.now) }
     {
@@ -136,7 +139,8 @@ impl Object {
         self.fields.at(place)
     }
 
-    /// The names of the interfaces that the object implements, in the order in which they were added.
+    /// The names of the interfaces that the object implements, in the order in which they were
+    /// added.
     pub fn interfaces(&self) -> &[Name]
         ensures { result.now ≡ interfaces_of self.now }
     {

@@ -1,8 +1,10 @@
 //! The rules at single places: names, types, arguments and defaults.
 ghost use Rattle.std.specs.Prelude.{◌≡◌};
 ghost use Rattle.std.specs.Option.{option_copied};
-ghost use Rattle.gql_schema.specs.Faults.{Tells, argument_fault, arguments_fault, default_fault, doubled_fault, field_fault, input_fault};
-ghost use Rattle.gql_schema.specs.Faults.{is_no_output, kind_fault, misplaced_fault, name_fault, output_fault, unsupported_fault};
+ghost use Rattle.gql_schema.specs.Faults.{Tells, argument_fault, arguments_fault, default_fault};
+ghost use Rattle.gql_schema.specs.Faults.{doubled_fault, field_fault, input_fault};
+ghost use Rattle.gql_schema.specs.Faults.{is_no_output, kind_fault, misplaced_fault, name_fault};
+ghost use Rattle.gql_schema.specs.Faults.{output_fault, unsupported_fault};
 ghost use Rattle.gql_schema.specs.Table.{types_of};
 
 use crate::by_name::ByName;
@@ -116,7 +118,8 @@ pub fn check_input(alloc: Global, types: &Types, ty: &TypeRef) -> Made<Option<Sc
     }
 }
 
-/// The fault of a default that doesn't fit. The owner is the path of what has the argument or the field.
+/// The fault of a default that doesn't fit. The owner is the path of what has the argument or the
+/// field.
 pub fn check_default(
     alloc: Global,
     types: &Types,

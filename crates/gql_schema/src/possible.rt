@@ -5,7 +5,8 @@ ghost use Rattle.gql_base.specs.Pairs.{names_of};
 ghost use Rattle.gql_schema.specs.DeclaredField.{declared_behind};
 ghost use Rattle.gql_schema.specs.NameSet.{is_among};
 ghost use Rattle.gql_schema.specs.Table.{types_of};
-ghost use Rattle.gql_schema.specs.TableReading.{chosen, field, is_known_object, is_possible, is_possible_object, possible};
+ghost use Rattle.gql_schema.specs.TableReading.{chosen, field, is_known_object, is_possible};
+ghost use Rattle.gql_schema.specs.TableReading.{is_possible_object, possible};
 
 use crate::covariance::{is_known_object_type, is_object_type, type_has};
 use crate::declared_field::DeclaredField;
@@ -16,7 +17,8 @@ use gql_base::{Made, Name};
 use std::alloc::Global;
 
 impl Types {
-    /// The field of this name of an object, an interface or a subscription, or none where there is no such type or field.
+    /// The field of this name of an object, an interface or a subscription, or none where there is
+    /// no such type or field.
     pub fn field(&self, owner: &str, name: &str) -> Option<DeclaredField<'_>>
         ensures { option_map declared_behind result ≡ field (types_of self.now) owner.now name.now }
     {

@@ -1,7 +1,8 @@
 //! What an object keeps of the interfaces that it implements.
 ghost use Rattle.std.specs.Prelude.{◌≡◌};
 ghost use Rattle.std.specs.Option.{option_copied};
-ghost use Rattle.gql_schema.specs.Faults.{has_arguments, has_only_spare, has_same_type, implemented_fault, interface_promises_fault};
+ghost use Rattle.gql_schema.specs.Faults.{has_arguments, has_only_spare, has_same_type};
+ghost use Rattle.gql_schema.specs.Faults.{implemented_fault, interface_promises_fault};
 ghost use Rattle.gql_schema.specs.Faults.{Tells, is_spare, keeps, promise_fault, promises_fault};
 ghost use Rattle.gql_schema.specs.Table.{types_of};
 
@@ -129,7 +130,8 @@ fn check_implemented_type(
     name: &str,
     ty: Option<&SchemaType>,
 ) -> Made<Option<SchemaError>>
-    ensures { Tells result (promises_fault (types_of types.now) object.now name.now (option_copied ty.entry)) }
+    ensures { Tells result
+        (promises_fault (types_of types.now) object.now name.now (option_copied ty.entry)) }
 {
     match ty {
         Some(SchemaType::Interface(interface)) => check_promises(alloc, types, object, interface),

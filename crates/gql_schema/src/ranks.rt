@@ -1,8 +1,10 @@
-//! Numbers of types, by which input objects are known not to contain themselves without a walk for each.
+//! Numbers of types, by which input objects are known not to contain themselves without a walk for
+//! each.
 ghost use Rattle.std.specs.Prelude.{◌≡◌, IfOk, slice_index};
 ghost use Rattle.std.specs.List.{list_all};
 ghost use Rattle.std.specs.Option.{option_copied};
-ghost use Rattle.gql_schema.specs.Ranks.{AreRanks, has_low_fields, is_low, is_ranked, needs_low, rank_of as rank};
+ghost use Rattle.gql_schema.specs.Ranks.{AreRanks, has_low_fields, is_low, is_ranked, needs_low};
+ghost use Rattle.gql_schema.specs.Ranks.{rank_of as rank};
 ghost use Rattle.gql_schema.specs.Table.{types_of};
 
 use crate::containment::needed_type;

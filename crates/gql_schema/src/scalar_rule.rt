@@ -1,6 +1,7 @@
 ghost use Rattle.std.specs.Prelude.{◌≡◌};
 ghost use Rattle.gql_schema.specs.NameSet.{is_among};
-ghost use Rattle.gql_schema.specs.ScalarRule.{always, bare_of, is_boolean, is_number, is_string, is_between};
+ghost use Rattle.gql_schema.specs.ScalarRule.{always, bare_of, is_boolean, is_number, is_string};
+ghost use Rattle.gql_schema.specs.ScalarRule.{is_between};
 
 use crate::same::Same;
 use gql_base::{Copied, Items, Made, Text, Value};

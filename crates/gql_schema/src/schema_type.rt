@@ -45,7 +45,8 @@ impl SchemaType {
         }
     }
 
-    /// The field of this name of an object, an interface or a subscription, or none where there is no such field.
+    /// The field of this name of an object, an interface or a subscription, or none where there is
+    /// no such field.
     pub fn declared(&self, name: &str) -> Option<DeclaredField<'_>>
         ensures { option_map declared_behind result ≡ declared_in name.now self.now }
     {

@@ -1,4 +1,5 @@
-//! The public types can be moved to threads and shared between them, where what they are made of can.
+//! The public types can be moved to threads and shared between them, where what they are made of
+//! can.
 use crate::{
     ByName, Enum, Field, InputObject, InputValue, Interface, InterfaceField, NameSet, Object,
     Scalar, ScalarRule, SchemaError, SchemaType, Subscription, SubscriptionField, Types, Union,

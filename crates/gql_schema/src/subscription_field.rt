@@ -7,7 +7,8 @@ use crate::same::Same;
 use gql_base::{Copied, Made, Name, TypeRef};
 use std::alloc::Global;
 
-/// A field of a subscription: its name, its type, the number of the source of its events, and its arguments.
+/// A field of a subscription: its name, its type, the number of the source of its events, and its
+/// arguments.
 #[derive(Debug, Drop)]
 pub struct SubscriptionField {
     name: Name,
@@ -17,7 +18,8 @@ pub struct SubscriptionField {
 }
 
 impl SubscriptionField {
-    ghost use Rattle.gql_schema.specs.SubscriptionField.{event_name, event_type, source_of, event_arguments, with_argument};
+    ghost use Rattle.gql_schema.specs.SubscriptionField.{event_name, event_type, source_of};
+    ghost use Rattle.gql_schema.specs.SubscriptionField.{event_arguments, with_argument};
 
     /// A field without arguments.
     pub fn new(alloc: Global, name: &str, ty: TypeRef, source: u32) -> Made<SubscriptionField>

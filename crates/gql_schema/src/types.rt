@@ -1,4 +1,5 @@
-ghost use Rattle.std.specs.Prelude.{◌≡◌, ◌↔◌, [], ◌<◌, length, slice_get, IfOk, IfSome, IsTrue, OnOk, OnErr, Some};
+ghost use Rattle.std.specs.Prelude.{◌≡◌, ◌↔◌, [], ◌<◌, length, slice_get, IfOk, IfSome, IsTrue};
+ghost use Rattle.std.specs.Prelude.{OnOk, OnErr, Some};
 ghost use Rattle.std.specs.Option.{option_copied};
 ghost use Rattle.gql_base.specs.Names.{place_of};
 ghost use Rattle.gql_base.specs.Pairs.{under, put, names_of, values_of, HasDistinctNames};
@@ -95,7 +96,8 @@ impl Types {
     ghost use Rattle.gql_schema.specs.Finished.{IsFinished, KeepsTypes};
     ghost use Rattle.gql_schema.specs.Sound.{with_built_in, with_scalar};
 
-    /// The table with the scalars that every schema has, where no rule is broken, and else the first refusal.
+    /// The table with the scalars that every schema has, where no rule is broken, and else the
+    /// first refusal.
     pub fn finish(self, alloc: Global) -> Made<Result<Types, SchemaError>>
         ensures finished { IfOk result (λ finished. IsFinished (with_built_in (types_of self)) finished) }
         ensures kept { IfOk result (λ finished. KeepsTypes (types_of self) finished) }

@@ -116,7 +116,8 @@ fn a_field_of_a_oneof_can_be_left_out(rt: HostRuntime) -> Result<(), Fail> {
     Ok(())
 }
 
-/// What a table tells whose object `O` has a field `f` of this type, and implements an interface that promises another.
+/// What a table tells whose object `O` has a field `f` of this type, and implements an interface
+/// that promises another.
 fn told_of_promise(alloc: Global, ty: TypeRef, promised: TypeRef) -> Made<Text> {
     let object = object_type(alloc, "O", "f", ty)?.implement(alloc, "I")?;
     let interface = interface_type(alloc, "I", "f", promised)?;
@@ -206,7 +207,8 @@ fn fork(alloc: Global, number: usize, one: usize, two: usize) -> Made<SchemaType
     Ok(SchemaType::InputObject(input.field(alloc, field)?))
 }
 
-/// Registers input objects of these numbers, each with a field of the type of the next, and the last with one of another.
+/// Registers input objects of these numbers, each with a field of the type of the next, and the
+/// last with one of another.
 fn chain(alloc: Global, types: &mut Types, first: usize, end: usize, next: usize) -> Made<()> {
     for number in first..end {
         let behind = number + 1;

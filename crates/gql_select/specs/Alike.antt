@@ -1,4 +1,5 @@
--- Which occurrences of fields ask the same (GraphQL, October 2021, section 5.3.2): those of one name and the same arguments.
+-- Which occurrences of fields ask the same (GraphQL, October 2021, section 5.3.2): those of one
+-- name and the same arguments.
 use Rattle.std.specs.Prelude.{ℕ, Bool, true, false, ◌&&◌, List, ◌++◌, Option, Some, None}
 use Rattle.std.specs.List.{list_all}
 use Rattle.std.specs.Str.{bytes_eq}
@@ -28,7 +29,9 @@ same_written (Some one) (Some other) = is_same the_row.coded one other
 -- whether each argument that stands in one of the lists has the same value in both
 abbrev pub same_arguments : List Argument → List Argument → Bool
 same_arguments one other =
-    list_all (λ argument. same_written (given argument.name.node one) (given argument.name.node other)) (one ++ other)
+    list_all
+    (λ argument. same_written (given argument.name.node one) (given argument.name.node other))
+    (one ++ other)
 
 -- whether two occurrences ask the same
 abbrev pub alike : Positioned Field → Positioned Field → Bool

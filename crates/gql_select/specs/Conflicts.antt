@@ -1,12 +1,14 @@
 -- Conflicts between fields of one key (section 5.3.2), and what it means that two sets agree.
-use Rattle.std.specs.Prelude.{◌≡◌, ℕ, zero, suc, Bool, true, ◌&&◌, not, List, [], ◌∷◌, ◌++◌, if◌then◌else◌}
+use Rattle.std.specs.Prelude.{◌≡◌, ℕ, zero, suc, Bool, true, ◌&&◌, not, List, [], ◌∷◌, ◌++◌}
+use Rattle.std.specs.Prelude.{if◌then◌else◌}
 use Rattle.std.specs.List.{Contains, flat_map}
 use Rattle.std.specs.Str.{bytes_eq}
 use Rattle.gql_base.specs.Pairs.{unite_all}
 use Rattle.gql_select.specs.Reading.{Reading, keyed}
 
 module _ {O F X : Type 0} (reading : Reading O F X) where
-  -- two sets agree on an object: of one key there is one field, and beneath it the sets agree on each object that is possible there
+  -- two sets agree on an object: of one key there is one field, and beneath it the sets agree on
+  -- each object that is possible there
   abbrev pub Agree : ℕ → O → List X → List X → Type 0
   Agree zero o one other = Unit {0}
   Agree (suc n) o one other =
@@ -28,9 +30,11 @@ module _ {O F X : Type 0} (reading : Reading O F X) where
     abbrev pub first_differing : List ℕ × F → List F → List E
     first_differing m [] = []
     first_differing m (f ∷ fs) =
-        if bytes_eq (reading.key f) m.0 && not (reading.alike m.1 f) then told f ∷ [] else first_differing m fs
+        if bytes_eq (reading.key f) m.0 && not (reading.alike m.1 f)
+        then told f ∷ [] else first_differing m fs
 
-    -- what is told of each key of a set that has unlike occurrences, and of the sets beneath, on each object that is possible there
+    -- what is told of each key of a set that has unlike occurrences, and of the sets beneath, on
+    -- each object that is possible there
     abbrev pub conflicts : ℕ → O → List X → List E
     conflicts zero o set = []
     conflicts (suc n) o set =

@@ -20,10 +20,12 @@ default_in (Some definition) = option_map (λ default. default.node) definition.
 
 -- the default of a variable, by the first definition of its name
 abbrev pub default_of : List ℕ → List (Positioned VariableDefinition) → Option Value
-default_of name definitions = default_in (find (λ definition. bytes_eq definition.node.name.node name) definitions)
+default_of name definitions =
+    default_in (find (λ definition. bytes_eq definition.node.name.node name) definitions)
 
 -- what a variable stands for: the request's value, else its default, else null
-abbrev pub variable_value : List (List ℕ × Value) → List (Positioned VariableDefinition) → List ℕ → Value
+abbrev pub variable_value : List (List ℕ × Value) → List (Positioned VariableDefinition) → List ℕ
+    → Value
 variable_value variables definitions name = unwrap_or (under name variables)
     (unwrap_or (default_of name definitions) value.Null)
 
@@ -51,11 +53,13 @@ abbrev pub Declared : Type 0
 Declared = List ℕ × Option Value
 
 -- an argument that has a value
-abbrev pub constant : (List ℕ → Value) → List ℕ → Option DocValue → Option Value → List (List ℕ × Value)
+abbrev pub constant : (List ℕ → Value) → List ℕ → Option DocValue → Option Value
+    → List (List ℕ × Value)
 constant known name (Some written) default = (name, resolved known written) ∷ []
 constant known name None (Some default) = (name, default) ∷ []
 constant known name None None = []
 
 -- the values of the declared arguments that have one, in the order in which they are declared
 abbrev pub constants : (List ℕ → Value) → List Declared → List Argument → List (List ℕ × Value)
-constants known declared arguments = flat_map (λ d. constant known d.0 (given d.0 arguments) d.1) declared
+constants known declared arguments =
+    flat_map (λ d. constant known d.0 (given d.0 arguments) d.1) declared

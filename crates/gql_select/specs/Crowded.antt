@@ -1,5 +1,7 @@
--- Fields with too many directives. The walk is that of the depth of sets: spreads are entered where they stand.
-use Rattle.std.specs.Prelude.{ℕ, zero, suc, ◌+◌, length, nat_lt, List, Option, Some, None, option_and_then}
+-- Fields with too many directives. The walk is that of the depth of sets: spreads are entered where
+-- they stand.
+use Rattle.std.specs.Prelude.{ℕ, zero, suc, ◌+◌, length, nat_lt, List, Option, Some, None}
+use Rattle.std.specs.Prelude.{option_and_then}
 use Rattle.std.specs.Prelude.{if◌then◌else◌}
 use Rattle.std.specs.Option.{option_or}
 use Rattle.gql_doc.specs.Depth.{Fragments, operation_set, operations_in, selections_of, set_beneath}
@@ -13,7 +15,8 @@ use Rattle.gql_doc.specs.declared.document.Selection.TheOpen.{Selection-F}
 use Rattle.gql_doc.specs.declared.document.SelectionSet.{SelectionSet}
 
 -- the field that a selection is, if it has more directives than the limit
-abbrev pub crowded_here : ℕ → Selection-F Selection Field InlineFragment SelectionSet → Option (Positioned Field)
+abbrev pub crowded_here : ℕ → Selection-F Selection Field InlineFragment SelectionSet
+    → Option (Positioned Field)
 crowded_here limit (Selection-F.Field field) = if nat_lt limit
     (length (out-Field field.node).directives) then Some field else None
 crowded_here limit (Selection-F.FragmentSpread spread) = None
@@ -29,7 +32,8 @@ crowded_from fragments limit (suc left) set =
     (option_and_then (crowded_from fragments limit left) (set_beneath fragments selection)))
     (selections_of set)
 
--- the first field of a document's operations with more directives than the limit, where sets nest within so many levels
+-- the first field of a document's operations with more directives than the limit, where sets nest
+-- within so many levels
 abbrev pub crowded : ExecutableDocument → ℕ → ℕ → Option (Positioned Field)
 crowded document limit levels =
     first_in (λ operation. crowded_from document.fragments limit levels (operation_set operation))

@@ -1,4 +1,5 @@
--- How a document's sets are read: occurrences are fields at their places, and one field stands for all of a key.
+-- How a document's sets are read: occurrences are fields at their places, and one field stands for
+-- all of a key.
 use Rattle.std.specs.Prelude.{ℕ, List, ◌++◌}
 use Rattle.gql_base.specs.declared.pos.Pos.{Pos}
 use Rattle.gql_doc.specs.Document.{key_of}
@@ -16,12 +17,16 @@ abbrev pub with_selections : Field → List (Positioned Selection) → Field
 with_selections field selections =
     roll-Field (record (out-Field field) {
       selection_set =
-          record { pos = (out-Field field).selection_set.pos; node = roll-SelectionSet (record { items = selections }) };
+          record {
+            pos = (out-Field field).selection_set.pos;
+            node = roll-SelectionSet (record { items = selections });
+          };
     })
 
 -- the first of two occurrences, with the second's selections behind its own
 abbrev pub both : Positioned Field → Positioned Field → Positioned Field
-both f g = record { pos = f.pos; node = with_selections f.node (own_selections f ++ own_selections g) }
+both f g =
+    record { pos = f.pos; node = with_selections f.node (own_selections f ++ own_selections g) }
 
 -- how the sets of a document are read
 abbrev pub reading : Setting → Reading (List ℕ) (Positioned Field) (Positioned Selection)
@@ -35,6 +40,7 @@ reading setting = record {
 }
 
 -- how the fields of a document become places, by the place of each on an object
-abbrev pub placing_by : {P Pl : Type 0} → Setting → (List ℕ → P → Positioned Field → Beneath (List ℕ) P Pl → Pl)
+abbrev pub placing_by : {P Pl : Type 0} → Setting
+    → (List ℕ → P → Positioned Field → Beneath (List ℕ) P Pl → Pl)
     → Placing (List ℕ) P (Positioned Field) (Positioned Selection) Pl
 placing_by setting place = record { reading = reading setting; place = place }

@@ -1,5 +1,7 @@
--- What `@skip` and `@include` leave of a document (GraphQL, October 2021, sections 3.13.1, 3.13.2 and 6.3.2).
-use Rattle.std.specs.Prelude.{ℕ, Bool, true, false, not, ◌||◌, ◌==◌, List, [], ◌∷◌, Option, Some, None}
+-- What `@skip` and `@include` leave of a document (GraphQL, October 2021, sections 3.13.1, 3.13.2
+-- and 6.3.2).
+use Rattle.std.specs.Prelude.{ℕ, Bool, true, false, not, ◌||◌, ◌==◌, List, [], ◌∷◌, Option, Some}
+use Rattle.std.specs.Prelude.{None}
 use Rattle.std.specs.Prelude.{option_map, unwrap_or, if◌then◌else◌, codes, filter, filter_map, map}
 use Rattle.std.specs.List.{list_all}
 use Rattle.std.specs.Str.{bytes_eq}
@@ -10,13 +12,16 @@ use Rattle.gql_doc.specs.declared.document.Directive.{Directive}
 use Rattle.gql_doc.specs.declared.document.DocValue.{DocValue}
 use Rattle.gql_doc.specs.declared.document.Field.{Field, out-Field, roll-Field}
 use Rattle.gql_doc.specs.declared.document.FragmentDefinition.{FragmentDefinition}
-use Rattle.gql_doc.specs.declared.document.InlineFragment.{InlineFragment, out-InlineFragment, roll-InlineFragment}
+use Rattle.gql_doc.specs.declared.document.InlineFragment.{InlineFragment, out-InlineFragment}
+use Rattle.gql_doc.specs.declared.document.InlineFragment.{roll-InlineFragment}
 use Rattle.gql_doc.specs.declared.document.Positioned.{Positioned}
 use Rattle.gql_doc.specs.declared.document.Selection.{Selection}
 use Rattle.gql_doc.specs.declared.document.Selection.TheVariants as selection
-use Rattle.gql_doc.specs.declared.document.Selection.TheOpen.{Selection-F, Field-F, InlineFragment-F, SelectionSet-F}
+use Rattle.gql_doc.specs.declared.document.Selection.TheOpen.{Selection-F, Field-F}
+use Rattle.gql_doc.specs.declared.document.Selection.TheOpen.{InlineFragment-F, SelectionSet-F}
 use Rattle.gql_doc.specs.declared.document.Selection.TheFolds.{fold-Selection, fold-Field}
-use Rattle.gql_doc.specs.declared.document.Selection.TheFolds.{fold-InlineFragment, fold-SelectionSet}
+use Rattle.gql_doc.specs.declared.document.Selection.TheFolds.{fold-InlineFragment}
+use Rattle.gql_doc.specs.declared.document.Selection.TheFolds.{fold-SelectionSet}
 use Rattle.gql_doc.specs.declared.document.SelectionSet.{SelectionSet, roll-SelectionSet}
 use Rattle.gql_select.specs.Collected.{Setting}
 use Rattle.gql_select.specs.Constants.{given, resolved}
@@ -50,7 +55,8 @@ is_kept known directives = list_all (λ directive. allows known directive.node) 
 
 -- the directives that stay: the two that were looked at go
 abbrev pub others : List (Positioned Directive) → List (Positioned Directive)
-others directives = filter (λ directive. not (is_skip directive.node || is_include directive.node)) directives
+others directives =
+    filter (λ directive. not (is_skip directive.node || is_include directive.node)) directives
 
 module _ (known : List ℕ → Value) where
   -- a selection, where its directives leave it
@@ -59,21 +65,29 @@ module _ (known : List ℕ → Value) where
 
   -- a field without the two directives
   abbrev pub other_field : Field → Field
-  other_field field = roll-Field (record (out-Field field) { directives = others (out-Field field).directives })
+  other_field field =
+      roll-Field (record (out-Field field) { directives = others (out-Field field).directives })
 
   -- a fragment in place without them
   abbrev pub other_inline : InlineFragment → InlineFragment
   other_inline fragment = roll-InlineFragment (record
-      (out-InlineFragment fragment) { directives = others (out-InlineFragment fragment).directives })
+      (out-InlineFragment fragment)
+      { directives = others (out-InlineFragment fragment).directives })
 
-  -- a selection without the two directives, where it is kept; what stands beneath was looked at before
-  abbrev pub selection_step : Selection-F (Option Selection) Field InlineFragment SelectionSet → Option Selection
+  -- a selection without the two directives, where it is kept; what stands beneath was looked at
+  -- before
+  abbrev pub selection_step : Selection-F (Option Selection) Field InlineFragment SelectionSet
+      → Option Selection
   selection_step (Selection-F.Field field) =
       kept_if (out-Field field.node).directives (selection.Field
       (record { pos = field.pos; node = other_field field.node }))
   selection_step (Selection-F.FragmentSpread spread) =
       kept_if spread.node.directives
-      (selection.FragmentSpread (record { pos = spread.pos; node = record spread.node { directives = others spread.node.directives } }))
+      (selection.FragmentSpread
+      (record {
+        pos = spread.pos;
+        node = record spread.node { directives = others spread.node.directives };
+      }))
   selection_step (Selection-F.InlineFragment fragment) =
       kept_if (out-InlineFragment fragment.node).directives
       (selection.InlineFragment (record { pos = fragment.pos; node = other_inline fragment.node }))
@@ -82,36 +96,58 @@ module _ (known : List ℕ → Value) where
   abbrev pub field_step : Field-F (Option Selection) Field InlineFragment SelectionSet → Field
   field_step field =
       roll-Field
-      (record { alias = field.alias; name = field.name; arguments = field.arguments; directives = field.directives; selection_set = field.selection_set })
+      (record {
+        alias = field.alias;
+        name = field.name;
+        arguments = field.arguments;
+        directives = field.directives;
+        selection_set = field.selection_set;
+      })
 
   -- a fragment in place whose set was looked at
-  abbrev pub inline_step : InlineFragment-F (Option Selection) Field InlineFragment SelectionSet → InlineFragment
+  abbrev pub inline_step : InlineFragment-F (Option Selection) Field InlineFragment SelectionSet
+      → InlineFragment
   inline_step fragment =
-      roll-InlineFragment (record { type_condition = fragment.type_condition; directives = fragment.directives; selection_set = fragment.selection_set })
+      roll-InlineFragment
+      (record {
+        type_condition = fragment.type_condition;
+        directives = fragment.directives;
+        selection_set = fragment.selection_set;
+      })
 
   -- a selection at its place, where it is left
   abbrev pub if_kept : Positioned (Option Selection) → Option (Positioned Selection)
-  if_kept selection = option_map (λ node. record { pos = selection.pos; node = node }) selection.node
+  if_kept selection =
+      option_map (λ node. record { pos = selection.pos; node = node }) selection.node
 
   -- a set with the selections that are left
-  abbrev pub set_step : SelectionSet-F (Option Selection) Field InlineFragment SelectionSet → SelectionSet
+  abbrev pub set_step : SelectionSet-F (Option Selection) Field InlineFragment SelectionSet
+      → SelectionSet
   set_step set = roll-SelectionSet (record { items = filter_map if_kept set.items })
 
   -- a selection with what is left beneath it, or none
   abbrev pub kept_selection : Selection → Option Selection
-  kept_selection = fold-Selection (Option Selection) Field InlineFragment SelectionSet selection_step field_step inline_step set_step
+  kept_selection =
+      fold-Selection (Option Selection) Field InlineFragment SelectionSet selection_step field_step
+      inline_step set_step
 
   -- a field of which the set beneath is kept
   abbrev pub kept_field : Field → Field
-  kept_field = fold-Field (Option Selection) Field InlineFragment SelectionSet selection_step field_step inline_step set_step
+  kept_field =
+      fold-Field (Option Selection) Field InlineFragment SelectionSet selection_step field_step
+      inline_step set_step
 
   -- a fragment in place of which the set is kept
   abbrev pub kept_inline : InlineFragment → InlineFragment
-  kept_inline = fold-InlineFragment (Option Selection) Field InlineFragment SelectionSet selection_step field_step inline_step set_step
+  kept_inline =
+      fold-InlineFragment (Option Selection) Field InlineFragment SelectionSet selection_step
+      field_step inline_step set_step
 
   -- a set without what is left out, whatever it is nested in
   abbrev pub kept_set : SelectionSet → SelectionSet
-  kept_set = fold-SelectionSet (Option Selection) Field InlineFragment SelectionSet selection_step field_step inline_step set_step
+  kept_set =
+      fold-SelectionSet (Option Selection) Field InlineFragment SelectionSet selection_step field_step
+      inline_step set_step
 
   -- what is left of selections
   abbrev pub kept : List (Positioned Selection) → List (Positioned Selection)
@@ -122,7 +158,11 @@ module _ (known : List ℕ → Value) where
   abbrev pub kept_fragment : Positioned FragmentDefinition → Positioned FragmentDefinition
   kept_fragment fragment = record {
     pos = fragment.pos;
-    node = record fragment.node { selection_set = record { pos = fragment.node.selection_set.pos; node = kept_set fragment.node.selection_set.node } };
+    node =
+        record fragment.node {
+          selection_set = record
+              { pos = fragment.node.selection_set.pos; node = kept_set fragment.node.selection_set.node };
+        };
   }
 
   -- all fragments of a document

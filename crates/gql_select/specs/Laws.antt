@@ -1,4 +1,5 @@
--- The laws on selections: what is answered apart and joined is what is answered once, where fields of one key agree.
+-- The laws on selections: what is answered apart and joined is what is answered once, where fields
+-- of one key agree.
 use Rattle.std.specs.Prelude.{◌≡◌, ℕ, suc, true, List, []}
 use Rattle.gql_base.specs.declared.value.Value.{Value}
 use Rattle.gql_doc.specs.declared.document.Field.{Field}
@@ -9,7 +10,8 @@ use Rattle.gql_select.specs.Collected.{Setting}
 use Rattle.gql_select.specs.Conflicts.{Agree, conflicts}
 use Rattle.gql_select.specs.Constants.{constants, Declared}
 use Rattle.gql_select.specs.Documents.{placing_by, reading}
-use Rattle.gql_select.specs.Grouped.{at_root, below_root, Beneath, grouped, respond, respond_by, IsPlacing, Mutating, Placing}
+use Rattle.gql_select.specs.Grouped.{at_root, below_root, Beneath, grouped, respond, respond_by}
+use Rattle.gql_select.specs.Grouped.{IsPlacing, Mutating, Placing}
 use Rattle.gql_select.specs.Grouped.{serial_grouped, serial_respond}
 use Rattle.gql_select.specs.Kept.{kept, kept_setting}
 use Rattle.gql_select.specs.Reading.{IsReading, merged, Reading}
@@ -30,7 +32,8 @@ MergedGroupsAreGrouped O P F X Pl =
 -- apart execution is merged execution, where the set agrees with itself
 abbrev pub ApartIsMerged : (O P F X Pl : Type 0) → Type 0
 ApartIsMerged O P F X Pl =
-    (placing : Placing O P F X Pl) → IsReading placing.reading → (join : Pl → Pl → Pl) → IsPlacing placing join
+    (placing : Placing O P F X Pl) → IsReading placing.reading → (join : Pl → Pl → Pl)
+    → IsPlacing placing join
     → (n : ℕ) (o : O) (p : P) (set : List X) → Agree placing.reading n o set set
     → respond placing join n o p set ≡ grouped placing n o p set
 
@@ -56,11 +59,13 @@ SameConstants =
 -- what agrees in a document agrees in what is kept of it
 abbrev pub KeptAgrees : Type 0
 KeptAgrees =
-    (known : List ℕ → Value) (setting : Setting) (n : ℕ) (o : List ℕ) (set : List (Positioned Selection))
+    (known : List ℕ → Value) (setting : Setting) (n : ℕ) (o : List ℕ)
+    (set : List (Positioned Selection))
     → Agree (reading setting) n o set set
     → Agree (reading (kept_setting known setting)) n o (kept known set) (kept known set)
 
--- apart execution of what is kept of a document is merged execution, where the document has no conflicts
+-- apart execution of what is kept of a document is merged execution, where the document has no
+-- conflicts
 abbrev pub KeptApartIsMerged : (P Pl E : Type 0) → Type 0
 KeptApartIsMerged P Pl E =
     (known : List ℕ → Value) (setting : Setting)

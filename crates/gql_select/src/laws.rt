@@ -4,24 +4,26 @@ ghost use Rattle.gql_select.specs.Laws.{ApartIsMerged, DocumentsAreRead, KeptAgr
 ghost use Rattle.gql_select.specs.Laws.{KeptApartIsMerged, MergedGroupsAreGrouped};
 ghost use Rattle.gql_select.specs.Laws.{MutationApartIsMerged, NoConflictAgrees, SameConstants};
 
-/// A set without conflicts between the fields of one key agrees with itself (GraphQL, October 2021, section 5.3.2).
+/// A set without conflicts between the fields of one key agrees with itself (GraphQL, October 2021,
+/// section 5.3.2).
 pub fn no_conflict_agrees<O, F, X, E>()
     ensures { NoConflictAgrees O F X E }
 {}
 
-/// Answering by groups is merged execution, where a group is all occurrences of a key: nothing is left to be joined.
+/// Answering by groups is merged execution, where a group is all occurrences of a key: nothing is
+/// left to be joined.
 pub fn merged_groups_are_grouped<O, P, F, X, Pl>()
     ensures { MergedGroupsAreGrouped O P F X Pl }
 {}
 
-/// Answering each occurrence of a field apart and joining the places is answering each key once, on merged sets
-/// (section 6.3.2), where the set agrees with itself.
+/// Answering each occurrence of a field apart and joining the places is answering each key once, on
+/// merged sets (section 6.3.2), where the set agrees with itself.
 pub fn apart_is_merged<O, P, F, X, Pl>()
     ensures { ApartIsMerged O P F X Pl }
 {}
 
-/// The same of a mutation, whose root keys are answered one after another, each in the world that those before it left
-/// (section 6.2.2).
+/// The same of a mutation, whose root keys are answered one after another, each in the world that
+/// those before it left (section 6.2.2).
 pub fn mutation_apart_is_merged<O, P, F, X, Pl, W>()
     ensures { MutationApartIsMerged O P F X Pl W }
 {}
@@ -41,8 +43,8 @@ pub fn kept_agrees()
     ensures { KeptAgrees }
 {}
 
-/// Answering each occurrence apart and joining the places is answering each key once, in what is kept of a document without
-/// conflicts.
+/// Answering each occurrence apart and joining the places is answering each key once, in what is
+/// kept of a document without conflicts.
 pub fn kept_apart_is_merged<P, Pl, E>()
     ensures { KeptApartIsMerged P Pl E }
 {}

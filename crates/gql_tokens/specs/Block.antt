@@ -39,5 +39,6 @@ ArePieces (quotes ∷ pieces) rest = ArePieces pieces rest
 -- a block string with this value
 abbrev pub IsBlockString : List ℕ → List ℕ → Type 0
 IsBlockString value cs =
-    (pieces : List Piece) × (cs ≡ three_quotes ++ (written pieces ++ three_quotes)) × ArePieces pieces three_quotes
+    (pieces : List Piece) × (cs ≡ three_quotes ++ (written pieces ++ three_quotes))
+    × ArePieces pieces three_quotes
     × (value ≡ block_value (raw_of pieces))

@@ -1,4 +1,5 @@
--- Characters, by what they are to tokens (GraphQL, October 2021, section 2.1). A character is its Unicode scalar value.
+-- Characters, by what they are to tokens (GraphQL, October 2021, section 2.1). A character is its
+-- Unicode scalar value.
 use Rattle.std.specs.Prelude.{ℕ, Bool, false, not, ◌&&◌, ◌||◌, List, [], ◌∷◌, ◌==◌, nat_le}
 
 abbrev pub tab : ℕ
@@ -51,7 +52,8 @@ is_line_end c = c == line_feed || c == carriage_return
 abbrev pub is_line_character : ℕ → Bool
 is_line_character c = not (is_line_end c)
 
--- what may stand in strings and comments (section 2.1): tab, the ends of lines, and every character from U+0020 on
+-- what may stand in strings and comments (section 2.1): tab, the ends of lines, and every character
+-- from U+0020 on
 abbrev pub is_source : ℕ → Bool
 is_source c = (c == tab || is_line_end c) || nat_le space c
 

@@ -1,14 +1,17 @@
--- What is ignored between tokens (GraphQL, October 2021, section 2.1.7): white space, line ends, commas, the byte order mark, and comments.
+-- What is ignored between tokens (GraphQL, October 2021, section 2.1.7): white space, line ends,
+-- commas, the byte order mark, and comments.
 use Rattle.std.specs.Prelude.{◌≡◌, ℕ, Bool, true, false, ◌||◌, List, [], ◌∷◌, ◌==◌}
-use Rattle.gql_tokens.specs.Characters.{hash, is_line_end, is_source, is_comment_character, is_ignored, begins}
+use Rattle.gql_tokens.specs.Characters.{hash, is_line_end, is_source, is_comment_character}
+use Rattle.gql_tokens.specs.Characters.{is_ignored, begins}
 
--- What goes on with an ignored text. From within a comment that is every character that may stand in a text, since what
--- can't stand in a comment ends its line.
+-- What goes on with an ignored text. From within a comment that is every character that may stand
+-- in a text, since what can't stand in a comment ends its line.
 abbrev pub goes_on : (in_comment : Bool) → ℕ → Bool
 goes_on false c = is_ignored c || c == hash
 goes_on true c = is_source c
 
--- An ignored character, with a comment behind it or none: a `#` begins a comment (section 2.1.4), a line's end ends it.
+-- An ignored character, with a comment behind it or none: a `#` begins a comment (section 2.1.4), a
+-- line's end ends it.
 abbrev pub Passes : (in_comment : Bool) → ℕ → (comment_behind : Bool) → Type 0
 Passes false c false = is_ignored c ≡ true
 Passes false c true = c ≡ hash

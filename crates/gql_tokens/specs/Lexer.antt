@@ -10,10 +10,11 @@ use Rattle.gql_tokens.specs.Token.{IsToken, is_final}
 
 -- no token begins the text
 abbrev pub BeginsNoToken : List ℕ → Type 0
-BeginsNoToken text = (lexeme : Lexeme) (cs rest : List ℕ) → text ≡ cs ++ rest → IsToken lexeme cs rest → ⊥
+BeginsNoToken text =
+    (lexeme : Lexeme) (cs rest : List ℕ) → text ≡ cs ++ rest → IsToken lexeme cs rest → ⊥
 
--- how the tokens of a text end, with nothing ignored before `text`: it is empty, no token begins it, or it begins with a
--- number that isn't supported
+-- how the tokens of a text end, with nothing ignored before `text`: it is empty, no token begins
+-- it, or it begins with a number that isn't supported
 abbrev pub Finishes : Lexeme → List ℕ → Type 0
 Finishes lexemes.End text = text ≡ []
 Finishes lexemes.Unexpected text = (text ≢ []) × BeginsNoToken text
@@ -21,7 +22,8 @@ Finishes lexemes.Unsupported text =
     (cs : List ℕ) × (rest : List ℕ) × (text ≡ cs ++ rest) × IsToken lexemes.Unsupported cs rest
 Finishes _ text = ⊥
 
--- The tokens of a text that begins at a place, each at the place of its first character. The last is the only final one.
+-- The tokens of a text that begins at a place, each at the place of its first character. The last
+-- is the only final one.
 abbrev pub Lexes : Pos → List ℕ → List Token → Type 0
 Lexes place text [] = ⊥
 Lexes place text (token ∷ tokens) =

@@ -1,5 +1,7 @@
--- The lines of a block string, and its value (GraphQL, October 2021, section 2.9.4, BlockStringValue).
-use Rattle.std.specs.Prelude.{ℕ, List, [], ◌∷◌, ◌==◌, if◌then◌else◌, Bool, Option, Some, None, min, map, drop}
+-- The lines of a block string, and its value (GraphQL, October 2021, section 2.9.4,
+-- BlockStringValue).
+use Rattle.std.specs.Prelude.{ℕ, List, [], ◌∷◌, ◌==◌, if◌then◌else◌, Bool, Option, Some, None, min}
+use Rattle.std.specs.Prelude.{map, drop}
 use Rattle.std.specs.Prelude.{reverse, fold, length, unwrap_or}
 use Rattle.std.specs.List.{prefix_len, join_with_byte}
 use Rattle.gql_tokens.specs.Characters.{line_feed, carriage_return, is_blank}
@@ -30,11 +32,14 @@ abbrev pub least_with : Option ℕ → ℕ → ℕ
 least_with None indent = indent
 least_with (Some least) indent = min least indent
 
--- the least indent so far and with one more line, where that holds another character than tabs and blanks
+-- the least indent so far and with one more line, where that holds another character than tabs and
+-- blanks
 abbrev pub with_line : Option ℕ → List ℕ → Option ℕ
-with_line least line = if is_blank_line line then least else Some (least_with least (indent_of line))
+with_line least line =
+    if is_blank_line line then least else Some (least_with least (indent_of line))
 
--- the least indent of the lines that hold another character than tabs and blanks, if there is such a line
+-- the least indent of the lines that hold another character than tabs and blanks, if there is such
+-- a line
 abbrev pub common_indent : List (List ℕ) → Option ℕ
 common_indent lines = fold with_line None lines
 
@@ -50,7 +55,8 @@ without_indent (first ∷ others) = first ∷ without_common_indent others
 -- the lines without the first ones that hold tabs and blanks alone
 abbrev pub without_first_blank : List (List ℕ) → List (List ℕ)
 without_first_blank [] = []
-without_first_blank (line ∷ lines) = if is_blank_line line then without_first_blank lines else line ∷ lines
+without_first_blank (line ∷ lines) =
+    if is_blank_line line then without_first_blank lines else line ∷ lines
 
 -- the lines without the last ones that hold tabs and blanks alone
 abbrev pub without_last_blank : List (List ℕ) → List (List ℕ)
@@ -58,4 +64,6 @@ without_last_blank lines = reverse (without_first_blank (reverse lines))
 
 -- the value of a block string, from what stands between its quotes
 abbrev pub block_value : List ℕ → List ℕ
-block_value raw = join_with_byte line_feed (without_last_blank (without_first_blank (without_indent (lines_of raw))))
+block_value raw =
+    join_with_byte line_feed
+    (without_last_blank (without_first_blank (without_indent (lines_of raw))))

@@ -1,5 +1,6 @@
 -- Numbers (GraphQL, October 2021, sections 2.9.1 and 2.9.2).
-use Rattle.std.specs.Prelude.{◌≡◌, ◌≢◌, ℕ, ◌+◌, ◌*◌, ◌-◌, ◌^◌, Bool, true, false, ◌||◌, ◌⊎◌, List, [], ◌∷◌}
+use Rattle.std.specs.Prelude.{◌≡◌, ◌≢◌, ℕ, ◌+◌, ◌*◌, ◌-◌, ◌^◌, Bool, true, false, ◌||◌, ◌⊎◌, List}
+use Rattle.std.specs.Prelude.{[], ◌∷◌}
 use Rattle.std.specs.Prelude.{◌++◌, ◌==◌, if◌then◌else◌, ℤ, pos, negsuc, neg_ℤ, ◌≤ℤ◌, ◌<ℤ◌, fold}
 use Rattle.std.specs.Char.{is_ascii_digit}
 use Rattle.std.specs.List.{AllByRecursion}
@@ -33,11 +34,14 @@ is_sign c = c == plus || c == minus
 -- an optional sign, and digits
 abbrev pub IsPower : List ℕ → Type 0
 IsPower cs =
-    IsDigits cs ⊎ ((sign : ℕ) × (digits : List ℕ) × (cs ≡ sign ∷ digits) × (is_sign sign ≡ true) × IsDigits digits)
+    IsDigits cs
+    ⊎ ((sign : ℕ) × (digits : List ℕ) × (cs ≡ sign ∷ digits) × (is_sign sign ≡ true)
+    × IsDigits digits)
 
 -- `e` or `E`, and a power of ten
 abbrev pub IsExponent : List ℕ → Type 0
-IsExponent cs = (e : ℕ) × (power : List ℕ) × (cs ≡ e ∷ power) × (begins_exponent e ≡ true) × IsPower power
+IsExponent cs =
+    (e : ℕ) × (power : List ℕ) × (cs ≡ e ∷ power) × (begins_exponent e ≡ true) × IsPower power
 
 -- nothing, or something of this form
 abbrev pub Optional : (List ℕ → Type 0) → List ℕ → Type 0
@@ -46,13 +50,15 @@ Optional Form cs = (cs ≡ []) ⊎ Form cs
 -- a fraction, an exponent, both, or none
 abbrev pub IsFloatPart : List ℕ → Type 0
 IsFloatPart cs =
-    (fraction : List ℕ) × (exponent : List ℕ) × (cs ≡ fraction ++ exponent) × Optional IsFraction fraction
+    (fraction : List ℕ) × (exponent : List ℕ) × (cs ≡ fraction ++ exponent)
+    × Optional IsFraction fraction
     × Optional IsExponent exponent
 
 -- an integer with a fraction, an exponent or both
 abbrev pub IsFloat : List ℕ → Type 0
 IsFloat cs =
-    (integer : List ℕ) × (part : List ℕ) × (cs ≡ integer ++ part) × IsInteger integer × IsFloatPart part × (part ≢ [])
+    (integer : List ℕ) × (part : List ℕ) × (cs ≡ integer ++ part) × IsInteger integer
+    × IsFloatPart part × (part ≢ [])
 
 -- what may not follow a number: a digit, `.` and a name's first character
 abbrev pub is_bad_after_number : ℕ → Bool

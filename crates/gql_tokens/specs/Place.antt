@@ -1,11 +1,15 @@
--- Places in a text (GraphQL, October 2021, section 7.1.2): lines and columns count from 1, and a column is one character.
-use Rattle.std.specs.Prelude.{ℕ, ◌+◌, Bool, not, ◌&&◌, ◌||◌, List, [], ◌∷◌, ◌++◌, ◌==◌, if◌then◌else◌}
+-- Places in a text (GraphQL, October 2021, section 7.1.2): lines and columns count from 1, and a
+-- column is one character.
+use Rattle.std.specs.Prelude.{ℕ, ◌+◌, Bool, not, ◌&&◌, ◌||◌, List, [], ◌∷◌, ◌++◌, ◌==◌}
+use Rattle.std.specs.Prelude.{if◌then◌else◌}
 use Rattle.gql_base.specs.declared.pos.Pos.{Pos}
 use Rattle.gql_tokens.specs.Characters.{line_feed, carriage_return, begins}
 
--- A line ends at LF, at CR LF and at CR alone (section 2.1.3): so with LF, and with a CR that no LF follows.
+-- A line ends at LF, at CR LF and at CR alone (section 2.1.3): so with LF, and with a CR that no LF
+-- follows.
 abbrev pub ends_line : ℕ → List ℕ → Bool
-ends_line c rest = c == line_feed || (c == carriage_return && not (begins (λ d. d == line_feed) rest))
+ends_line c rest =
+    c == line_feed || (c == carriage_return && not (begins (λ d. d == line_feed) rest))
 
 -- the place behind a character, which `rest` follows
 abbrev pub next_place : Pos → ℕ → List ℕ → Pos

@@ -1,9 +1,11 @@
 -- Strings between single quotation marks (GraphQL, October 2021, section 2.9.4).
-use Rattle.std.specs.Prelude.{◌≡◌, ℕ, ◌+◌, ◌*◌, ◌<◌, Bool, true, not, ◌&&◌, ◌||◌, ◌⊎◌, List, [], ◌∷◌, ◌++◌}
+use Rattle.std.specs.Prelude.{◌≡◌, ℕ, ◌+◌, ◌*◌, ◌<◌, Bool, true, not, ◌&&◌, ◌||◌, ◌⊎◌, List, []}
+use Rattle.std.specs.Prelude.{◌∷◌, ◌++◌}
 use Rattle.std.specs.Prelude.{◌==◌, if◌then◌else◌, Option, Some, None, fold}
 use Rattle.std.specs.Char.{digit_value, IsScalar}
 use Rattle.std.specs.List.{AllByRecursion}
-use Rattle.gql_tokens.specs.Characters.{line_feed, carriage_return, tab, quote, backslash, is_line_end, is_source}
+use Rattle.gql_tokens.specs.Characters.{line_feed, carriage_return, tab, quote, backslash}
+use Rattle.gql_tokens.specs.Characters.{is_line_end, is_source}
 
 -- a character that stands for itself in a string
 abbrev pub is_plain : ℕ → Bool
@@ -42,8 +44,10 @@ WritesCharacter v cs =
 abbrev pub WritesCharacters : List ℕ → List ℕ → Type 0
 WritesCharacters [] cs = cs ≡ []
 WritesCharacters (v ∷ vs) cs =
-    (first : List ℕ) × (others : List ℕ) × (cs ≡ first ++ others) × WritesCharacter v first × WritesCharacters vs others
+    (first : List ℕ) × (others : List ℕ) × (cs ≡ first ++ others) × WritesCharacter v first
+    × WritesCharacters vs others
 
 -- a string with this value
 abbrev pub IsString : List ℕ → List ℕ → Type 0
-IsString value cs = (body : List ℕ) × (cs ≡ quote ∷ body ++ quote ∷ []) × WritesCharacters value body
+IsString value cs =
+    (body : List ℕ) × (cs ≡ quote ∷ body ++ quote ∷ []) × WritesCharacters value body

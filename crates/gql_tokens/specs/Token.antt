@@ -6,7 +6,8 @@ use Rattle.gql_tokens.specs.declared.token.Lexeme.{Lexeme}
 use Rattle.gql_tokens.specs.declared.token.Lexeme.TheVariants as lexemes
 use Rattle.gql_tokens.specs.Characters.{full_stop, begins}
 use Rattle.gql_tokens.specs.Name.{IsName}
-use Rattle.gql_tokens.specs.Number.{IsInteger, IsFloat, IsSupported, integer_of, is_bad_after_number}
+use Rattle.gql_tokens.specs.Number.{IsInteger, IsFloat, IsSupported, integer_of}
+use Rattle.gql_tokens.specs.Number.{is_bad_after_number}
 use Rattle.gql_tokens.specs.String.{IsString}
 use Rattle.gql_tokens.specs.Block.{IsBlockString}
 

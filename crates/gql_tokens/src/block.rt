@@ -39,7 +39,8 @@ fn found_at(text: &[char]) -> Found
     }
 }
 
-/// What stands between the quotes of a block string, and how many characters spell it with its quotes.
+/// What stands between the quotes of a block string, and how many characters spell it with its
+/// quotes.
 #[derive(Drop)]
 struct Body {
     raw: Vec<char>,

@@ -93,7 +93,8 @@ fn string_token(alloc: Global, text: &[char]) -> Made<Reading>
 
 /// The empty string, for the first two of three quotes that begin no block string.
 fn empty_string(alloc: Global) -> Reading
-    ensures { (text : List ℕ) → starts_with nat_eq text three_quotes ≡ true → IsUnended (drop 3 text)
+    ensures { (text : List ℕ) → starts_with nat_eq text three_quotes ≡ true
+        → IsUnended (drop 3 text)
         → StandsAt result.lexeme result.length text }
 {
     Reading {
@@ -102,7 +103,8 @@ fn empty_string(alloc: Global) -> Reading
     }
 }
 
-/// The string at three quotes. `blocks_end` is false once a block string has no end: then none behind it has.
+/// The string at three quotes. `blocks_end` is false once a block string has no end: then none
+/// behind it has.
 fn block_token(alloc: Global, text: &[char], blocks_end: &mut bool) -> Made<Reading>
     requires first { starts_with nat_eq text.now three_quotes ≡ true }
     requires known { blocks_end.old ≡ false → NoBlockEnds text.now }
@@ -302,8 +304,8 @@ fn tokens_from(alloc: Global, characters: &[char]) -> Made<Items<Token>>
     }
 }
 
-/// The tokens of a text, each with the place of its first character. The last one says how they end: at the end of the
-/// text, where no token begins, or at a number that isn't supported.
+/// The tokens of a text, each with the place of its first character. The last one says how they
+/// end: at the end of the text, where no token begins, or at a number that isn't supported.
 pub fn tokens_of(alloc: Global, text: &str) -> Made<Items<Token>>
     ensures exact { IfOk result (λ tokens. Lexes text_start (chars text.now) tokens) }
     ensures ends { IfOk result EndFinally }

@@ -81,7 +81,8 @@ fn common_indent(text: &[char]) -> Option<usize>
     }
 }
 
-/// The lines of a block string so far, joined, without the first blank ones. The last blank ones stand behind `length`.
+/// The lines of a block string so far, joined, without the first blank ones. The last blank ones
+/// stand behind `length`.
 #[derive(Drop)]
 struct Kept {
     text: Vec<char>,

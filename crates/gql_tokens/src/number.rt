@@ -106,7 +106,8 @@ fn is_bad_after_number(c: char) -> bool
     c.is_ascii_digit() || c == '.' || is_name_start(c)
 }
 
-/// A number at the front of a text: how long its integer is, and the fraction and the exponent behind it.
+/// A number at the front of a text: how long its integer is, and the fraction and the exponent
+/// behind it.
 #[derive(Clone, Copy, Debug)]
 pub struct Numeral {
     pub integer: usize,

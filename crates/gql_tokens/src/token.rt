@@ -19,8 +19,9 @@ pub enum Punctuator {
     CloseBrace,
 }
 
-/// What a token says. The last three end a list of tokens: no token begins at the place of `Unexpected`, and at that
-/// of `Unsupported` a float begins, or a whole number that is none from -2^63 to 2^64-1.
+/// What a token says. The last three end a list of tokens: no token begins at the place of
+/// `Unexpected`, and at that of `Unsupported` a float begins, or a whole number that is none from
+/// -2^63 to 2^64-1.
 #[derive(Debug, Drop)]
 pub enum Lexeme {
     Punctuator(Punctuator),

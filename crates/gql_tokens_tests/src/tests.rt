@@ -34,7 +34,8 @@ fn show_number(out: &mut String, number: &Number) -> Made<()> {
     Ok(())
 }
 
-/// A token as its place and what it says: strings between angle quotes, how the tokens end in capitals.
+/// A token as its place and what it says: strings between angle quotes, how the tokens end in
+/// capitals.
 fn show_token(out: &mut String, token: &Token) -> Made<()> {
     let line = token.pos.line;
     let column = token.pos.column;
@@ -151,8 +152,8 @@ fn tokens_have_their_places(rt: HostRuntime) -> Result<(), std::test::Fail> {
     Ok(())
 }
 
-/// What stands between the quotes of block strings, each with its value. The first is the specification's own example
-/// (October 2021, section 2.9.4).
+/// What stands between the quotes of block strings, each with its value. The first is the
+/// specification's own example (October 2021, section 2.9.4).
 const BLOCKS: [(&str, &str); 14] = [
     (
         "\n    Hello,\n      World!\n\n    Yours,\n      GraphQL.\n  ",

@@ -2,7 +2,8 @@
 use Rattle.std.specs.Prelude.{ℕ, List, codes, Option, Some, None, if◌then◌else◌}
 use Rattle.std.specs.Str.{str_eq_ignore_ascii_case}
 use Rattle.gql_ws.specs.declared.protocols.Protocols.{Protocols}
-use Rattle.gql_ws.specs.declared.protocols.Protocols.TheVariants.{SubscriptionsTransportWS, GraphQLWS}
+use Rattle.gql_ws.specs.declared.protocols.Protocols.TheVariants.{SubscriptionsTransportWS}
+use Rattle.gql_ws.specs.declared.protocols.Protocols.TheVariants.{GraphQLWS}
 
 -- the name in the header
 abbrev pub protocol_name : Protocols → List ℕ
@@ -13,4 +14,5 @@ protocol_name GraphQLWS = codes "graphql-transport-ws"
 abbrev pub protocol_named : List ℕ → Option Protocols
 protocol_named name =
     if str_eq_ignore_ascii_case name (codes "graphql-ws") then Some SubscriptionsTransportWS
-    else (if str_eq_ignore_ascii_case name (codes "graphql-transport-ws") then Some GraphQLWS else None)
+    else (if str_eq_ignore_ascii_case name (codes "graphql-transport-ws")
+    then Some GraphQLWS else None)

@@ -3,7 +3,8 @@ ghost use Rattle.std.specs.Str.{str_eq_ignore_ascii_case};
 
 use std::str::FromStr;
 
-/// The names of the subprotocols, as in the header `Sec-WebSocket-Protocol` (RFC 6455, section 11.3.4).
+/// The names of the subprotocols, as in the header `Sec-WebSocket-Protocol` (RFC 6455, section
+/// 11.3.4).
 pub const ALL_WEBSOCKET_PROTOCOLS: [&str; 2] = ["graphql-transport-ws", "graphql-ws"];
 
 /// A subprotocol that a session speaks.

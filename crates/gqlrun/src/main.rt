@@ -26,7 +26,8 @@ fn main(rt: HostRuntime) -> ExitCode {
     ExitCode::from(status)
 }
 
-/// The words after the program's name. A word that is no text makes them no listed form, so then there are none.
+/// The words after the program's name. A word that is no text makes them no listed form, so then
+/// there are none.
 fn words(rt: &HostRuntime) -> Made<Vec<String>> {
     let mut words = Vec::new(rt.alloc());
     match env::args(rt) {
