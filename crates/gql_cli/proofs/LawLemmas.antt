@@ -8,7 +8,7 @@ use Rattle.gql_form.specs.BenchForm.{form_in}
 use Rattle.gql_form.specs.declared.bench_form.BenchForm.{BenchForm}
 use Rattle.gql_doc.proofs.ParseLaws.{one_document, one_document_fault, never_both}
 use Rattle.gql_resolve.specs.declared.record_entry.RecordEntry.{RecordEntry}
-use Rattle.gql_cli.specs.Answer.{Chooses, IsAnswerOf, IsRefusalOf, IsResponse, error_of, refusal_line, response_line}
+use Rattle.gql_cli.specs.Answer.{Chooses, IsAnswerOf, IsRefusalOf, IsResponse, error_of, data_response, refusal, response_line}
 use Rattle.gql_cli.specs.Bench.{BenchGives, Gives, IfResponse, IsAnswered, JsonGives, SoundGives, first_request, json_of, lines_for}
 use Rattle.gql_cli.specs.BenchRecord.{AreAsked, BenchTask, IsDocumentRecord, IsQueryRecord, IsRecord}
 use Rattle.gql_schema.specs.declared.schema_error.SchemaError.{SchemaError}
@@ -61,7 +61,7 @@ module _ (answers : List ℕ → Option Value) where
   response-same document s t a b =
       let names = asks-same document a.names b.names a.selects.0 b.selects.0 in
       let chosen = chosen-same b.names a.chosen b.chosen (subst (λ ns. Chooses answers ns a.chosen) names a.chooses) b.chooses in
-      a.is ∙ ap response_line chosen ∙ sym b.is
+      a.is ∙ ap (λ pairs. response_line (data_response pairs)) chosen ∙ sym b.is
 
   answer-same : (query s t : List ℕ) → IsAnswerOf answers query s → IsAnswerOf answers query t → s ≡ t
   answer-same query s t (d, spelled, is) (e, spelled', is') =
@@ -73,7 +73,7 @@ module _ (answers : List ℕ → Option Value) where
 
 refusal-same : (query s t : List ℕ) → IsRefusalOf query s → IsRefusalOf query t → s ≡ t
 refusal-same query s t (f, faulty, is) (g, faulty', is') =
-    is ∙ ap (λ fault. refusal_line (error_of fault ∷ [])) (one_document_fault (chars query) f g faulty faulty') ∙ sym is'
+    is ∙ ap (λ fault. response_line (refusal (error_of fault ∷ []))) (one_document_fault (chars query) f g faulty faulty') ∙ sym is'
 
 -- two results are one, and where that is a response, so are their records
 abbrev AreOne : Written → Written → List RecordEntry → List RecordEntry → Type 0

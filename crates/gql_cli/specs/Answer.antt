@@ -3,8 +3,6 @@
 use Rattle.std.specs.Prelude.{◌≡◌, ℕ, List, [], ◌∷◌, ◌++◌, Option, Some, None, codes}
 use Rattle.std.specs.List.{AllZip}
 use Rattle.std.specs.Str.{chars}
-use Rattle.gql_base.specs.ErrorJson.{list_json, error_json}
-use Rattle.gql_base.specs.Json.{quoted, json}
 use Rattle.gql_base.specs.Pairs.{under}
 use Rattle.gql_base.specs.declared.server_error.ServerError.{ServerError}
 use Rattle.gql_base.specs.declared.value.Value.{Value}
@@ -14,6 +12,8 @@ use Rattle.gql_doc.specs.Spelled.{SpellsDocument, IsDocumentFault}
 use Rattle.gql_doc.specs.declared.document.ExecutableDocument.{ExecutableDocument}
 use Rattle.gql_doc.specs.declared.fault.ParseFault.{ParseFault}
 use Rattle.gql_form.specs.declared.bench_form.BenchForm.{BenchForm}
+use Rattle.gql_request.specs.Response.{response_json}
+use Rattle.gql_request.specs.declared.response.Response.{Response}
 use Rattle.gql_cli.specs.FirstBench.{IsFirstBench, constants}
 use Rattle.gql_cli.specs.Query.{Selects}
 use Rattle.gql_cli.specs.declared.first_bench.FirstBench.{FirstBench}
@@ -30,18 +30,18 @@ pub record HasChosen (answers : List ℕ → Option Value) (names : List (List �
   pub chosen : List (List ℕ × Value)
   pub chooses : Chooses answers names chosen
 
--- a member of the data
-abbrev pub shown : List ℕ × Value → List ℕ
-shown p = quoted p.0 ++ (codes ":" ++ json p.1)
+-- the response with this data alone: an object of these pairs (section 7.1)
+abbrev pub data_response : List (List ℕ × Value) → Response
+data_response chosen =
+    record { result = value.Object chosen; extensions = []; errors = []; headers = [] }
 
--- the JSON of a response with this data, and the end of its line (section 7.1)
-abbrev pub response_line : List (List ℕ × Value) → List ℕ
-response_line chosen = json (value.Object ((codes "data", value.Object chosen) ∷ [])) ++ codes "\n"
+-- the response without data and with these errors
+abbrev pub refusal : List ServerError → Response
+refusal errors = record { result = value.Null; extensions = []; errors = errors; headers = [] }
 
--- the JSON of a response without data and with these errors, and the end of its line
-abbrev pub refusal_line : List ServerError → List ℕ
-refusal_line errors =
-    codes "{\"data\":null,\"errors\":" ++ (list_json error_json errors ++ codes "}\n")
+-- the line of a response: its JSON, and the end of the line
+abbrev pub response_line : Response → List ℕ
+response_line response = response_json response ++ codes "\n"
 
 -- the error that tells of the fault of a text (section 7.1.2)
 abbrev pub error_of : ParseFault → ServerError
@@ -60,7 +60,7 @@ pub record IsResponse (answers : List ℕ → Option Value) (document : Executab
   pub selects : Selects document names
   pub chosen : List (List ℕ × Value)
   pub chooses : Chooses answers names chosen
-  pub is : text ≡ response_line chosen
+  pub is : text ≡ response_line (data_response chosen)
 
 -- the text that a query gives over what is answered under names
 abbrev pub IsAnswerOf : (List ℕ → Option Value) → List ℕ → List ℕ → Type 0
@@ -72,7 +72,7 @@ IsAnswerOf answers query text =
 abbrev pub IsRefusalOf : List ℕ → List ℕ → Type 0
 IsRefusalOf query text =
     (fault : ParseFault) × IsDocumentFault (chars query) fault
-    × (text ≡ refusal_line (error_of fault ∷ []))
+    × (text ≡ response_line (refusal (error_of fault ∷ [])))
 
 abbrev pub answers_of : FirstBench → List ℕ → Option Value
 answers_of first name = under name (constants first.fields)

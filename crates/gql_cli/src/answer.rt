@@ -1,20 +1,18 @@
 //! The answer of a first bench.
-ghost use Rattle.std.specs.Prelude.{◌≡◌, ◌++◌, ℕ, List, [], ◌∷◌, map, codes, IfOk, OnOk, IfSome};
-ghost use Rattle.std.specs.Prelude.{MatchOption, string_bytes};
-ghost use Rattle.gql_base.specs.Json.{json};
-ghost use Rattle.gql_base.specs.Separated.{separated};
-ghost use Rattle.gql_place.specs.declared.place.Tree.{out-Tree};
-ghost use Rattle.gql_cli.specs.Answer.{IsResponse, error_of, refusal_line, response_line, shown};
+ghost use Rattle.std.specs.Prelude.{◌≡◌, ℕ, List, ◌∷◌, [], IfOk, IfSome, MatchOption};
+ghost use Rattle.gql_cli.specs.Answer.{IsResponse, error_of, refusal, response_line};
 ghost use Rattle.gql_cli.specs.BenchAnswers.{bench_answers, IsSuited, IsSetOf};
 ghost use Rattle.gql_cli.specs.BenchRecord.{HasToldFor, bench_task};
-ghost use Rattle.gql_cli.specs.Shown.{data_of, members_here, shown_value, value_here};
+ghost use Rattle.gql_cli.specs.PlaceResponse.{response_at};
 
 use crate::execution::run_query;
+use crate::place_response::response_at;
 use crate::query::selected_names;
 use crate::tables::Bench;
-use gql_base::{Made, Pairs, ServerError, Text, push_comma, push_errors, push_json, push_name};
+use gql_base::{JsonText, Made, ServerError, Text};
 use gql_doc::{ExecutableDocument, ParseFault};
-use gql_place::{Place, Tree};
+use gql_place::Place;
+use gql_request::Response;
 use gql_resolve::ResolverSet;
 use std::alloc::Global;
 
@@ -48,59 +46,27 @@ pub(crate) fn response_of<S: ResolverSet<Own = i64>>(
 
 /// The line of the response that tells what is wrong with a text that is no document.
 pub(crate) fn refusal_of(alloc: Global, fault: ParseFault) -> Made<Text>
-    ensures { IfOk result (λ text. text ≡ refusal_line (error_of fault ∷ [])) }
+    ensures { IfOk result (λ text. text ≡ response_line (refusal (error_of fault ∷ []))) }
 {
     let error = ServerError::new(alloc, fault.message(), Some(fault.pos))?;
     let errors = error.into_list(alloc)?;
-    let mut out = String::from_str(alloc, "{\"data\":null,\"errors\":")?;
-    push_errors(&mut out, errors.as_slice())?;
-    out.push_str("}\n")?;
-    Ok(Text::from_string(out))
+    response_text(alloc, &Response::from_errors(alloc, errors))
 }
 
-/// The line of the response with the data of a place.
+/// The line of the response of a place.
 fn place_line(alloc: Global, place: &Place) -> Made<Text>
-    ensures { IfOk result (λ text. text ≡ response_line (data_of place.now)) }
+    ensures { IfOk result (λ text. text ≡ response_line (response_at place.now)) }
 {
-    let mut out = String::from_str(alloc, "{\"data\":{")?;
-    push_data(&mut out, &place.tree)?;
-    out.push_str("}}\n")?;
+    let response = response_at(alloc, place)?;
+    response_text(alloc, &response)
+}
+
+/// The line of a response.
+fn response_text(alloc: Global, response: &Response) -> Made<Text>
+    ensures { IfOk result (λ text. text ≡ response_line response.now) }
+{
+    let mut out = String::new(alloc);
+    response.push_text(&mut out)?;
+    out.push_str("\n")?;
     Ok(Text::from_string(out))
-}
-
-/// Appends the members of an object.
-fn push_data(out: &mut String, tree: &Tree) -> Made<()>
-    ensures { OnOk result (string_bytes out.new ≡ string_bytes out.old
-        ++ separated (codes ",")
-        (map (λ member. shown (shown_value member)) (members_here (out-Tree tree.now)))) }
-{
-    match tree {
-        Tree::Object(members) => push_places(out, members),
-        _ => Ok(()),
-    }
-}
-
-/// Appends the places of some keys, each under its key.
-fn push_places(out: &mut String, members: &Pairs<Place>) -> Made<()>
-    ensures { OnOk result (string_bytes out.new ≡ string_bytes out.old
-        ++ separated (codes ",") (map (λ member. shown (shown_value member)) members.now)) }
-{
-    for place in 0..members.len() {
-        let (key, member) = members.at(place);
-        push_comma(out, place)?;
-        push_name(out, key)?;
-        push_tree(out, &member.tree)?;
-    }
-    Ok(())
-}
-
-/// Appends what a place shows.
-fn push_tree(out: &mut String, tree: &Tree) -> Made<()>
-    ensures { OnOk result (string_bytes out.new ≡ string_bytes out.old
-        ++ json (value_here (out-Tree tree.now))) }
-{
-    match tree {
-        Tree::Leaf(value) => push_json(out, value),
-        _ => out.push_str("null"),
-    }
 }

@@ -3,12 +3,12 @@ ghost use Rattle.std.specs.Prelude.{◌≡◌, ℕ, List, [], Some, false, IfOk,
 ghost use Rattle.gql_base.specs.declared.value.Value.{Value as OneValue};
 ghost use Rattle.gql_doc.specs.declared.document.DocumentOperations.TheVariants as operations;
 ghost use Rattle.gql_resolve.specs.Call.{is_mutation};
-ghost use Rattle.gql_cli.specs.Answer.{Chooses};
+ghost use Rattle.gql_cli.specs.Answer.{Chooses, data_response};
 ghost use Rattle.gql_cli.specs.BenchAnswers.{bench_answers, bench_object, IsSuited, IsSetOf};
 ghost use Rattle.gql_cli.specs.BenchAnswers.{AnswersBy};
 ghost use Rattle.gql_cli.specs.BenchRecord.{BenchTask, AreAsked, HasTold, bench_task};
 ghost use Rattle.gql_cli.specs.Query.{AreDistinct, Asks, IsBareQuery, IsNamesQuery};
-ghost use Rattle.gql_cli.specs.Shown.{data_of};
+ghost use Rattle.gql_cli.specs.PlaceResponse.{response_at};
 ghost use Rattle.gql_cli.specs.Table.{table_delay};
 
 use crate::list_turns::ListTurns;
@@ -37,7 +37,7 @@ pub(crate) fn run_query<S: ResolverSet<Own = i64>>(
     ensures data { (names : List (List ℕ)) → Asks document names → AreDistinct names
         → (chosen : List (List ℕ × OneValue))
         → Chooses (bench_answers bench.now) names chosen
-        → IfOk result (λ place. data_of place ≡ chosen) }
+        → IfOk result (λ place. response_at place ≡ data_response chosen) }
     ensures record { (names : List (List ℕ)) → Asks document names → (tasks : List BenchTask)
         → AreAsked (bench_task bench.now) names tasks
         → OnOk result (HasTold (S.told set.new) bench.now.turns tasks) }
@@ -83,7 +83,7 @@ fn run_env<S: ResolverSet<Own = i64>>(
         → (names : List (List ℕ)) → IsBareQuery env.now.operation.node names → AreDistinct names
         → (chosen : List (List ℕ × OneValue))
         → Chooses (bench_answers bench.now) names chosen
-        → IfOk result (λ place. data_of place ≡ chosen) }
+        → IfOk result (λ place. response_at place ≡ data_response chosen) }
     ensures record { S.is_lawful set.old → S.is_paced set.old
         → ((resolver : ℕ)
         → S.delay (S.rules set.old) resolver ≡ table_delay bench.now.rules resolver)

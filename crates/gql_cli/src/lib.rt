@@ -8,6 +8,7 @@ mod first_bench;
 mod laws;
 mod list_turns;
 mod outcome;
+mod place_response;
 mod program;
 mod query;
 mod record_text;
@@ -26,6 +27,7 @@ pub use gql_io::{
 pub use laws::{limit_of_the_input, one_record_of_a_query, one_result_of_a_bench};
 pub use list_turns::ListTurns;
 pub use outcome::Outcome;
+pub use place_response::response_at;
 pub use program::{run, run_alone};
 pub use rule::{Rule, RuleKind};
 pub use status::Status;

@@ -4,6 +4,8 @@
 #[cfg(test)]
 mod record_tests;
 #[cfg(test)]
+mod response_tests;
+#[cfg(test)]
 mod runs;
 #[cfg(test)]
 mod schema_tests;

@@ -2,17 +2,17 @@ use Rattle.std.proofs.Common.{ℤ, [], Some, ap, ◌∙◌}
 use Rattle.gql_engine.specs.Apart.{Asked}
 use Rattle.gql_engine.specs.Parts.{due_by}
 use Rattle.gql_request.specs.declared.query_env.QueryEnv.{QueryEnv}
-use Rattle.gql_cli.specs.Shown.{data_of}
+use Rattle.gql_cli.specs.PlaceResponse.{response_at}
 use Rattle.gql_cli.proofs.RecordLemmas.{told-record}
-use Rattle.gql_cli.proofs.ShownLemmas.{response-data}
+use Rattle.gql_cli.proofs.ShownLemmas.{response-is}
 use Rattle.gql_cli.proofs.execution.run_env.Goals as goal
 
 pub returns-in-Ok : goal.returns-in-Ok
 returns-in-Ok g c =
     record {
       «data» = λ lawful by names asks distinct chosen chooses.
-          ap data_of (c.in-Ok.ensures.places lawful)
-          ∙ response-data c.args.bench.now c.requires.suited c.scene_of-scene.result c.scene_of-scene.ensures.object
+          ap response_at (c.in-Ok.ensures.places lawful)
+          ∙ response-is c.args.bench.now c.requires.suited c.scene_of-scene.result c.scene_of-scene.ensures.object
           (λ call. g.S.ResolverSet.answer (g.S.ResolverSet.rules c.args.set.now) call (g.S.ResolverSet.world c.args.set.now)) by
           c.args.env.now.operation.node (ap (λ (env : QueryEnv). env.operation.node) c.scene_of-scene.ensures.env) names chosen asks distinct chooses;
       «record» = λ lawful paced delays told names asks tasks asked.
