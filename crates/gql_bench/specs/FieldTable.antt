@@ -25,7 +25,12 @@ arguments_behind earlier (form ∷ forms) =
 -- a field of an object, whose resolver has this number
 abbrev pub field_in : ℕ → List ℕ → FieldForm → Field
 field_in number name form =
-    record { name = name; ty = form.ty; resolver = number; arguments = arguments_behind [] form.args }
+    record {
+      name = name;
+      ty = form.ty;
+      resolver = number;
+      arguments = arguments_behind [] form.args;
+    }
 
 -- a field that an interface promises; its place tells nothing
 abbrev pub promised_in : ℕ → List ℕ → InterfaceFieldForm → InterfaceField

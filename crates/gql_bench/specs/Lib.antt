@@ -1,3 +1,11 @@
+pub mod Bench
 pub mod FieldTable
-pub mod TypeTable
+pub mod FirstBench
+pub mod Found
+pub mod ListTurns
+pub mod RecordText
+pub mod Rule
 pub mod SchemaTable
+pub mod Table
+pub mod TableMaker
+pub mod TypeTable

@@ -52,7 +52,11 @@ enum_in form = record { name = form.name; items = with_names [] form.items }
 
 abbrev pub input_object_in : InputForm → InputObject
 input_object_in form =
-    record { name = form.name; fields = fields_behind input_in [] 0 form.fields; oneof = form.oneof }
+    record {
+      name = form.name;
+      fields = fields_behind input_in [] 0 form.fields;
+      oneof = form.oneof;
+    }
 
 -- without a rule every value is taken
 abbrev pub rule_in : Option ScalarRule → ScalarRule

@@ -1,32 +1,21 @@
 -- A bench is one first bench, and what a bench's request gives, the bytes give.
-use Rattle.std.proofs.Common.{◌≡◌, ◌⊎◌, ℕ, List, [], ◌∷◌, Option, Some, None, Result, Ok, Err, IfOk, inl, inr, refl, ap, sym, ◌∙◌, subst}
+use Rattle.std.proofs.Common.{◌≡◌, ℕ, List, [], Some, Result, Ok, Err, IfOk, inl, inr, ap, sym, ◌∙◌, subst}
 use Rattle.serde_json.specs.Data.{Data}
-use Rattle.gql_form.specs.BenchForm.{form_in}
 use Rattle.gql_form.specs.declared.bench_form.BenchForm.{BenchForm}
-use Rattle.gql_form.specs.declared.command.Command.{Command as FormCommand}
 use Rattle.gql_resolve.specs.declared.record_entry.RecordEntry.{RecordEntry}
 use Rattle.gql_cli.specs.Answer.{IsAnswerOf, IsRefusalOf, answers_of}
-use Rattle.gql_cli.specs.Bench.{json_of, bench_request, first_request, BenchGives, Gives, JsonGives, QueryGives, SoundGives, WithRecord}
-use Rattle.gql_cli.specs.BenchAnswers.{IsBenchOf, IsSuited}
-use Rattle.gql_bench.specs.SchemaTable.{full_table, whole_table}
-use Rattle.gql_cli.specs.FirstBench.{IsFirstBench, IsNoFirstBench, first_in}
-use Rattle.gql_cli.specs.SchemaFault.{HasSoundTypes, schema_line}
-use Rattle.gql_cli.specs.Shape.{HasTables, IsBadAt, IsFound, IsFoundOf, IsNotBuilt, IsReadAs, IsRefusedAs, form_command}
-use Rattle.gql_cli.specs.Tables.{IsMadeOf, IsTableOf}
-use Rattle.gql_cli.specs.declared.bench.Command.{Command}
-use Rattle.gql_cli.specs.declared.bench.Found.{Found}
-use Rattle.gql_cli.specs.declared.bench.Found.TheVariants as found
-use Rattle.gql_cli.specs.declared.bench.Written.{Written}
-use Rattle.gql_cli.specs.declared.bench.Written.TheVariants.{Answered, Refused, NotJson, BadShape, BadSchema, NotBuilt}
-use Rattle.gql_cli.specs.declared.first_bench.FirstBench.{FirstBench}
-use Rattle.gql_cli.specs.declared.tables.Bench.{Bench}
-use Rattle.gql_cli.proofs.FirstLemmas.{first-taken}
+use Rattle.gql_cli.specs.Written.{json_of, bench_request, first_request, BenchGives, Gives, JsonGives, QueryGives, SoundGives, WithRecord, schema_line}
+use Rattle.gql_bench.specs.Found.{HasTables, IsNotBuilt, IsReadAs, IsRefusedAs}
+use Rattle.gql_bench.specs.Bench.{IsTableOf}
+use Rattle.gql_bench.specs.FirstBench.{IsFirstBench, first_in}
+use Rattle.gql_cli.specs.Command.{form_command}
+use Rattle.gql_cli.specs.declared.command.Command.{Command}
+use Rattle.gql_cli.specs.declared.written.Written.{Written}
+use Rattle.gql_cli.specs.declared.written.Written.TheVariants.{Answered, Refused, NotJson, BadShape, BadSchema, NotBuilt}
+use Rattle.gql_bench.specs.declared.first_bench.FirstBench.{FirstBench}
+use Rattle.gql_bench.specs.declared.bench.Bench.{Bench}
 use Rattle.gql_cli.proofs.RecordLemmas.{first-task}
-use Rattle.gql_cli.proofs.RootLemmas.{tables-of}
-use Rattle.gql_schema.specs.Finished.{KeepsOthers}
-use Rattle.gql_schema.specs.Table.{types_of}
-use Rattle.gql_schema.specs.declared.types.Types.{Types}
-use Rattle.gql_cli.proofs.TablesLemmas.{table-answers}
+use Rattle.gql_bench.proofs.TablesLemmas.{table-answers}
 
 pub some-same : {A : Type 0} {x y : A} → Some x ≡ Some y → x ≡ y
 some-same same = cc
@@ -61,7 +50,7 @@ form-gives command form first is (BadShape line) entries gives = gives
 form-gives command form first is (BadSchema line) entries gives = gives
 
 -- what a bench gives, the JSON value that is read as it gives
-read-as-gives : (command : Command) (json : Data) (form : BenchForm) → IsReadAs command json form → (written : Written) (entries : List RecordEntry)
+read-as-gives : (command : Command) (json : Data) (form : BenchForm) → IsReadAs (form_command command) json form → (written : Written) (entries : List RecordEntry)
     → BenchGives command form written entries → JsonGives command json written entries
 read-as-gives command json form read (BadSchema line) entries gives = (form, read, gives)
 read-as-gives command json form read (Answered text) entries gives = (form, read, gives)
@@ -72,7 +61,7 @@ read-as-gives command json form read (BadShape line) entries (inl (text, refused
 read-as-gives command json form read (BadShape line) entries (inr (sound, never)) = absurd never
 
 -- what the request of a bench's tables gives, the JSON value of the bench gives
-pub made-gives : {E : Type 0} (Told : List RecordEntry → Type 0) (command : Command) (json : Data) (bench : Bench) → HasTables command json bench
+pub made-gives : {E : Type 0} (Told : List RecordEntry → Type 0) (command : Command) (json : Data) (bench : Bench) → HasTables (form_command command) json bench
     → (written : Result Written E) → IfOk written (WithRecord (QueryGives command (bench_request bench)) Told)
     → IfOk written (WithRecord (JsonGives command json) Told)
 made-gives Told command json bench (form, read, made) (Ok written) (entries, gives, told) =
@@ -82,12 +71,12 @@ made-gives Told command json bench (form, read, made) (Ok written) (entries, giv
 made-gives Told command json bench has (Err want) gives = gives
 
 -- a bench that isn't built has no answer
-pub no-bench : (command : Command) (json : Data) → IsNotBuilt command json → JsonGives command json NotBuilt []
+pub no-bench : (command : Command) (json : Data) → IsNotBuilt (form_command command) json → JsonGives command json NotBuilt []
 no-bench command json (form, read, (sound, none)) =
     (form, read, inr (sound, (λ text (first, is, answer). none first is, λ text (first, is, refusal). none first is)))
 
 -- a bench whose schema is refused gives the line that tells why
-pub bad-schema : (command : Command) (json : Data) (text line : List ℕ) → IsRefusedAs command json text → line ≡ schema_line text
+pub bad-schema : (command : Command) (json : Data) (text line : List ℕ) → IsRefusedAs (form_command command) json text → line ≡ schema_line text
     → JsonGives command json (BadSchema line) []
 bad-schema command json text line (form, read, refused) is = (form, read, inl (text, refused, ap BadSchema is))
 
@@ -107,44 +96,3 @@ pub read-gives : {E : Type 0} (Told : List RecordEntry → Type 0) (command : Co
 read-gives Told command bytes json is (Ok written) (entries, gives, told) =
     (entries, bytes-give command bytes json is written entries gives, told)
 read-gives Told command bytes json is (Err want) gives = gives
-
--- what is made of a first bench over the types of its schema is the tables of the bench
-pub bench-found : (form : BenchForm) (first : FirstBench) (types : Types) (bench : Bench) → Some first ≡ first_in form
-    → types_of types ≡ whole_table form.setup.schema → HasSoundTypes form → KeepsOthers (full_table form.setup.schema) (types_of types)
-    → IsMadeOf first types bench → IsBenchOf form bench
-bench-found form first types bench is table sound kept made = record {
-  first = first;
-  is = sym is;
-  types = ap types_of made.types ∙ table;
-  sound = sound;
-  request = made.request;
-  tabled = tables-of form first types bench (sym is) kept made;
-}
-
--- a bench without a first bench is none
-pub none-found : (form : BenchForm) → None ≡ first_in form → IsNoFirstBench form
-none-found form none first is = let wrong : None ≡ Some first = none ∙ is in cc
-
--- the tables of a bench are suited: the constants are of their fields' types
-pub suited : (command : Command) (json : Data) (bench : Bench) → HasTables command json bench → IsSuited bench
-suited command json bench (form, read, made) =
-    record { first = made.first; tabled = made.tabled; taken = first-taken form made.first made.is }
-
--- a JSON value is read as a bench by the command that is a command's own
-pub read-by : (by : FormCommand) (command : Command) (json : Data) (form : BenchForm) → by ≡ form_command command → Ok form ≡ form_in by json
-    → IsReadAs command json form
-read-by by command json form same read = sym (read ∙ ap (λ b. form_in b json) same)
-
--- the same of a bad place
-pub bad-by : (by : FormCommand) (command : Command) (json : Data) (place : List ℕ) → by ≡ form_command command → Err place ≡ form_in by json
-    → IsBadAt command json place
-bad-by by command json place same read = sym (read ∙ ap (λ b. form_in b json) same)
-
--- what a bench is found to be, a JSON value is found to be that is read as it
-pub found-read : {E : Type 0} (command : Command) (json : Data) (form : BenchForm) → IsReadAs command json form → (made : Result Found E)
-    → IfOk made (IsFoundOf form) → IfOk made (IsFound command json)
-found-read command json form read (Ok (found.Bench bench)) is = (form, read, is)
-found-read command json form read (Ok (found.BadAt place)) is = absurd is
-found-read command json form read (Ok (found.BadSchema text)) is = (form, read, is)
-found-read command json form read (Ok found.NotBuilt) is = (form, read, is)
-found-read command json form read (Err want) is = is

@@ -10,13 +10,13 @@ use Rattle.gql_schema.specs.Object.{fields_of}
 use Rattle.gql_schema.specs.Table.{types_of}
 use Rattle.gql_schema.specs.declared.field.Field.{Field}
 use Rattle.gql_schema.specs.declared.object.Object.{Object}
-use Rattle.gql_cli.specs.BenchAnswers.{bench_answers, bench_object, IsSuited}
-use Rattle.gql_cli.specs.FirstBench.{Takes, AreTaken}
-use Rattle.gql_cli.specs.Tables.{constant_of, field_constant, object_under, rule_of, entry_of, entries}
-use Rattle.gql_cli.specs.declared.first_bench.FirstField.{FirstField}
-use Rattle.gql_cli.specs.declared.rule.Rule.{Rule}
-use Rattle.gql_cli.specs.declared.tables.Bench.{Bench}
-use Rattle.gql_cli.proofs.TablesLemmas.{slice_get-at}
+use Rattle.gql_bench.specs.Bench.{bench_answers, bench_object, IsSuited, field_constant, object_under, entry_of, entries}
+use Rattle.gql_bench.specs.FirstBench.{Takes, AreTaken}
+use Rattle.gql_bench.specs.Rule.{constant_of, rule_of}
+use Rattle.gql_bench.specs.declared.first_bench.FirstField.{FirstField}
+use Rattle.gql_bench.specs.declared.rule.Rule.{Rule}
+use Rattle.gql_bench.specs.declared.bench.Bench.{Bench}
+use Rattle.gql_bench.proofs.TablesLemmas.{slice_get-at}
 
 -- a field of the first bench that an entry of the table is
 pub record IsEntry (rules : List Rule) (ty : TypeRef) (number : ℕ) : Type 0 where

@@ -9,17 +9,17 @@ use Rattle.gql_form.specs.declared.bench_form.BenchForm.{BenchForm}
 use Rattle.gql_doc.proofs.ParseLaws.{one_document, one_document_fault, never_both}
 use Rattle.gql_resolve.specs.declared.record_entry.RecordEntry.{RecordEntry}
 use Rattle.gql_cli.specs.Answer.{Chooses, IsAnswerOf, IsRefusalOf, IsResponse, error_of, data_response, refusal, response_line}
-use Rattle.gql_cli.specs.Bench.{BenchGives, Gives, IfResponse, IsAnswered, JsonGives, SoundGives, first_request, json_of, lines_for}
+use Rattle.gql_cli.specs.Written.{BenchGives, Gives, IfResponse, IsAnswered, JsonGives, SoundGives, first_request, json_of, lines_for, schema_line, IsBadShape, shape_line}
 use Rattle.gql_cli.specs.BenchRecord.{AreAsked, BenchTask, IsDocumentRecord, IsQueryRecord, IsRecord}
 use Rattle.gql_schema.specs.declared.schema_error.SchemaError.{SchemaError}
 use Rattle.gql_bench.specs.SchemaTable.{whole_table}
 use Rattle.gql_bench.proofs.RefusalLemmas.{never-sound, one-refusal}
-use Rattle.gql_cli.specs.SchemaFault.{schema_line}
-use Rattle.gql_cli.specs.Shape.{IsBadShape, IsReadAs, form_command, shape_line}
-use Rattle.gql_cli.specs.declared.bench.Command.{Command}
-use Rattle.gql_cli.specs.declared.bench.Written.{Written}
-use Rattle.gql_cli.specs.declared.bench.Written.TheVariants.{Answered, Refused, NotJson, BadShape, BadSchema, NotBuilt}
-use Rattle.gql_cli.specs.declared.first_bench.FirstBench.{FirstBench}
+use Rattle.gql_bench.specs.Found.{IsReadAs}
+use Rattle.gql_cli.specs.Command.{form_command}
+use Rattle.gql_cli.specs.declared.command.Command.{Command}
+use Rattle.gql_cli.specs.declared.written.Written.{Written}
+use Rattle.gql_cli.specs.declared.written.Written.TheVariants.{Answered, Refused, NotJson, BadShape, BadSchema, NotBuilt}
+use Rattle.gql_bench.specs.declared.first_bench.FirstBench.{FirstBench}
 use Rattle.gql_cli.proofs.BenchLemmas.{first-same, some-same}
 use Rattle.gql_cli.proofs.QueryLemmas.{asks-same}
 use Rattle.gql_cli.proofs.RecordLemmas.{one-record}
@@ -135,14 +135,14 @@ module _ (command : Command) where
       absurd (never-sound (whole_table form.setup.schema) f refusal sound)
   bench-same form one other entries others (inr (sound, a)) (inr (sound', b)) = sound-same form one other entries others a b
 
-  never-both : (json : Data) (s : List ℕ) → IsBadShape command json s → (form : BenchForm) → IsReadAs command json form → ⊥
+  never-both : (json : Data) (s : List ℕ) → IsBadShape command json s → (form : BenchForm) → IsReadAs (form_command command) json form → ⊥
   never-both json s (place, bad, is) form read = let wrong : Err place ≡ Ok form = sym bad ∙ read in cc
 
-  read-same : (json : Data) (form other : BenchForm) → IsReadAs command json form → IsReadAs command json other → form ≡ other
+  read-same : (json : Data) (form other : BenchForm) → IsReadAs (form_command command) json form → IsReadAs (form_command command) json other → form ≡ other
   read-same json form other one two = let both : Ok form ≡ Ok other = sym one ∙ two in cc
 
   -- what a JSON value gives as a bench, where it is read as one
-  read-gives : (json : Data) (form : BenchForm) → IsReadAs command json form → (written : Written) (entries : List RecordEntry)
+  read-gives : (json : Data) (form : BenchForm) → IsReadAs (form_command command) json form → (written : Written) (entries : List RecordEntry)
       → JsonGives command json written entries → BenchGives command form written entries
   read-gives json form read (BadShape s) entries bad = absurd (never-both json s bad form read)
   read-gives json form read (Answered s) entries (other, also, gives) =

@@ -1,22 +1,21 @@
 -- The response of places at which values stand.
-use Rattle.std.proofs.Common.{rules, ◌≡◌, ◌⊎◌, ℕ, false, List, [], ◌∷◌, ◌++◌, map, Option, Some, inl, inr, refl, ap, sym, ◌∙◌, subst}
+use Rattle.std.proofs.Common.{rules, ◌≡◌, ℕ, false, List, [], ◌∷◌, ◌++◌, map, Some, option_map, inl, inr, refl, ap, sym, ◌∙◌, subst}
+use Rattle.std.specs.Prelude.{unwrap_or}
 use Rattle.std.specs.List.{AllZip, flat_map, zip}
 use Rattle.gql_base.specs.Pairs.{names_of, values_of}
 use Rattle.gql_base.specs.declared.path_segment.PathSegment.{PathSegment}
 use Rattle.gql_base.specs.declared.path_segment.PathSegment.TheVariants.{Field}
 use Rattle.gql_base.specs.declared.pos.Pos.{Pos}
-use Rattle.gql_base.specs.declared.server_error.ServerError.{ServerError}
 use Rattle.gql_base.specs.declared.value.Value.{Value}
 use Rattle.gql_base.specs.declared.value.Value.TheVariants as value
-use Rattle.gql_place.specs.Faults.{faults_at, faults_of, member_faults}
-use Rattle.gql_place.specs.HeaderOps.{ops_of}
-use Rattle.gql_place.specs.Raised.{all_items, member_values, raised, value_at, with_first}
+use Rattle.gql_place.specs.Faults.{faults_at, faults_of, member_faults, tree_faults}
+use Rattle.gql_place.specs.HeaderOps.{ops_of, tree_ops}
+use Rattle.gql_place.specs.Raised.{all_items, member_values, null_if, raised, tree_value, value_at, with_first}
 use Rattle.gql_place.specs.declared.place.Place.{Place}
 use Rattle.gql_place.specs.declared.place.Tree.{Tree, the_lemmas as tree_lemmas}
 use Rattle.gql_place.specs.declared.place.Tree.TheVariants as tree
-use Rattle.gql_place.proofs.PartLemmas.{members_there}
+use Rattle.gql_place.proofs.PartLemmas.{members_there, ops_of_object}
 use Rattle.gql_request.specs.declared.header_op.HeaderOp.{HeaderOp}
-use Rattle.gql_request.specs.declared.response.Response.{Response}
 use Rattle.gql_cli.specs.Answer.{data_response}
 use Rattle.gql_cli.specs.PlaceResponse.{response_at}
 use Rattle.gql_cli.proofs.ResponseLemmas.{Stands}
@@ -31,21 +30,32 @@ pub record IsPlain (place : Place) (shows : Value) : Type 0 where
   pub faultless : (path : List PathSegment) → faults_at place path ≡ []
   pub bare : ops_of place ≡ []
 
+value-alone : (pos : Pos) (t : Tree) → value_at (alone pos t) ≡ null_if false (tree_value t)
+value-alone pos t = search (rules, tree_lemmas)
+
+faults-alone : (pos : Pos) (t : Tree) (path : List PathSegment) → faults_at (alone pos t) path ≡ tree_faults t pos path
+faults-alone pos t path = search (rules, tree_lemmas)
+
+ops-alone : (pos : Pos) (t : Tree) → ops_of (alone pos t) ≡ tree_ops t
+ops-alone pos t = search (rules, tree_lemmas)
+
+-- what a tree is that raises to a value, and has no errors and no header operations
+tree-plain : (pos : Pos) (t : Tree) (v : Value) → tree_value t ≡ Some v → ((path : List PathSegment) → tree_faults t pos path ≡ []) → tree_ops t ≡ []
+    → IsPlain (alone pos t) v
+tree-plain pos t v raises faultless bare =
+    record {
+      raises = value-alone pos t ∙ ap (null_if false) raises;
+      faultless = λ path. faults-alone pos t path ∙ faultless path;
+      bare = ops-alone pos t ∙ bare;
+    }
+
 leaf-plain : (pos : Pos) (v : Value) → IsPlain (alone pos (tree.Leaf v)) v
 leaf-plain pos v =
-    record {
-      raises = search (rules, tree_lemmas);
-      faultless = λ path. search (rules, tree_lemmas);
-      bare = search (rules, tree_lemmas);
-    }
+    tree-plain pos (tree.Leaf v) v (search (rules, tree_lemmas)) (λ path. search (rules, tree_lemmas)) (search (rules, tree_lemmas))
 
 absent-plain : (pos : Pos) → IsPlain (alone pos tree.Absent) value.Null
 absent-plain pos =
-    record {
-      raises = search (rules, tree_lemmas);
-      faultless = λ path. search (rules, tree_lemmas);
-      bare = search (rules, tree_lemmas);
-    }
+    tree-plain pos tree.Absent value.Null (search (rules, tree_lemmas)) (λ path. search (rules, tree_lemmas)) (search (rules, tree_lemmas))
 
 -- a place at which a value stands
 pub stands-plain : (pos : Pos) (t : Tree) (v : Value) → Stands t v → IsPlain (alone pos t) v
@@ -96,15 +106,23 @@ ops-shown (m ∷ ms) [] shown = absurd shown
 ops-shown (m ∷ ms) (p ∷ ps) (here, shown) =
     ap (λ (first : List HeaderOp). first ++ flat_map {X = List ℕ × Place} (λ m. ops_of m.1) ms) here.1.bare ∙ ops-shown ms ps shown
 
+object-values : (ms : List (List ℕ × Place)) → tree_value (tree.Object ms) ≡ option_map value.Object (member_values ms)
+object-values ms = search (rules, tree_lemmas)
+
+object-faults : (pos : Pos) (ms : List (List ℕ × Place)) (path : List PathSegment) → tree_faults (tree.Object ms) pos path ≡ member_faults ms path
+object-faults pos ms path = search (rules, tree_lemmas)
+
 raised-object : (pos : Pos) (ms : List (List ℕ × Place)) (ps : List (List ℕ × Value)) → member_values ms ≡ Some ps
     → raised (alone pos (tree.Object ms)) ≡ value.Object ps
-raised-object pos ms ps values = search (rules, tree_lemmas, values)
+raised-object pos ms ps values =
+    ap (λ found. unwrap_or found value.Null)
+    (value-alone pos (tree.Object ms) ∙ ap (null_if false) (object-values ms ∙ ap (option_map value.Object) values))
 
 faults-object : (pos : Pos) (ms : List (List ℕ × Place)) → faults_of (alone pos (tree.Object ms)) ≡ member_faults ms []
-faults-object pos ms = search (rules, tree_lemmas)
+faults-object pos ms = faults-alone pos (tree.Object ms) [] ∙ object-faults pos ms []
 
 ops-object : (pos : Pos) (ms : List (List ℕ × Place)) → ops_of (alone pos (tree.Object ms)) ≡ flat_map {X = List ℕ × Place} (λ m. ops_of m.1) ms
-ops-object pos ms = search (rules, tree_lemmas)
+ops-object pos ms = ops-alone pos (tree.Object ms) ∙ ops_of_object ms
 
 -- the response of an object of such places
 pub object-response : (pos : Pos) (ms : List (List ℕ × Place)) (ps : List (List ℕ × Value)) → AreShown ms ps

@@ -15,7 +15,7 @@ use Rattle.gql_doc.specs.Depth.{Fragments, deep_from, field_set, if_any, selecti
 use Rattle.gql_doc.specs.First.{first_in}
 use Rattle.gql_doc.specs.declared.document.DocumentOperations.TheVariants as operations
 use Rattle.gql_cli.specs.Query.{IsBare, IsNamesQuery, Asks, bare}
-use Rattle.gql_cli.proofs.TablesLemmas.{distinct-more, distinct-never}
+use Rattle.gql_bench.proofs.TablesLemmas.{distinct-more, distinct-never}
 
 bare-same : (selection : Positioned Selection) (m n : List ℕ) → IsBare selection m → IsBare selection n → m ≡ n
 bare-same selection m n first second =

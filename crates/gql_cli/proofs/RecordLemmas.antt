@@ -29,19 +29,19 @@ use Rattle.gql_engine.specs.Record.{Choice, Mark, untold, ready, Story, Made, St
 use Rattle.gql_engine.specs.declared.scene.Scene.{Scene}
 use Rattle.gql_engine.proofs.RunLemmas.{tasks_stay}
 use Rattle.gql_engine.proofs.TurnLemmas.{staged}
-use Rattle.gql_cli.specs.BenchAnswers.{bench_object}
+use Rattle.gql_bench.specs.Bench.{bench_object, object_under, entry_of, entries, IsTableOf}
 use Rattle.gql_cli.specs.BenchRecord.{BenchTask, IsRecord, AreAsked, HasTold, story, tasks_from, first_task, task_with, bench_task}
-use Rattle.gql_cli.specs.ListTurns.{list_turns}
+use Rattle.gql_bench.specs.ListTurns.{list_turns}
 use Rattle.gql_doc.specs.Depth.{selections_of}
 use Rattle.gql_cli.specs.Query.{HasOnlyName, IsBare, IsBareQuery}
-use Rattle.gql_cli.specs.Table.{rule_delay, table_delay}
-use Rattle.gql_cli.specs.Tables.{object_under, rule_of, entry_of, entries, IsTableOf}
-use Rattle.gql_cli.specs.declared.first_bench.FirstBench.{FirstBench}
-use Rattle.gql_cli.specs.declared.first_bench.FirstField.{FirstField}
-use Rattle.gql_cli.specs.declared.rule.Rule.{Rule}
-use Rattle.gql_cli.specs.declared.tables.Bench.{Bench}
+use Rattle.gql_bench.specs.Rule.{rule_delay, rule_of}
+use Rattle.gql_bench.specs.Table.{table_delay}
+use Rattle.gql_bench.specs.declared.first_bench.FirstBench.{FirstBench}
+use Rattle.gql_bench.specs.declared.first_bench.FirstField.{FirstField}
+use Rattle.gql_bench.specs.declared.rule.Rule.{Rule}
+use Rattle.gql_bench.specs.declared.bench.Bench.{Bench}
 use Rattle.gql_cli.proofs.ShownLemmas.{key-is, occurrences, asked-more}
-use Rattle.gql_cli.proofs.TablesLemmas.{slice_get-at}
+use Rattle.gql_bench.proofs.TablesLemmas.{slice_get-at}
 
 -- tasks that are read through a function, with the marks that they have
 abbrev made_with : {Task : Type 0} → List Task → List Mark → Made Task

@@ -1,13 +1,11 @@
--- The lines of a record, and an answer behind them.
-use Rattle.std.proofs.Common.{◌≡◌, ℕ, ◌+◌, ◌<◌, List, [], ◌∷◌, ◌++◌, take, length, get_or, Option, Some, Result, Ok, Err, IfOk, IfSome, MatchOption, ap, sym, ◌∙◌, subst}
-use Rattle.std.proofs.lemmas.List.{take_more, flat_map_more}
+-- An answer behind the lines of a record.
+use Rattle.std.proofs.Common.{◌≡◌, ◌+◌, List, [], ◌++◌, Option, Some, Result, Ok, Err, IfOk, IfSome, MatchOption, sym, subst}
 use Rattle.gql_resolve.specs.declared.record_entry.RecordEntry.{RecordEntry}
-use Rattle.gql_cli.specs.Bench.{Request, behind, lines_for, HoldsTold, QueryGives, WithRecord}
-use Rattle.gql_cli.specs.BenchRecord.{entry_line, record_lines}
-use Rattle.gql_cli.specs.declared.bench.Command.{Command}
-use Rattle.gql_cli.specs.declared.bench.Command.TheVariants.{Execute}
-use Rattle.gql_cli.specs.declared.bench.Written.{Written}
-use Rattle.gql_cli.specs.declared.bench.Written.TheVariants.{Answered, Refused, NotJson, BadSchema, BadShape, NotBuilt}
+use Rattle.gql_cli.specs.Written.{Request, behind, lines_for, HoldsTold, QueryGives, WithRecord}
+use Rattle.gql_cli.specs.declared.command.Command.{Command}
+use Rattle.gql_cli.specs.declared.command.Command.TheVariants.{Execute}
+use Rattle.gql_cli.specs.declared.written.Written.{Written}
+use Rattle.gql_cli.specs.declared.written.Written.TheVariants.{Answered, Refused, NotJson, BadSchema, BadShape, NotBuilt}
 
 -- an answer over a set, behind the lines of what that set told while it is held
 pub answer-behind : {S : Type 0} (told : S → Option (List RecordEntry)) (set : S) (shown : List RecordEntry) (command : Command) (request : Request)
@@ -44,10 +42,3 @@ made_behind {S} told held set is shown command request answer shows gives (Ok wr
     subst (λ (h : Option S). WithRecord (QueryGives command request) (HoldsTold h told) written) (sym is)
     (subst (λ (w : Written). WithRecord (QueryGives command request) (HoldsTold (Some set) told) w) (sym same)
     (answer-behind told set shown command request answer shown_by gives))
-
--- one more line
-pub lines-more : (entries : List RecordEntry) (i : ℕ) (entry : RecordEntry) (first old new : List ℕ) → i < length entries → entry ≡ get_or entries i entry
-    → old ≡ first ++ record_lines (take i entries) → new ≡ old ++ entry_line entry → new ≡ first ++ record_lines (take (i + 1) entries)
-lines-more entries i entry first old new within at so_far more =
-    more ∙ ap (λ bytes. bytes ++ entry_line entry) so_far ∙ flat_map_more entry_line first (take i entries) entry
-    ∙ ap (λ es. first ++ record_lines es) (sym (take_more entries i entry within ∙ ap (λ e. take i entries ++ e ∷ []) (sym at)))

@@ -11,7 +11,7 @@ use Rattle.gql_resolve.specs.declared.field_value.FieldValue.TheVariants as give
 use Rattle.gql_engine.specs.Completion.{completed, leaf_at, takes, fault, no_scalar}
 use Rattle.gql_place.specs.declared.place.Tree.{Tree}
 use Rattle.gql_place.specs.declared.place.Tree.TheVariants as tree
-use Rattle.gql_cli.specs.FirstBench.{Takes, is_first_type}
+use Rattle.gql_bench.specs.FirstBench.{Takes, is_first_type}
 
 -- a value stands there, or nothing where it is null
 abbrev pub Stands : Tree → Value → Type 0

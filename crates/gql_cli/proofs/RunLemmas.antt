@@ -3,13 +3,14 @@
 use Rattle.std.proofs.Common.{◌≡◌, ◌⊎◌, ℕ, ◌≤◌, ◌<◌, List, [], length, Option, Some, None, inl, inr, refl, ap, sym, ◌∙◌, subst, arith}
 use Rattle.std.specs.Prelude.{IfSome}
 use Rattle.gql_resolve.specs.declared.record_entry.RecordEntry.{RecordEntry}
-use Rattle.gql_cli.specs.Bench.{Gives, IfResponse}
+use Rattle.gql_cli.specs.Written.{Gives, IfResponse}
 use Rattle.gql_io.specs.Counts.{HasRisen}
-use Rattle.gql_cli.specs.Run.{HasRun, IsDue, IsListed, IsCutOff, due_status, due_text, words_for}
-use Rattle.gql_cli.specs.declared.bench.Command.{Command}
-use Rattle.gql_cli.specs.declared.bench.Command.TheVariants.{Execute, Record}
-use Rattle.gql_cli.specs.declared.bench.Written.{Written}
-use Rattle.gql_cli.specs.declared.bench.Written.TheVariants.{Answered, Refused, NotJson, BadShape, BadSchema, NotBuilt}
+use Rattle.gql_cli.specs.Run.{HasRun, IsDue, IsListed, IsCutOff, due_status, due_text}
+use Rattle.gql_cli.specs.Command.{words_for}
+use Rattle.gql_cli.specs.declared.command.Command.{Command}
+use Rattle.gql_cli.specs.declared.command.Command.TheVariants.{Execute, Record}
+use Rattle.gql_cli.specs.declared.written.Written.{Written}
+use Rattle.gql_cli.specs.declared.written.Written.TheVariants.{Answered, Refused, NotJson, BadShape, BadSchema, NotBuilt}
 use Rattle.gql_cli.specs.declared.outcome.Outcome.{Outcome}
 use Rattle.gql_cli.specs.declared.outcome.Outcome.TheVariants.{Usage, ReadFault, TooLong, Bench}
 use Rattle.gql_io.specs.Limits.{input_limit}

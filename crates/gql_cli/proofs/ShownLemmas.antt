@@ -26,14 +26,14 @@ use Rattle.gql_place.specs.declared.place.Tree.TheVariants as tree
 use Rattle.gql_resolve.specs.declared.field_value.FieldValue.TheVariants as given
 use Rattle.gql_engine.specs.declared.scene.Scene.{Scene}
 use Rattle.gql_cli.specs.Answer.{Chooses, data_response}
-use Rattle.gql_cli.specs.BenchAnswers.{bench_answers, bench_object, IsSuited, AnswersBy}
+use Rattle.gql_bench.specs.Bench.{bench_answers, bench_object, IsSuited}
+use Rattle.gql_bench.specs.TableMaker.{AnswersBy}
 use Rattle.gql_doc.specs.Depth.{selections_of}
 use Rattle.gql_cli.specs.Query.{HasOnlyName, IsBare, IsBareQuery, AreDistinct, bare}
 use Rattle.gql_cli.specs.PlaceResponse.{response_at}
-use Rattle.gql_cli.specs.Table.{rule_answer}
-use Rattle.gql_cli.specs.Tables.{rule_of}
-use Rattle.gql_cli.specs.declared.first_bench.FirstField.{FirstField}
-use Rattle.gql_cli.specs.declared.tables.Bench.{Bench}
+use Rattle.gql_bench.specs.Rule.{rule_answer, rule_of}
+use Rattle.gql_bench.specs.declared.first_bench.FirstField.{FirstField}
+use Rattle.gql_bench.specs.declared.bench.Bench.{Bench}
 use Rattle.gql_cli.proofs.FieldsLemmas.{IsKnown, known-answer}
 use Rattle.gql_cli.proofs.PlaceLemmas.{AreShown, IsPlain, alone, object-response, stands-plain}
 use Rattle.gql_cli.proofs.ResponseLemmas.{constant-stands}

@@ -10,12 +10,12 @@ use Rattle.gql_schema.specs.Table.{types_of}
 use Rattle.gql_schema.specs.declared.field.Field.{Field}
 use Rattle.gql_schema.specs.declared.object.Object.{Object}
 use Rattle.gql_cli.specs.Answer.{Chooses, HasChosen}
-use Rattle.gql_cli.specs.BenchAnswers.{bench_answers}
+use Rattle.gql_bench.specs.Bench.{bench_answers, field_constant, object_under}
 use Rattle.gql_cli.specs.BenchRecord.{BenchTask, AreAsked, HasTold, HasToldFor, bench_task, task_with}
 use Rattle.gql_cli.specs.Query.{Selects}
-use Rattle.gql_cli.specs.Tables.{constant_of, field_constant, object_under}
-use Rattle.gql_cli.specs.declared.rule.Rule.{Rule}
-use Rattle.gql_cli.specs.declared.tables.Bench.{Bench}
+use Rattle.gql_bench.specs.Rule.{constant_of}
+use Rattle.gql_bench.specs.declared.rule.Rule.{Rule}
+use Rattle.gql_bench.specs.declared.bench.Bench.{Bench}
 
 field-task : (rules : List Rule) (name : List ℕ) (value : Value) (found : Option Field)
     → option_and_then (λ field. option_map constant_of (slice_get rules (resolver_of field))) found ≡ Some value

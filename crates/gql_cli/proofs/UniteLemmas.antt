@@ -3,7 +3,7 @@ use Rattle.std.proofs.Common.{◌≡◌, ℕ, Bool, true, false, cond, List, [],
 use Rattle.std.specs.Str.{bytes_eq}
 use Rattle.gql_base.specs.Pairs.{under, unite, unite_all, names_of, HasDistinctNames}
 use Rattle.gql_cli.specs.Query.{bare}
-use Rattle.gql_cli.proofs.TablesLemmas.{distinct-never}
+use Rattle.gql_bench.proofs.TablesLemmas.{distinct-never}
 
 unite-fresh : {T : Type 0} (both : T → T → T) (key : List ℕ) (value : T) (ps : List (List ℕ × T)) → under key ps ≡ None
     → unite both ps key value ≡ ps ++ (key, value) ∷ []

@@ -14,9 +14,9 @@ use Rattle.gql_doc.specs.declared.fault.ParseFault.{ParseFault}
 use Rattle.gql_form.specs.declared.bench_form.BenchForm.{BenchForm}
 use Rattle.gql_request.specs.Response.{response_json}
 use Rattle.gql_request.specs.declared.response.Response.{Response}
-use Rattle.gql_cli.specs.FirstBench.{IsFirstBench, constants}
+use Rattle.gql_bench.specs.FirstBench.{IsFirstBench, constants}
 use Rattle.gql_cli.specs.Query.{Selects}
-use Rattle.gql_cli.specs.declared.first_bench.FirstBench.{FirstBench}
+use Rattle.gql_bench.specs.declared.first_bench.FirstBench.{FirstBench}
 
 -- the chosen pairs are these names, each with what is answered under it
 abbrev pub IsAnswered : (List ℕ → Option Value) → List ℕ → List ℕ × Value → Type 0

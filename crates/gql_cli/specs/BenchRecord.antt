@@ -1,9 +1,8 @@
 -- The record of a bench's query: the polls of its resolvers, in the order that the bench's turns
--- fix, and the lines that tell it.
-use Rattle.std.specs.Prelude.{◌≡◌, ℕ, suc, Bool, true, false, List, [], ◌∷◌, ◌++◌, Option, Some}
-use Rattle.std.specs.Prelude.{option_map, option_and_then, codes}
-use Rattle.std.specs.Fmt.{decimal}
-use Rattle.std.specs.List.{AllZip, flat_map}
+-- fix.
+use Rattle.std.specs.Prelude.{◌≡◌, ℕ, suc, List, [], ◌∷◌, Option, Some}
+use Rattle.std.specs.Prelude.{option_map, option_and_then}
+use Rattle.std.specs.List.{AllZip}
 use Rattle.std.specs.Str.{chars}
 use Rattle.gql_base.specs.Pairs.{under}
 use Rattle.gql_doc.specs.Spelled.{SpellsDocument}
@@ -14,14 +13,14 @@ use Rattle.gql_resolve.specs.declared.record_entry.RecordEntry.{RecordEntry}
 use Rattle.gql_schema.specs.Field.{resolver_of}
 use Rattle.gql_schema.specs.Object.{fields_of}
 use Rattle.gql_schema.specs.declared.field.Field.{Field}
-use Rattle.gql_cli.specs.BenchAnswers.{bench_object}
-use Rattle.gql_cli.specs.ListTurns.{list_turns}
+use Rattle.gql_bench.specs.Bench.{bench_object}
+use Rattle.gql_bench.specs.ListTurns.{list_turns}
 use Rattle.gql_cli.specs.Query.{Selects}
-use Rattle.gql_cli.specs.Table.{table_delay}
-use Rattle.gql_cli.specs.declared.first_bench.FirstBench.{FirstBench}
-use Rattle.gql_cli.specs.declared.first_bench.FirstField.{FirstField}
-use Rattle.gql_cli.specs.declared.rule.Rule.{Rule}
-use Rattle.gql_cli.specs.declared.tables.Bench.{Bench}
+use Rattle.gql_bench.specs.Table.{table_delay}
+use Rattle.gql_bench.specs.declared.first_bench.FirstBench.{FirstBench}
+use Rattle.gql_bench.specs.declared.first_bench.FirstField.{FirstField}
+use Rattle.gql_bench.specs.declared.rule.Rule.{Rule}
+use Rattle.gql_bench.specs.declared.bench.Bench.{Bench}
 
 -- a task of a bench's query: the number of its resolver, the name of its field, which is the text
 -- of its path, and the number of polls that are pending before its answer
@@ -97,16 +96,3 @@ abbrev pub IsQueryRecord : (List ℕ → Option BenchTask) → List ℕ → List
 IsQueryRecord task_of turns query entries =
     (document : ExecutableDocument) × SpellsDocument (chars query) document
     × IsDocumentRecord task_of turns document entries
-
-abbrev pub poll_word : Bool → List ℕ
-poll_word true = codes "ready"
-poll_word false = codes "pending"
-
--- the line of an entry: its task, the text of its path, and how the poll went
-abbrev pub entry_line : RecordEntry → List ℕ
-entry_line entry =
-    decimal entry.task
-    ++ (codes " " ++ (entry.path ++ (codes " " ++ (poll_word entry.ready ++ codes "\n"))))
-
-abbrev pub record_lines : List RecordEntry → List ℕ
-record_lines entries = flat_map entry_line entries

@@ -1,19 +1,15 @@
 -- What a run of the program has to write, and with which status.
 use Rattle.std.specs.Prelude.{◌≡◌, ◌⊎◌, ℕ, List, [], ◌∷◌, ◌++◌, Option, codes}
 use Rattle.gql_resolve.specs.declared.record_entry.RecordEntry.{RecordEntry}
-use Rattle.gql_cli.specs.Bench.{Gives, WithRecord}
+use Rattle.gql_cli.specs.Command.{words_for}
+use Rattle.gql_cli.specs.Written.{Gives, WithRecord}
 use Rattle.gql_io.specs.Reading.{IsInput, IsTooLong, HasFailed}
-use Rattle.gql_cli.specs.declared.bench.Command.{Command}
-use Rattle.gql_cli.specs.declared.bench.Command.TheVariants.{Execute, Record}
-use Rattle.gql_cli.specs.declared.bench.Written.{Written}
-use Rattle.gql_cli.specs.declared.bench.Written.TheVariants.{Answered, Refused, NotJson, BadShape}
-use Rattle.gql_cli.specs.declared.bench.Written.TheVariants.{BadSchema, NotBuilt}
+use Rattle.gql_cli.specs.declared.command.Command.{Command}
+use Rattle.gql_cli.specs.declared.written.Written.{Written}
+use Rattle.gql_cli.specs.declared.written.Written.TheVariants.{Answered, Refused, NotJson, BadShape}
+use Rattle.gql_cli.specs.declared.written.Written.TheVariants.{BadSchema, NotBuilt}
 use Rattle.gql_cli.specs.declared.outcome.Outcome.{Outcome}
 use Rattle.gql_cli.specs.declared.outcome.Outcome.TheVariants.{Usage, ReadFault, TooLong, Bench}
-
-abbrev pub words_for : Command → List (List ℕ)
-words_for Execute = codes "execute" ∷ []
-words_for Record = codes "record" ∷ []
 
 -- the words are a form that the program knows
 abbrev pub IsListed : List (List ℕ) → Type 0

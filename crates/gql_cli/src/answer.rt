@@ -1,15 +1,17 @@
 //! The answer of a first bench.
-ghost use Rattle.std.specs.Prelude.{◌≡◌, ℕ, List, ◌∷◌, [], IfOk, IfSome, MatchOption};
-ghost use Rattle.gql_cli.specs.Answer.{IsResponse, error_of, refusal, response_line};
-ghost use Rattle.gql_cli.specs.BenchAnswers.{bench_answers, IsSuited, IsSetOf};
+ghost use Rattle.std.specs.Prelude.{◌≡◌, ℕ, List, ◌∷◌, [], IfOk, IfSome, MatchBool, MatchOption};
+ghost use Rattle.gql_cli.specs.Answer.{Chooses, HasChosen, IsResponse, error_of, refusal};
+ghost use Rattle.gql_cli.specs.Answer.{response_line};
+ghost use Rattle.gql_bench.specs.Bench.{bench_answers, IsSuited};
+ghost use Rattle.gql_bench.specs.TableMaker.{IsSetOf};
 ghost use Rattle.gql_cli.specs.BenchRecord.{HasToldFor, bench_task};
 ghost use Rattle.gql_cli.specs.PlaceResponse.{response_at};
 
 use crate::execution::run_query;
 use crate::place_response::response_at;
 use crate::query::selected_names;
-use crate::tables::Bench;
-use gql_base::{JsonText, Made, ServerError, Text};
+use gql_base::{JsonText, Made, Name, ServerError, Text};
+use gql_bench::Bench;
 use gql_doc::{ExecutableDocument, ParseFault};
 use gql_place::Place;
 use gql_request::Response;
@@ -37,11 +39,25 @@ pub(crate) fn response_of<S: ResolverSet<Own = i64>>(
     let Some(names) = selected_names(alloc, &document)? else {
         return Ok(None);
     };
-    if !bench.has_fields(names.as_slice()) {
+    if !has_fields(bench, names.as_slice()) {
         return Ok(None);
     }
     let place = run_query(alloc, bench, document, set)?;
     Ok(Some(place_line(alloc, &place)?))
+}
+
+/// True exactly where the query root has a field of each of these names.
+fn has_fields(bench: &Bench, names: &[Name]) -> bool
+    ensures { MatchBool result (HasChosen (bench_answers bench.now) names.now)
+        ((chosen : _) → Chooses (bench_answers bench.now) names.now chosen → ⊥) }
+{
+    for name in names {
+        match bench.constant(name.as_str()) {
+            Some(_) => {}
+            None => return false,
+        }
+    }
+    true
 }
 
 /// The line of the response that tells what is wrong with a text that is no document.

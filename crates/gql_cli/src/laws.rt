@@ -1,11 +1,11 @@
 //! Laws of what contracts say, as contracts of functions without parameters.
 ghost use Rattle.std.specs.Prelude.{◌≡◌, ℕ, List, Option};
 ghost use Rattle.gql_resolve.specs.declared.record_entry.RecordEntry.{RecordEntry as OneEntry};
-ghost use Rattle.gql_cli.specs.Bench.{Gives, IfResponse};
+ghost use Rattle.gql_cli.specs.Written.{Gives, IfResponse};
 ghost use Rattle.gql_cli.specs.BenchRecord.{BenchTask, IsQueryRecord};
 ghost use Rattle.gql_io.specs.Limits.{input_limit};
-ghost use Rattle.gql_cli.specs.declared.bench.Command.{Command as OneCommand};
-ghost use Rattle.gql_cli.specs.declared.bench.Written.{Written as OneWritten};
+ghost use Rattle.gql_cli.specs.declared.command.Command.{Command as OneCommand};
+ghost use Rattle.gql_cli.specs.declared.written.Written.{Written as OneWritten};
 
 use gql_io::INPUT_LIMIT;
 

@@ -1,12 +1,14 @@
 //! What a run has to write, and with which status.
 ghost use Rattle.std.specs.Prelude.{◌≡◌, [], ◌∷◌, IfOk, MatchOption, map, string_bytes};
-ghost use Rattle.gql_cli.specs.Bench.{HoldsTold};
-ghost use Rattle.gql_cli.specs.Run.{IsListed, IsDue, words_for};
+ghost use Rattle.gql_cli.specs.Written.{HoldsTold};
+ghost use Rattle.gql_cli.specs.Run.{IsListed, IsDue};
+ghost use Rattle.gql_cli.specs.Command.{words_for};
 
-use crate::bench::{Command, Written, text_of};
+use crate::command::Command;
 use crate::status::Status;
-use crate::table_maker::Tables;
+use crate::written::{Written, text_of};
 use gql_base::Made;
+use gql_bench::Tables;
 use gql_io::{Reading, Source, read_whole};
 use std::alloc::Global;
 

@@ -2,20 +2,21 @@
 ghost use Rattle.std.specs.Prelude.{◌≡◌, ◌⊎◌, ◌+◌, ◌<◌, ◌≤◌, List, ℕ, length, map, string_bytes};
 ghost use Rattle.std.specs.Prelude.{IfSome};
 ghost use Rattle.std.specs.Io.KnownBytes.{Keeps, Appends};
-ghost use Rattle.gql_cli.specs.Bench.{Gives, HoldsTold};
+ghost use Rattle.gql_cli.specs.Written.{Gives, HoldsTold};
 ghost use Rattle.gql_io.specs.Counts.{IsFull, HasRisen};
 ghost use Rattle.gql_io.specs.Limits.{input_limit};
 ghost use Rattle.gql_io.specs.Reading.{IsInput, IsTooLong};
-ghost use Rattle.gql_cli.specs.Run.{IsListed, IsCutOff, IsDue, due_status, due_text, words_for};
+ghost use Rattle.gql_cli.specs.Run.{IsListed, IsCutOff, IsDue, due_status, due_text};
+ghost use Rattle.gql_cli.specs.Command.{words_for};
 ghost use Rattle.gql_cli.specs.Status.{code_of};
 ghost use Rattle.gql_io.specs.Writing.{AppendsStart};
-ghost use Rattle.gql_cli.specs.declared.bench.Command.{Command};
-ghost use Rattle.gql_cli.specs.declared.bench.Written.{Written};
+ghost use Rattle.gql_cli.specs.declared.command.Command.{Command};
+ghost use Rattle.gql_cli.specs.declared.written.Written.{Written};
 ghost use Rattle.gql_resolve.specs.declared.record_entry.RecordEntry.{RecordEntry as OneEntry};
 
 use crate::outcome::{Outcome, decide};
 use crate::status::Status;
-use crate::table_maker::Tables;
+use gql_bench::Tables;
 use gql_io::{Sink, SinkFault, Source, write_whole};
 use std::alloc::Global;
 

@@ -11,8 +11,5 @@ mod runs;
 mod schema_tests;
 #[cfg(test)]
 mod shape_tests;
-mod shared;
-#[cfg(test)]
-mod table_tests;
 #[cfg(test)]
 mod tests;

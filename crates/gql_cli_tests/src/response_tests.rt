@@ -40,8 +40,8 @@ fn json_of_place(alloc: Global, place: &Place) -> Made<Text> {
 fn an_item_that_failed(rt: HostRuntime) -> Result<(), Fail> {
     let made = object(rt.alloc())?;
     let json = json_of_place(rt.alloc(), &made)?;
-    assert_eq!(
-        rt; json.as_str(),
+    assert_eq!(rt;
+        json.as_str(),
         "{\"data\":{\"values\":null},\"errors\":[{\"message\":\"bad\",\
 \"locations\":[{\"line\":1,\"column\":3}],\"path\":[\"values\",0]}]}"
     );

@@ -1,6 +1,6 @@
 use Rattle.std.proofs.Common.{sym, ◌∙◌, subst}
 use Rattle.gql_cli.specs.Answer.{Chooses, HasChosen}
-use Rattle.gql_cli.specs.BenchAnswers.{bench_answers}
+use Rattle.gql_bench.specs.Bench.{bench_answers}
 use Rattle.gql_cli.proofs.QueryLemmas.{asks-same}
 use Rattle.gql_cli.proofs.TaskLemmas.{document-record}
 use Rattle.gql_cli.proofs.answer.response_of.Goals as goal

@@ -1,5 +1,6 @@
 use Rattle.std.proofs.Common.{◌≡◌, [], ◌∷◌, MatchOption, length, string_bytes, subst, arith}
-use Rattle.gql_cli.specs.Run.{IsListed, words_for}
+use Rattle.gql_cli.specs.Run.{IsListed}
+use Rattle.gql_cli.specs.Command.{words_for}
 use Rattle.gql_cli.proofs.Words.{map-one}
 use Rattle.gql_cli.proofs.outcome.command_of.Goals as goal
 
