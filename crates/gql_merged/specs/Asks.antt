@@ -1,12 +1,14 @@
 -- What a field asks on an object, whatever the object's value (GraphQL, October 2021, sections 6.4.1 and 6.4.2).
-use Rattle.std.specs.Prelude.{ℕ, Bool, List, [], Option, Some, None, if◌then◌else◌}
+use Rattle.std.specs.Prelude.{ℕ, Bool, true, false, List, [], Option, Some, None, if◌then◌else◌}
+use Rattle.gql_base.specs.declared.type_ref.TypeRef.{TypeRef}
+use Rattle.gql_base.specs.declared.type_ref.TypeRef.TheVariants as ref
 use Rattle.gql_base.specs.declared.value.Value.{Value}
 use Rattle.gql_doc.specs.declared.document.Argument.{Argument}
 use Rattle.gql_doc.specs.declared.document.Field.{Field}
 use Rattle.gql_doc.specs.declared.document.Positioned.{Positioned}
 use Rattle.gql_meaning.specs.Completion.{outcome_at}
 use Rattle.gql_meaning.specs.Execution.{absent_outcome, Asking, Execution, is_typename, typename_outcome}
-use Rattle.gql_meaning.specs.TableSetting.{arguments_in, entities_field, field_in}
+use Rattle.gql_meaning.specs.TableSetting.{arguments_in as arguments_of_declared, entities_field, field_in}
 use Rattle.gql_place.specs.Filled.{Outcome}
 use Rattle.gql_resolve.specs.Call.{Call}
 use Rattle.gql_resolve.specs.declared.answer.Answer.{Answer}
@@ -29,7 +31,7 @@ asks_at arguments (Some declared) = asks_by arguments declared declared.number
 
 -- what it asks, at the constants of its arguments as they are written
 abbrev pub asks_of_declared : (List ℕ → Value) → Option Declared → List Argument → Asks
-asks_of_declared known declared written = asks_at (constants known (arguments_in declared) written) declared
+asks_of_declared known declared written = asks_at (constants known (arguments_of_declared declared) written) declared
 
 -- the field of entities, which a resolver finds
 abbrev pub entities_by : ℕ → Declared
@@ -61,3 +63,34 @@ outcome_by is_root execution answer object parent asks.Nothing = absent_outcome
 outcome_by is_root execution answer object parent (asks.Call resolver ty arguments) =
     outcome_at execution.schema.table ty
     (answer (record { is_root = is_root; resolver = resolver; parent = parent; arguments = arguments; layers = execution.layers }))
+
+-- whether an answer is asked
+abbrev pub is_call : Asks → Bool
+is_call asks.Typename = false
+is_call asks.Nothing = false
+is_call (asks.Call resolver ty arguments) = true
+
+-- the resolver that is called; where no answer is asked it has no meaning, as the next two
+abbrev pub resolver_in : Asks → ℕ
+resolver_in asks.Typename = 0
+resolver_in asks.Nothing = 0
+resolver_in (asks.Call resolver ty arguments) = resolver
+
+-- the type of the answer
+abbrev pub type_in : Asks → TypeRef
+type_in asks.Typename = ref.Named []
+type_in asks.Nothing = ref.Named []
+type_in (asks.Call resolver ty arguments) = ty
+
+-- the values of the arguments
+abbrev pub arguments_in : Asks → List (List ℕ × Value)
+arguments_in asks.Typename = []
+arguments_in asks.Nothing = []
+arguments_in (asks.Call resolver ty arguments) = arguments
+
+-- the call that is asked on an object of this value, with its type
+abbrev pub asking_at : {V : Type 0} → List (List (ℕ × Value)) → FieldValue V → Asks → Asking V
+asking_at layers parent what = record {
+  call = record { is_root = false; resolver = resolver_in what; parent = parent; arguments = arguments_in what; layers = layers };
+  ty = type_in what;
+}

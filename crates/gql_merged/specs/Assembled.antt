@@ -12,6 +12,7 @@ use Rattle.gql_place.specs.declared.place.Tree.TheVariants as tree
 use Rattle.gql_resolve.specs.Call.{Call}
 use Rattle.gql_resolve.specs.declared.answer.Answer.{Answer}
 use Rattle.gql_resolve.specs.declared.field_value.FieldValue.{FieldValue}
+use Rattle.gql_schema.specs.Table.{types_of}
 use Rattle.gql_merged.specs.Jobs.{Job}
 use Rattle.gql_merged.specs.Levels.{Asked}
 use Rattle.gql_merged.specs.declared.asks.Asks.{Asks}
@@ -65,4 +66,4 @@ members_with object members places = zip (names_of members) (places_with object 
 -- the place of a task with these answers, and with what is beneath the objects of its field
 abbrev pub place_of_job : {V : Type 0} → (Call V → Answer V) → (List ℕ → FieldValue V → Members) → Job V → Place
 place_of_job answer below job =
-    place_with job.field.pos (outcome_at job.ground.execution.schema.table job.asking.ty (answer job.asking.call)) below
+    place_with job.field.pos (outcome_at (types_of job.basis.types.now) job.asking.ty (answer job.asking.call)) below

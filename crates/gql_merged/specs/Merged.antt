@@ -13,12 +13,8 @@ use Rattle.gql_select.specs.Documents.{placing_by}
 use Rattle.gql_select.specs.Grouped.{grouped}
 use Rattle.gql_merged.specs.Assembled.{place_of_job}
 use Rattle.gql_merged.specs.Basis.{execution_of, setting_by}
-use Rattle.gql_merged.specs.Jobs.{Ground, Job}
+use Rattle.gql_merged.specs.Jobs.{Job}
 use Rattle.gql_merged.specs.declared.basis.Basis.{Basis}
-
--- what all tasks of an execution have in common
-abbrev pub ground_of : Basis → Ground
-ground_of basis = record { execution = execution_of basis; env = basis.env.now }
 
 module _ {V : Type 0} (basis : Basis) (answer : Call V → Answer V) where
   -- the members of an object, each key answered once, so many levels of sets deep

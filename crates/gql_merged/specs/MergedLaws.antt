@@ -20,11 +20,10 @@ use Rattle.gql_select.specs.Collected.{collect_within, own_selections, Setting}
 use Rattle.gql_merged.specs.Asks.{asking_by, asks_of}
 use Rattle.gql_merged.specs.Assembled.{members_with}
 use Rattle.gql_merged.specs.Filling.{tree_with}
-use Rattle.gql_merged.specs.Jobs.{jobs_at, jobs_of_slots}
+use Rattle.gql_merged.specs.Jobs.{jobs_at, jobs_by}
 use Rattle.gql_merged.specs.Levels.{asked_in}
-use Rattle.gql_merged.specs.Merged.{ground_of, merged_beneath, merged_members, merged_place}
+use Rattle.gql_merged.specs.Merged.{merged_beneath, merged_members, merged_place}
 use Rattle.gql_merged.specs.Stored.{bare, Spot, spots}
-use Rattle.gql_merged.specs.Tasks.{slots_from}
 use Rattle.gql_merged.specs.declared.basis.Basis.{Basis}
 
 -- a field asks the call that is made of what it asks on any value of its object
@@ -39,7 +38,7 @@ module _ {V : Type 0} (basis : Basis) (answer : Call V → Answer V) (n : ℕ) w
   abbrev pub members_of_tasks : List (Positioned Selection) → Spot V → List (List ℕ × Place)
   members_of_tasks selections spot =
       members_with spot.object (asked_in basis spot.object selections)
-      (map (merged_place basis answer n) (jobs_at (ground_of basis) selections spot))
+      (map (merged_place basis answer n) (jobs_at basis selections spot))
 
 -- the places of the tasks of an object, with one level of sets less, make its members
 abbrev pub MembersAreMerged : (V : Type 0) → Type 0
@@ -61,9 +60,7 @@ TreesAreMerged V =
 abbrev pub TasksAreJobs : (V : Type 0) → Type 0
 TasksAreJobs V =
     (basis : Basis) (spot : Spot V) (selections : List (Positioned Selection))
-    → jobs_of_slots (ground_of basis) spot.parent
-    (slots_from 0 spot.path (values_of (asked_in basis spot.object selections)))
-    ≡ jobs_at (ground_of basis) selections spot
+    → jobs_by spot (values_of (asked_in basis spot.object selections)) ≡ jobs_at basis selections spot
 
 -- the set of each field that is collected in a set nests within the levels of that set
 abbrev pub CollectedNest : Type 0
