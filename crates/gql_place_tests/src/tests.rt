@@ -31,11 +31,9 @@ fn leaf(alloc: Global, number: i64) -> Place {
 
 /// A failed place that may not be null.
 fn failed(alloc: Global) -> Made<Place> {
-    let tree = Tree::Fault(Error::new(alloc, "bad")?);
-    Ok(Place {
-        non_null: true,
-        ..place(alloc, tree)
-    })
+    let mut failed = place(alloc, Tree::Fault(Error::new(alloc, "bad")?));
+    failed.non_null = true;
+    Ok(failed)
 }
 
 /// An object of numbers under their names.
@@ -61,67 +59,95 @@ fn list(alloc: Global, item: Place) -> Made<Place> {
     Ok(place(alloc, Tree::List(items)))
 }
 
-/// The place with one more error beside it, and one header.
-fn told(alloc: Global, place: Place) -> Made<Place> {
-    let mut told = place;
-    told.added.push(Error::new(alloc, "beside")?)?;
+/// The place with one more header.
+fn with_header(place: Place) -> Made<Place> {
+    let mut place = place;
     let name = HeaderName::from_static("x-told");
     let value = HeaderValue::from_static("1");
-    told.headers.push(HeaderOp::Insert(name, value))?;
-    Ok(told)
+    place.headers.push(HeaderOp::Insert(name, value))?;
+    Ok(place)
+}
+
+/// The place with one more error beside it, and one header.
+fn told(alloc: Global, place: Place) -> Made<Place> {
+    let mut place = place;
+    place.added.push(Error::new(alloc, "beside")?)?;
+    with_header(place)
 }
 
 fn data(alloc: Global, place: &Place) -> Made<Text> {
-    json_of(alloc, &raise(alloc, place)?)
+    let value = raise(alloc, place)?;
+    json_of(alloc, &value)
 }
 
-/// The errors of a response as JSON, and how many header operations it has.
-fn errors(alloc: Global, place: &Place) -> Made<(Text, usize)> {
+/// The errors of a response as JSON.
+fn errors(alloc: Global, place: &Place) -> Made<String> {
+    let errors = faults(alloc, place)?;
     let mut out = String::new(alloc);
-    push_errors(&mut out, faults(alloc, place)?.as_slice())?;
-    Ok((Text::from_string(out), header_ops(alloc, place)?.len()))
+    push_errors(&mut out, errors.as_slice())?;
+    Ok(out)
 }
 
-#[test]
-fn members_are_joined(rt: HostRuntime) -> Result<(), Fail> {
-    let alloc = rt.alloc();
+/// The number of header operations of a response.
+fn header_count(alloc: Global, place: &Place) -> Made<usize> {
+    Ok(header_ops(alloc, place)?.len())
+}
+
+fn joined_data(alloc: Global, first: Place, second: Place) -> Made<Text> {
+    let joined = join(alloc, first, second)?;
+    data(alloc, &joined)
+}
+
+fn joined_objects(alloc: Global) -> Made<Text> {
     let first = object(alloc, &[("a", 1)])?;
-    let second = object(alloc, &[("a", 2), ("b", 3)])?;
-    let joined = join(alloc, first, second)?;
-    assert_eq!(rt; data(alloc, &joined)?.as_str(), "{\"a\":1,\"b\":3}");
-    Ok(())
+    joined_data(alloc, first, object(alloc, &[("a", 2), ("b", 3)])?)
+}
+
+/// A list of a list of an object of one number.
+fn nested(alloc: Global, name: &str, number: i64) -> Made<Place> {
+    let object = object(alloc, &[(name, number)])?;
+    list(alloc, list(alloc, object)?)
+}
+
+fn joined_lists(alloc: Global) -> Made<Text> {
+    let first = nested(alloc, "a", 1)?;
+    joined_data(alloc, first, nested(alloc, "b", 2)?)
 }
 
 #[test]
-fn lists_of_lists_are_joined(rt: HostRuntime) -> Result<(), Fail> {
-    let alloc = rt.alloc();
-    let first = list(alloc, list(alloc, object(alloc, &[("a", 1)])?)?)?;
-    let second = list(alloc, list(alloc, object(alloc, &[("b", 2)])?)?)?;
-    let joined = join(alloc, first, second)?;
-    assert_eq!(rt; data(alloc, &joined)?.as_str(), "[[{\"a\":1,\"b\":2}]]");
+fn places_are_joined(rt: HostRuntime) -> Result<(), Fail> {
+    assert_eq!(rt; joined_objects(rt.alloc())?.as_str(), "{\"a\":1,\"b\":3}");
+    assert_eq!(rt; joined_lists(rt.alloc())?.as_str(), "[[{\"a\":1,\"b\":2}]]");
     Ok(())
+}
+
+/// An object whose list has an error beside it and a failed item.
+fn failed_list(alloc: Global) -> Made<Place> {
+    let values = list(alloc, failed(alloc)?)?;
+    around(alloc, "values", told(alloc, values)?)
 }
 
 #[test]
 fn a_failed_item_makes_its_list_null(rt: HostRuntime) -> Result<(), Fail> {
-    let alloc = rt.alloc();
-    let response = around(alloc, "values", told(alloc, list(alloc, failed(alloc)?)?)?)?;
-    assert_eq!(rt; data(alloc, &response)?.as_str(), "{\"values\":null}");
-    let (found, ops) = errors(alloc, &response)?;
-    assert_eq!(rt; ops, 1);
-    assert_eq!(rt; found.as_str(), TWO_ERRORS);
+    let response = failed_list(rt.alloc())?;
+    assert_eq!(rt; data(rt.alloc(), &response)?.as_str(), "{\"values\":null}");
+    assert_eq!(rt; header_count(rt.alloc(), &response)?, 1);
+    assert_eq!(rt; errors(rt.alloc(), &response)?.as_str(), TWO_ERRORS);
     Ok(())
+}
+
+/// The copy of an object that has an error beside it and a header.
+fn copied(alloc: Global) -> Made<Place> {
+    let response = told(alloc, object(alloc, &[("a", 1)])?)?;
+    response.try_clone(alloc)
 }
 
 #[test]
 fn a_copy_is_told_like_its_source(rt: HostRuntime) -> Result<(), Fail> {
-    let alloc = rt.alloc();
-    let response = told(alloc, object(alloc, &[("a", 1)])?)?;
-    let copy = response.try_clone(alloc)?;
-    assert_eq!(rt;
-        data(alloc, &copy)?.as_str(),
-        data(alloc, &response)?.as_str()
-    );
-    assert_eq!(rt; errors(alloc, &copy)?.1, 1);
+    let copy = copied(rt.alloc())?;
+    let error = "[{\"message\":\"beside\",\"locations\":[{\"line\":1,\"column\":3}]}]";
+    assert_eq!(rt; data(rt.alloc(), &copy)?.as_str(), "{\"a\":1}");
+    assert_eq!(rt; header_count(rt.alloc(), &copy)?, 1);
+    assert_eq!(rt; errors(rt.alloc(), &copy)?.as_str(), error);
     Ok(())
 }

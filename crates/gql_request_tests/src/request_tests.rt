@@ -56,37 +56,50 @@ fn with_data(alloc: Global) -> Made<Request> {
     Request::new(alloc, "{ a }")?.data(DataKey(1), Value::Number(Number::from_u64(6)))
 }
 
-/// A request in words, which is let go of.
-fn text_of(alloc: Global, request: Request) -> Made<Text> {
-    summary(alloc, &request)
+fn copied(alloc: Global) -> Made<Request> {
+    let request = named(alloc)?;
+    request.try_clone(alloc)
 }
 
-fn copied_text(alloc: Global) -> Made<Text> {
-    let request = named(alloc)?;
-    text_of(alloc, request.try_clone(alloc)?)
+/// How a request is built.
+#[derive(Clone, Copy)]
+enum Building {
+    Named,
+    Copied,
+    WithVariables,
+    WithData,
+    Disabled,
+    IntrospectionOnly,
+}
+
+fn built(alloc: Global, building: Building) -> Made<Request> {
+    match building {
+        Building::Named => named(alloc),
+        Building::Copied => copied(alloc),
+        Building::WithVariables => with_variables(alloc),
+        Building::WithData => with_data(alloc),
+        Building::Disabled => Ok(named(alloc)?.disable_introspection()),
+        Building::IntrospectionOnly => Ok(named(alloc)?.only_introspection()),
+    }
+}
+
+fn built_text(alloc: Global, building: Building) -> Made<Text> {
+    let request = built(alloc, building)?;
+    summary(alloc, &request)
 }
 
 #[test]
 fn requests_are_built(rt: HostRuntime) -> Result<(), Fail> {
-    let alloc = rt.alloc();
-    let name = text_of(alloc, named(alloc)?)?;
-    assert_eq!(rt; name.as_str(), "{ a } A");
-    let copy = copied_text(alloc)?;
-    assert_eq!(rt; copy.as_str(), "{ a } A");
-    let number = text_of(alloc, with_variables(alloc)?)?;
-    assert_eq!(rt; number.as_str(), "{ a } a 5");
-    let data = text_of(alloc, with_data(alloc)?)?;
-    assert_eq!(rt; data.as_str(), "{ a } 1 6");
-    Ok(())
-}
-
-#[test]
-fn requests_have_modes(rt: HostRuntime) -> Result<(), Fail> {
-    let alloc = rt.alloc();
-    let disabled = text_of(alloc, named(alloc)?.disable_introspection())?;
-    assert_eq!(rt; disabled.as_str(), "{ a } A disabled");
-    let only = text_of(alloc, named(alloc)?.only_introspection())?;
-    assert_eq!(rt; only.as_str(), "{ a } A only");
+    for (building, words) in [
+        (Building::Named, "{ a } A"),
+        (Building::Copied, "{ a } A"),
+        (Building::WithVariables, "{ a } a 5"),
+        (Building::WithData, "{ a } 1 6"),
+        (Building::Disabled, "{ a } A disabled"),
+        (Building::IntrospectionOnly, "{ a } A only"),
+    ] {
+        assert_eq!(rt; built_text(rt.alloc(), building)?.as_str(), words);
+    }
     Ok(())
 }
 
@@ -101,19 +114,36 @@ fn value_of_kind(alloc: Global, kind: &str) -> Made<Value> {
     }
 }
 
-/// What reading a request of one member gives: the request in words and its extensions, or the
-/// error in words.
+/// The extensions of a request as JSON.
+fn extensions_text(alloc: Global, extensions: Pairs<Value>) -> Made<Text> {
+    let object = Value::Object(extensions);
+    json_of(alloc, &object)
+}
+
+/// A request in words and its extensions.
+fn whole_text(alloc: Global, request: &Request) -> Made<Text> {
+    let words = summary(alloc, request)?;
+    let extensions = extensions_text(alloc, request.extensions.try_clone(alloc)?)?;
+    Ok(Text::from_string(format!(in alloc; "{words}|{extensions}")?))
+}
+
+fn error_text(alloc: Global, error: ParseRequestError) -> Made<Text> {
+    Ok(Text::from_string(format!(in alloc; "{error}")?))
+}
+
+/// What reading a value as a request gives: the request in words and its extensions, or the error
+/// in words.
+fn value_text(alloc: Global, value: &Value) -> Made<Text> {
+    match Request::from_json(alloc, value)? {
+        Ok(request) => whole_text(alloc, &request),
+        Err(error) => error_text(alloc, error),
+    }
+}
+
+/// The same of an object of one member.
 fn read_text(alloc: Global, member: &str, kind: &str) -> Made<Text> {
     let value = object(alloc, member, value_of_kind(alloc, kind)?)?;
-    match Request::from_json(alloc, &value)? {
-        Ok(request) => {
-            let mut out = String::from_str(alloc, summary(alloc, &request)?.as_str())?;
-            let extensions = json_of(alloc, &Value::Object(request.extensions))?;
-            write!(out, "|{extensions}")?;
-            Ok(Text::from_string(out))
-        }
-        Err(error) => Ok(Text::from_string(format!(in alloc; "{error}")?)),
-    }
+    value_text(alloc, &value)
 }
 
 /// Members of a request, each with the kind of its value and what is read.
@@ -165,22 +195,28 @@ fn requests_are_read(rt: HostRuntime) -> Result<(), Fail> {
 
 /// How many requests are read from a list of some objects, or why none are.
 fn batch_text(alloc: Global, count: usize) -> Made<Text> {
+    let value = objects(alloc, count)?;
+    read_batch_text(alloc, &value)
+}
+
+/// A list of so many objects.
+fn objects(alloc: Global, count: usize) -> Made<Value> {
     let mut values = Items::new(alloc);
     for _ in 0..count {
         values.push(Value::Object(Pairs::new(alloc)))?;
     }
-    read_batch_text(alloc, &Value::List(values))
+    Ok(Value::List(values))
 }
 
 fn read_batch_text(alloc: Global, value: &Value) -> Made<Text> {
     match BatchRequest::from_json(alloc, value)? {
-        Ok(batch) => Ok(Text::from_string(format!(in alloc;
-            "{} {}",
-            batch.len(),
-            single_text(batch)
-        )?)),
-        Err(error) => Ok(Text::from_string(format!(in alloc; "{error}")?)),
+        Ok(batch) => counted_text(alloc, batch.len(), single_text(batch)),
+        Err(error) => error_text(alloc, error),
     }
+}
+
+fn counted_text(alloc: Global, count: usize, single: &str) -> Made<Text> {
+    Ok(Text::from_string(format!(in alloc; "{count} {single}")?))
 }
 
 /// Whether a batch is a single request, or why not.
@@ -192,20 +228,23 @@ fn single_text(batch: BatchRequest) -> &'static str {
     }
 }
 
+/// What is read from an object alone.
+fn object_text(alloc: Global) -> Made<Text> {
+    read_batch_text(alloc, &Value::Object(Pairs::new(alloc)))
+}
+
 #[test]
 fn batches_are_read(rt: HostRuntime) -> Result<(), Fail> {
-    let alloc = rt.alloc();
     for (count, text) in [
         (0, "Invalid request: expected a non-empty list"),
         (1, "1 unsupported"),
         (2, "2 unsupported"),
     ] {
-        assert_eq!(rt; batch_text(alloc, count)?.as_str(), text);
+        assert_eq!(rt; batch_text(rt.alloc(), count)?.as_str(), text);
     }
-    let single = read_batch_text(alloc, &Value::Object(Pairs::new(alloc)))?;
-    assert_eq!(rt; single.as_str(), "1 single");
-    let null = read_batch_text(alloc, &Value::Null)?;
-    assert_eq!(rt; null.as_str(), "Invalid request: expected an object");
+    assert_eq!(rt; object_text(rt.alloc())?.as_str(), "1 single");
+    let null = "Invalid request: expected an object";
+    assert_eq!(rt; read_batch_text(rt.alloc(), &Value::Null)?.as_str(), null);
     Ok(())
 }
 
@@ -234,41 +273,65 @@ fn two_changed(alloc: Global) -> Made<BatchRequest> {
     Ok(batch)
 }
 
-/// The requests of a batch in words, which is let go of.
-fn words_of(alloc: Global, batch: BatchRequest) -> Made<Text> {
-    let mut out = String::new(alloc);
-    for request in batch.iter() {
-        let text = summary(alloc, request)?;
-        write!(out, "{text};")?;
-    }
-    Ok(Text::from_string(out))
+fn two_copied(alloc: Global) -> Made<BatchRequest> {
+    let batch = two(alloc)?;
+    batch.try_clone(alloc)
 }
 
-fn words_of_copy(alloc: Global) -> Made<Text> {
-    let batch = two(alloc)?;
-    words_of(alloc, batch.try_clone(alloc)?)
+/// How a batch of two requests is changed.
+#[derive(Clone, Copy)]
+enum Change {
+    Copied,
+    WithVariables,
+    WithData,
+    InPlace,
+    Disabled,
+    IntrospectionOnly,
+}
+
+fn changed(alloc: Global, change: Change) -> Made<BatchRequest> {
+    match change {
+        Change::Copied => two_copied(alloc),
+        Change::WithVariables => two_with_variables(alloc),
+        Change::WithData => two_with_data(alloc),
+        Change::InPlace => two_changed(alloc),
+        Change::Disabled => Ok(two(alloc)?.disable_introspection()),
+        Change::IntrospectionOnly => Ok(two(alloc)?.introspection_only()),
+    }
+}
+
+/// The requests of a batch in words.
+fn words_of(alloc: Global, batch: &BatchRequest) -> Made<String> {
+    let mut out = String::new(alloc);
+    for request in batch.iter() {
+        push_words(alloc, &mut out, request)?;
+    }
+    Ok(out)
+}
+
+fn push_words(alloc: Global, out: &mut String, request: &Request) -> Made<()> {
+    let text = summary(alloc, request)?;
+    out.push_str(text.as_str())?;
+    out.push(';')
+}
+
+fn changed_words(alloc: Global, change: Change) -> Made<String> {
+    let batch = changed(alloc, change)?;
+    words_of(alloc, &batch)
 }
 
 #[test]
 fn batches_are_changed(rt: HostRuntime) -> Result<(), Fail> {
-    let alloc = rt.alloc();
-    let numbers = words_of(alloc, two_with_variables(alloc)?)?;
-    assert_eq!(rt; numbers.as_str(), "x a 3;y a 3;");
-    let data = words_of(alloc, two_with_data(alloc)?)?;
-    assert_eq!(rt; data.as_str(), "x 1 4;y 1 4;");
-    let changed = words_of(alloc, two_changed(alloc)?)?;
-    assert_eq!(rt; changed.as_str(), "x;z;");
-    Ok(())
-}
-
-#[test]
-fn batches_have_modes(rt: HostRuntime) -> Result<(), Fail> {
-    let alloc = rt.alloc();
-    let disabled = words_of(alloc, two(alloc)?.disable_introspection())?;
-    assert_eq!(rt; disabled.as_str(), "x disabled;y disabled;");
-    let only = words_of(alloc, two(alloc)?.introspection_only())?;
-    assert_eq!(rt; only.as_str(), "x only;y only;");
-    assert_eq!(rt; words_of_copy(alloc)?.as_str(), "x;y;");
+    for (change, words) in [
+        (Change::Copied, "x;y;"),
+        (Change::WithVariables, "x a 3;y a 3;"),
+        (Change::WithData, "x 1 4;y 1 4;"),
+        (Change::InPlace, "x;z;"),
+        (Change::Disabled, "x disabled;y disabled;"),
+        (Change::IntrospectionOnly, "x only;y only;"),
+    ] {
+        assert_eq!(rt; changed_words(rt.alloc(), change)?.as_str(), words);
+    }
     Ok(())
 }
 
@@ -303,9 +366,8 @@ fn set_first(alloc: Global) -> Made<bool> {
 
 #[test]
 fn documents_are_kept(rt: HostRuntime) -> Result<(), Fail> {
-    let alloc = rt.alloc();
-    assert!(rt; asked(alloc, "%", None)?);
-    assert!(rt; asked(alloc, " { a }", Some(2))?);
-    assert!(rt; set_first(alloc)?);
+    assert!(rt; asked(rt.alloc(), "%", None)?);
+    assert!(rt; asked(rt.alloc(), " { a }", Some(2))?);
+    assert!(rt; set_first(rt.alloc())?);
     Ok(())
 }

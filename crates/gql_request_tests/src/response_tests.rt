@@ -45,14 +45,13 @@ fn whole_text(alloc: Global) -> Made<Text> {
 
 #[test]
 fn responses_are_printed(rt: HostRuntime) -> Result<(), Fail> {
-    let alloc = rt.alloc();
-    assert_eq!(rt; data_text(alloc)?.as_str(), "{\"data\":true}");
+    assert_eq!(rt; data_text(rt.alloc())?.as_str(), "{\"data\":true}");
     assert_eq!(rt;
-        errors_text(alloc)?.as_str(),
+        errors_text(rt.alloc())?.as_str(),
         "{\"data\":null,\"errors\":[{\"message\":\"bad\"}]}"
     );
     assert_eq!(rt;
-        whole_text(alloc)?.as_str(),
+        whole_text(rt.alloc())?.as_str(),
         "{\"data\":{},\"extensions\":{\"a\":1,\"b\":2},\"errors\":[{\"message\":\"e\"},{\"message\":\"e\"}]}"
     );
     Ok(())
@@ -82,44 +81,47 @@ fn batch_text(alloc: Global, batch: BatchResponse) -> Made<Text> {
 
 #[test]
 fn batches_are_printed(rt: HostRuntime) -> Result<(), Fail> {
-    let alloc = rt.alloc();
-    assert_eq!(rt; single_text(alloc)?.as_str(), "{\"data\":1} true");
+    assert_eq!(rt; single_text(rt.alloc())?.as_str(), "{\"data\":1} true");
     assert_eq!(rt;
-        two_text(alloc)?.as_str(),
+        two_text(rt.alloc())?.as_str(),
         "[{\"data\":1},{\"data\":{},\"extensions\":{\"a\":1,\"b\":2},\"errors\":[{\"message\":\"e\"}]}] false"
     );
     Ok(())
 }
 
-/// Whether a response has headers, has errors, and equals its copy with these headers and without.
-fn compared(alloc: Global) -> Made<[bool; 4]> {
-    let response = response(alloc, 1)?;
-    let plain = response.try_clone(alloc)?;
-    let copy = response.try_clone(alloc)?.with_headers(headers(alloc)?);
-    Ok([
-        copy.headers.len() == 1,
-        copy.is_err() && !copy.is_ok(),
-        response == plain,
-        response == copy,
-    ])
+/// Whether a response equals its copy.
+fn equals_its_copy(alloc: Global, response: &Response) -> Made<bool> {
+    let copy = response.try_clone(alloc)?;
+    Ok(*response == copy)
 }
 
-/// Whether a response without errors is one, and one with an error gives that error.
-fn results(alloc: Global) -> Made<[bool; 2]> {
-    let good = response(alloc, 0)?.into_result();
-    let bad = response(alloc, 1)?.into_result();
-    Ok([
-        good.is_ok(),
-        match bad {
-            Ok(_) => false,
-            Err(errors) => errors.len() == 1,
-        },
-    ])
+/// Whether a response equals its copy with a header.
+fn equals_with_headers(alloc: Global, response: &Response) -> Made<bool> {
+    let headers = headers(alloc)?;
+    let copy = response.try_clone(alloc)?.with_headers(headers);
+    Ok(copy.headers.len() != 1 || *response == copy)
 }
 
 #[test]
 fn responses_are_compared(rt: HostRuntime) -> Result<(), Fail> {
-    assert_eq!(rt; compared(rt.alloc())?, [true, true, true, false]);
-    assert_eq!(rt; results(rt.alloc())?, [true, true]);
+    let response = response(rt.alloc(), 1)?;
+    assert!(rt; response.is_err() && !response.is_ok());
+    assert!(rt; equals_its_copy(rt.alloc(), &response)?);
+    assert!(rt; !equals_with_headers(rt.alloc(), &response)?);
+    Ok(())
+}
+
+/// The number of errors that a response gives in place of itself, if it does.
+fn errors_of(response: Response) -> Option<usize> {
+    match response.into_result() {
+        Ok(_) => None,
+        Err(errors) => Some(errors.len()),
+    }
+}
+
+#[test]
+fn responses_as_results(rt: HostRuntime) -> Result<(), Fail> {
+    assert_eq!(rt; errors_of(response(rt.alloc(), 0)?), None);
+    assert_eq!(rt; errors_of(response(rt.alloc(), 1)?), Some(1));
     Ok(())
 }

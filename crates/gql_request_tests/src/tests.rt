@@ -64,25 +64,39 @@ fn merged(alloc: Global, first: &[(u32, u64)], second: &[(u32, u64)]) -> Made<Da
     Ok(data)
 }
 
+/// The pairs 7: 1 and 4: 2, with 5: 4 and 7: 3 merged into them.
+fn merged_pairs(alloc: Global) -> Made<Data> {
+    merged(alloc, &[(7, 1), (4, 2)], &[(5, 4), (7, 3)])
+}
+
 #[test]
 fn merged_data_are_equal_pair_by_pair(rt: HostRuntime) -> Result<(), Fail> {
-    let alloc = rt.alloc();
-    let data = merged(alloc, &[(7, 1), (4, 2)], &[(5, 4), (7, 3)])?;
-    assert!(rt; is_data_of(alloc, &data, &[(7, 3), (4, 2), (5, 4)])?);
-    assert!(rt; !is_data_of(alloc, &data, &[(4, 2), (7, 3), (5, 4)])?);
-    assert!(rt; !is_data_of(alloc, &data, &[(7, 1), (4, 2), (5, 4)])?);
-    assert!(rt; equals_its_copy(alloc, &data)?);
+    let data = merged_pairs(rt.alloc())?;
+    assert!(rt; equals_its_copy(rt.alloc(), &data)?);
+    for (pairs, equal) in [
+        ([(7, 3), (4, 2), (5, 4)], true),
+        ([(4, 2), (7, 3), (5, 4)], false),
+        ([(7, 1), (4, 2), (5, 4)], false),
+    ] {
+        assert_eq!(rt; is_data_of(rt.alloc(), &data, &pairs)?, equal);
+    }
     Ok(())
 }
 
 /// The path `hero.friends.1.name`.
-fn path(alloc: Global) -> Made<[PathSegment; 4]> {
-    Ok([
-        PathSegment::Field(Text::new(alloc, "hero")?),
-        PathSegment::Field(Text::new(alloc, "friends")?),
-        PathSegment::Index(1),
-        PathSegment::Field(Text::new(alloc, "name")?),
-    ])
+fn path(alloc: Global) -> Made<Items<PathSegment>> {
+    let mut path = Items::new(alloc);
+    for key in ["hero", "friends", "1", "name"] {
+        path.push(segment(alloc, key)?)?;
+    }
+    Ok(path)
+}
+
+fn segment(alloc: Global, key: &str) -> Made<PathSegment> {
+    match key {
+        "1" => Ok(PathSegment::Index(1)),
+        _ => Ok(PathSegment::Field(Text::new(alloc, key)?)),
+    }
 }
 
 /// Whether a place has this text.
@@ -109,19 +123,26 @@ fn next_has_text(alloc: Global, parents: &mut Parents<'_>, text: &str) -> Made<b
     }
 }
 
+/// Whether the parents of a place are three, from the innermost on.
+fn has_three_parents(alloc: Global, node: QueryPathNode<'_>) -> Made<bool> {
+    let mut parents = node.parents();
+    for text in ["hero.friends.1", "hero.friends", "hero"] {
+        if !next_has_text(alloc, &mut parents, text)? {
+            return Ok(false);
+        }
+    }
+    Ok(parents.next().is_none())
+}
+
 #[test]
 fn paths_and_their_parents(rt: HostRuntime) -> Result<(), Fail> {
     let segments = path(rt.alloc())?;
     let node = QueryPathNode {
-        segments: &segments,
+        segments: segments.as_slice(),
     };
     assert!(rt; has_text(rt.alloc(), node, "hero.friends.1.name")?);
     assert!(rt; has_four_texts(rt.alloc(), node)?);
-    let mut parents = node.parents();
-    for text in ["hero.friends.1", "hero.friends", "hero"] {
-        assert!(rt; next_has_text(rt.alloc(), &mut parents, text)?);
-    }
-    assert!(rt; parents.next().is_none());
+    assert!(rt; has_three_parents(rt.alloc(), node)?);
     Ok(())
 }
 

@@ -4,4 +4,6 @@
 #[cfg(test)]
 mod calls_tests;
 #[cfg(test)]
+mod sample;
+#[cfg(test)]
 mod tests;

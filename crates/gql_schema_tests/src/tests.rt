@@ -1,9 +1,8 @@
 //! Tables of types, called as their users call them.
-use gql_base::{Copied, Items, Made, Name, Number, Pairs, Text, TypeRef, Value};
+use gql_base::{Copied, Made, Number, Text, TypeRef, Value};
 use gql_schema::{
     ByName, Enum, Field, InputObject, InputValue, Interface, InterfaceField, NameSet, Object,
-    Scalar, ScalarRule, SchemaError, SchemaType, Subscription, SubscriptionField, Types, Union,
-    value_fits,
+    Scalar, ScalarRule, SchemaError, SchemaType, Types, Union,
 };
 use std::alloc::Global;
 use std::test::Fail;
@@ -11,200 +10,211 @@ use std::test::Fail;
 /// What finishing a table tells: `sound`, or the number and the text of its first refusal.
 fn told(alloc: Global, types: Types) -> Made<Text> {
     match types.finish(alloc)? {
-        Ok(types) => {
-            drop(types);
-            Text::new(alloc, "sound")
-        }
-        Err(error) => {
-            let rule = error.rule;
-            let text = format!(in alloc; "{rule} {}", error.text)?;
-            Ok(Text::from_string(text))
-        }
+        Ok(_) => Text::new(alloc, "sound"),
+        Err(error) => told_of_error(alloc, &error),
     }
+}
+
+fn told_of_error(alloc: Global, error: &SchemaError) -> Made<Text> {
+    let rule = error.rule;
+    Ok(Text::from_string(format!(in alloc; "{rule} {}", error.text)?))
+}
+
+/// The table with one more type.
+fn with(alloc: Global, types: Types, ty: SchemaType) -> Made<Types> {
+    let mut types = types;
+    types.register(alloc, ty)?;
+    Ok(types)
 }
 
 /// What a table tells that has these types alone.
 fn told_of(alloc: Global, first: SchemaType, second: SchemaType) -> Made<Text> {
-    let mut types = Types::new(alloc);
-    types.register(alloc, first)?;
-    types.register(alloc, second)?;
-    told(alloc, types)
+    let types = with(alloc, Types::new(alloc), first)?;
+    told(alloc, with(alloc, types, second)?)
 }
 
-fn object_type(alloc: Global, name: &str, field: &str, ty: TypeRef) -> Made<Object> {
-    let object = Object::new(alloc, name)?;
+/// An object with one field, of the resolver 7.
+fn object(alloc: Global, name: &str, field: &str, ty: TypeRef) -> Made<Object> {
     let field = Field::new(alloc, field, ty, 7)?;
-    if object.has_field(field.name()) {
-        return Ok(object);
-    }
-    object.field(alloc, field)
+    Object::new(alloc, name)?.field(alloc, field)
 }
 
-fn input_type(alloc: Global, name: &str, field: InputValue) -> Made<InputObject> {
-    let input = InputObject::new(alloc, name)?;
+/// The object `Query` with the field `f` of this type.
+fn query(alloc: Global, ty: TypeRef) -> Made<SchemaType> {
+    Ok(SchemaType::Object(object(alloc, "Query", "f", ty)?))
+}
+
+fn int_query(alloc: Global) -> Made<SchemaType> {
+    query(alloc, TypeRef::named(alloc, "Int")?)
+}
+
+/// An input object with one more field, unless it has one of that name.
+fn with_field(alloc: Global, input: InputObject, field: InputValue) -> Made<InputObject> {
     if input.has_field(field.name()) {
         return Ok(input);
     }
     input.field(alloc, field)
 }
 
-/// An interface with a field of this type, without arguments.
-fn interface_type(alloc: Global, name: &str, field: &str, ty: TypeRef) -> Made<Interface> {
-    let interface = Interface::new(alloc, name)?;
-    let field = InterfaceField::new(alloc, field, ty)?;
-    if interface.has_field(field.name()) {
-        return Ok(interface);
-    }
-    interface.field(alloc, field)
+/// An input object with one field.
+fn input(alloc: Global, name: &str, field: InputValue) -> Made<InputObject> {
+    with_field(alloc, InputObject::new(alloc, name)?, field)
+}
+
+/// The input object of this name with the field `a: Int!`.
+fn plain_input(alloc: Global, name: &str) -> Made<SchemaType> {
+    let field = InputValue::new(alloc, "a", TypeRef::named_nn(alloc, "Int")?)?;
+    Ok(SchemaType::InputObject(input(alloc, name, field)?))
 }
 
 /// What a table tells whose object has a field of this type.
 fn told_of_field(alloc: Global, ty: TypeRef) -> Made<Text> {
-    let plain = InputValue::new(alloc, "a", TypeRef::named(alloc, "Int")?)?;
-    let input = input_type(alloc, "In", plain)?;
-    let object = object_type(alloc, "Query", "f", ty)?;
-    told_of(
-        alloc,
-        SchemaType::Object(object),
-        SchemaType::InputObject(input),
-    )
+    let object = query(alloc, ty)?;
+    told_of(alloc, object, plain_input(alloc, "In")?)
+}
+
+fn told_of_named(alloc: Global, name: &str) -> Made<Text> {
+    told_of_field(alloc, TypeRef::named(alloc, name)?)
+}
+
+fn told_of_doubled(alloc: Global) -> Made<Text> {
+    told_of_field(alloc, TypeRef::named_nn(alloc, "Int")?.non_null(alloc)?)
 }
 
 #[test]
 fn a_field_has_a_type_of_outputs(rt: HostRuntime) -> Result<(), Fail> {
-    let alloc = rt.alloc();
     for (name, expected) in [
         ("Int", "sound"),
         ("Nope", "1 Type \"Nope\" not found"),
         ("In", "2 Type \"In\" cannot be used here"),
         ("Float", "8 Type \"Float\" is not supported"),
     ] {
-        let text = told_of_field(alloc, TypeRef::named(alloc, name)?)?;
-        assert_eq!(rt; text.as_str(), expected);
+        assert_eq!(rt; told_of_named(rt.alloc(), name)?.as_str(), expected);
     }
-    let doubled = TypeRef::named_nn(alloc, "Int")?.non_null(alloc)?;
-    let text = told_of_field(alloc, doubled)?;
-    assert_eq!(rt; text.as_str(), "3 Type \"Int!!\" is doubly non-null");
+    let doubled = "3 Type \"Int!!\" is doubly non-null";
+    assert_eq!(rt; told_of_doubled(rt.alloc())?.as_str(), doubled);
     Ok(())
 }
 
 /// What a table tells whose oneof input object has this field.
 fn told_of_oneof(alloc: Global, field: InputValue) -> Made<Text> {
-    let input = input_type(alloc, "In", field)?.oneof();
-    let object = object_type(alloc, "Query", "f", TypeRef::named(alloc, "Int")?)?;
-    told_of(
-        alloc,
-        SchemaType::InputObject(input),
-        SchemaType::Object(object),
-    )
+    let input = SchemaType::InputObject(input(alloc, "In", field)?.oneof());
+    told_of(alloc, input, int_query(alloc)?)
+}
+
+fn told_of_required(alloc: Global) -> Made<Text> {
+    let ty = TypeRef::named_nn(alloc, "Int")?;
+    told_of_oneof(alloc, InputValue::new(alloc, "a", ty)?)
+}
+
+fn told_of_given(alloc: Global) -> Made<Text> {
+    let ty = TypeRef::named(alloc, "Int")?;
+    let field = InputValue::new(alloc, "a", ty)?;
+    told_of_oneof(alloc, field.default_value(Value::Null))
 }
 
 #[test]
 fn a_field_of_a_oneof_can_be_left_out(rt: HostRuntime) -> Result<(), Fail> {
-    let alloc = rt.alloc();
-    let required = InputValue::new(alloc, "a", TypeRef::named_nn(alloc, "Int")?)?;
-    let text = told_of_oneof(alloc, required)?;
-    assert_eq!(rt; text.as_str(), "4 Field \"In.a\" must be nullable");
-    let given = InputValue::new(alloc, "a", TypeRef::named(alloc, "Int")?)?.default_value(
-        Value::Null,
-    );
-    let text = told_of_oneof(alloc, given)?;
-    assert_eq!(rt;
-        text.as_str(),
-        "4 Field \"In.a\" must not have a default value"
-    );
+    let required = "4 Field \"In.a\" must be nullable";
+    assert_eq!(rt; told_of_required(rt.alloc())?.as_str(), required);
+    let given = "4 Field \"In.a\" must not have a default value";
+    assert_eq!(rt; told_of_given(rt.alloc())?.as_str(), given);
     Ok(())
 }
 
-/// What a table tells whose object `O` has a field `f` of this type, and implements an interface
-/// that promises another.
-fn told_of_promise(alloc: Global, ty: TypeRef, promised: TypeRef) -> Made<Text> {
-    let object = object_type(alloc, "O", "f", ty)?.implement(alloc, "I")?;
-    let interface = interface_type(alloc, "I", "f", promised)?;
-    told_of(
-        alloc,
-        SchemaType::Object(object),
-        SchemaType::Interface(interface),
-    )
+/// The object `O` with a field, which implements the interface `I`.
+fn implementing(alloc: Global, field: Field) -> Made<SchemaType> {
+    let object = Object::new(alloc, "O")?.field(alloc, field)?;
+    Ok(SchemaType::Object(object.implement(alloc, "I")?))
+}
+
+/// The interface `I` with the field `f` of this type, without arguments.
+fn promising(alloc: Global, ty: TypeRef) -> Made<SchemaType> {
+    let field = InterfaceField::new(alloc, "f", ty)?;
+    let interface = Interface::new(alloc, "I")?.field(alloc, field)?;
+    Ok(SchemaType::Interface(interface))
+}
+
+/// What a table tells whose object `O` has this field, and implements an interface that promises
+/// `f` with this type.
+fn told_of_promise(alloc: Global, field: Field, promised: TypeRef) -> Made<Text> {
+    let object = implementing(alloc, field)?;
+    told_of(alloc, object, promising(alloc, promised)?)
+}
+
+fn told_of_stricter(alloc: Global) -> Made<Text> {
+    let field = Field::new(alloc, "f", TypeRef::named_nn(alloc, "O")?, 0)?;
+    told_of_promise(alloc, field, TypeRef::named(alloc, "I")?)
+}
+
+fn told_of_looser(alloc: Global) -> Made<Text> {
+    let field = Field::new(alloc, "f", TypeRef::named(alloc, "I")?, 0)?;
+    told_of_promise(alloc, field, TypeRef::named(alloc, "O")?)
+}
+
+/// The field `f: Int` with an argument.
+fn field_with(alloc: Global, argument: InputValue) -> Made<Field> {
+    Field::new(alloc, "f", TypeRef::named(alloc, "Int")?, 0)?.argument(alloc, argument)
+}
+
+fn told_of_argument(alloc: Global) -> Made<Text> {
+    let argument = InputValue::new(alloc, "a", TypeRef::named_nn(alloc, "Int")?)?;
+    let field = field_with(alloc, argument)?;
+    told_of_promise(alloc, field, TypeRef::named(alloc, "Int")?)
 }
 
 #[test]
 fn an_object_keeps_what_its_interface_promises(rt: HostRuntime) -> Result<(), Fail> {
-    let alloc = rt.alloc();
     let broken = "5 Object \"O\" does not satisfy interface \"I\" at field \"f\"";
-    let stricter = told_of_promise(
-        alloc,
-        TypeRef::named_nn(alloc, "O")?,
-        TypeRef::named(alloc, "I")?,
-    )?;
-    assert_eq!(rt; stricter.as_str(), "sound");
-    let looser = told_of_promise(
-        alloc,
-        TypeRef::named(alloc, "I")?,
-        TypeRef::named(alloc, "O")?,
-    )?;
-    assert_eq!(rt; looser.as_str(), broken);
-    let argument = InputValue::new(alloc, "a", TypeRef::named_nn(alloc, "Int")?)?;
-    let field = Field::new(alloc, "f", TypeRef::named(alloc, "Int")?, 0)?.argument(
-        alloc, argument,
-    )?;
-    let object = Object::new(alloc, "O")?.implement(alloc, "I")?;
-    if !object.has_field(field.name()) {
-        let object = object.field(alloc, field)?;
-        let interface = interface_type(alloc, "I", "f", TypeRef::named(alloc, "Int")?)?;
-        let text = told_of(
-            alloc,
-            SchemaType::Object(object),
-            SchemaType::Interface(interface),
-        )?;
-        assert_eq!(rt; text.as_str(), broken);
-    }
+    assert_eq!(rt; told_of_stricter(rt.alloc())?.as_str(), "sound");
+    assert_eq!(rt; told_of_looser(rt.alloc())?.as_str(), broken);
+    assert_eq!(rt; told_of_argument(rt.alloc())?.as_str(), broken);
     Ok(())
+}
+
+/// The enum `E` without items.
+fn empty_enum(alloc: Global) -> Made<SchemaType> {
+    Ok(SchemaType::Enum(Enum::new(alloc, "E")?))
+}
+
+/// What a table tells whose union has itself for a member.
+fn told_of_member(alloc: Global) -> Made<Text> {
+    let union_type = Union::new(alloc, "U")?.possible_type(alloc, "U")?;
+    told_of(alloc, SchemaType::Union(union_type), empty_enum(alloc)?)
+}
+
+/// What a table tells whose object implements an enum.
+fn told_of_implemented(alloc: Global) -> Made<Text> {
+    let object = object(alloc, "O", "f", TypeRef::named(alloc, "Int")?)?.implement(alloc, "E")?;
+    told_of(alloc, SchemaType::Object(object), empty_enum(alloc)?)
 }
 
 #[test]
 fn members_are_objects(rt: HostRuntime) -> Result<(), Fail> {
-    let alloc = rt.alloc();
-    let union_type = Union::new(alloc, "U")?.possible_type(alloc, "U")?;
-    let items = Enum::new(alloc, "E")?;
-    let text = told_of(
-        alloc,
-        SchemaType::Union(union_type),
-        SchemaType::Enum(items),
-    )?;
-    assert_eq!(rt;
-        text.as_str(),
-        "6 Union \"U\" has member \"U\" that is no object"
-    );
-    let object = object_type(alloc, "O", "f", TypeRef::named(alloc, "Int")?)?.implement(
-        alloc, "E",
-    )?;
-    let items = Enum::new(alloc, "E")?;
-    let text = told_of(alloc, SchemaType::Object(object), SchemaType::Enum(items))?;
-    assert_eq!(rt; text.as_str(), "2 Type \"E\" cannot be used here");
+    let member = "6 Union \"U\" has member \"U\" that is no object";
+    assert_eq!(rt; told_of_member(rt.alloc())?.as_str(), member);
+    let implemented = "2 Type \"E\" cannot be used here";
+    assert_eq!(rt; told_of_implemented(rt.alloc())?.as_str(), implemented);
     Ok(())
 }
 
+/// A field of the type of the input object of this number.
+fn link_field(alloc: Global, name: &str, number: usize) -> Made<InputValue> {
+    let ty = format!(in alloc; "I{number}")?;
+    InputValue::new(alloc, name, TypeRef::named_nn(alloc, ty.as_str())?)
+}
+
 /// An input object of this number, with a field of the type of the next one.
-fn link(alloc: Global, number: usize, next: usize) -> Made<SchemaType> {
+fn link(alloc: Global, number: usize, next: usize) -> Made<InputObject> {
     let name = format!(in alloc; "I{number}")?;
-    let next = format!(in alloc; "I{next}")?;
-    let field = InputValue::new(alloc, "next", TypeRef::named_nn(alloc, next.as_str())?)?;
-    Ok(SchemaType::InputObject(input_type(alloc, name.as_str(), field)?))
+    input(alloc, name.as_str(), link_field(alloc, "next", next)?)
 }
 
 /// An input object of this number, with fields of the types of two others.
-fn fork(alloc: Global, number: usize, one: usize, two: usize) -> Made<SchemaType> {
-    let name = format!(in alloc; "I{number}")?;
-    let one = format!(in alloc; "I{one}")?;
-    let two = format!(in alloc; "I{two}")?;
-    let field = InputValue::new(alloc, "one", TypeRef::named_nn(alloc, one.as_str())?)?;
-    let input = input_type(alloc, name.as_str(), field)?;
-    let field = InputValue::new(alloc, "two", TypeRef::named_nn(alloc, two.as_str())?)?;
-    if input.has_field(field.name()) {
-        return Ok(SchemaType::InputObject(input));
-    }
-    Ok(SchemaType::InputObject(input.field(alloc, field)?))
+fn fork(alloc: Global, number: usize, next: usize, other: usize) -> Made<SchemaType> {
+    let input = link(alloc, number, next)?;
+    let field = link_field(alloc, "other", other)?;
+    Ok(SchemaType::InputObject(with_field(alloc, input, field)?))
 }
 
 /// Registers input objects of these numbers, each with a field of the type of the next, and the
@@ -213,72 +223,93 @@ fn chain(alloc: Global, types: &mut Types, first: usize, end: usize, next: usize
     for number in first..end {
         let behind = number + 1;
         let next = if behind == end { next } else { behind };
-        types.register(alloc, link(alloc, number, next)?)?;
+        types.register(alloc, SchemaType::InputObject(link(alloc, number, next)?))?;
     }
     Ok(())
+}
+
+/// Three chains, of which the second and the third are circles of their own or lead on.
+fn chains(alloc: Global) -> Made<Types> {
+    let mut types = Types::new(alloc);
+    for (first, end, next) in [
+        (0, 10000, 10000),
+        (30000, 40000, 40000),
+        (10000, 10100, 10000),
+    ] {
+        chain(alloc, &mut types, first, end, next)?;
+    }
+    Ok(types)
+}
+
+/// The chains, with two forks and the end of one of them.
+fn circle(alloc: Global) -> Made<Types> {
+    let types = chains(alloc)?;
+    let types = with(alloc, types, fork(alloc, 10000, 10001, 30000)?)?;
+    let types = with(alloc, types, fork(alloc, 40000, 40001, 40001)?)?;
+    with(alloc, types, plain_input(alloc, "I40001")?)
 }
 
 #[test]
 fn a_circle_of_inputs_is_refused_at_its_first(rt: HostRuntime) -> Result<(), Fail> {
-    let alloc = rt.alloc();
-    let mut types = Types::new(alloc);
-    chain(alloc, &mut types, 0, 10000, 10000)?;
-    chain(alloc, &mut types, 30000, 40000, 40000)?;
-    chain(alloc, &mut types, 10000, 10100, 10000)?;
-    types.register(alloc, fork(alloc, 10000, 10001, 30000)?)?;
-    types.register(alloc, fork(alloc, 40000, 40001, 40001)?)?;
-    let plain = InputValue::new(alloc, "a", TypeRef::named_nn(alloc, "Int")?)?;
-    types.register(
-        alloc,
-        SchemaType::InputObject(input_type(alloc, "I40001", plain)?),
-    )?;
-    let text = told(alloc, types)?;
+    let text = told(rt.alloc(), circle(rt.alloc())?)?;
     assert_eq!(rt; text.as_str(), "7 Input object \"I10000\" contains itself");
     Ok(())
 }
 
-/// The list type of so many levels.
-fn nested_list(alloc: Global, name: &str, levels: usize) -> Made<TypeRef> {
+/// What a table tells whose object has a field of 64 lists of a type.
+fn told_of_nested(alloc: Global, name: &str) -> Made<Text> {
     let mut ty = TypeRef::named(alloc, name)?;
-    for _ in 0..levels {
+    for _ in 0..64 {
         ty = ty.list(alloc)?;
     }
-    Ok(ty)
+    told_of_field(alloc, ty)
 }
 
-#[test]
-fn lists_lie_deep_and_names_are_long(rt: HostRuntime) -> Result<(), Fail> {
-    let alloc = rt.alloc();
-    let text = told_of_field(alloc, nested_list(alloc, "Int", 64)?)?;
-    assert_eq!(rt; text.as_str(), "sound");
+fn long_name(alloc: Global) -> Made<String> {
     let mut name = String::new(alloc);
     for _ in 0..65536 {
         name.push('a')?;
     }
-    let text = told_of_field(alloc, nested_list(alloc, name.as_str(), 64)?)?;
-    let expected = format!(in alloc; "1 Type \"{name}\" not found")?;
-    assert_eq!(rt; text.as_str(), expected.as_str());
+    Ok(name)
+}
+
+/// Whether a type of this name is refused, as one that isn't there, by a text with the whole name.
+fn is_refused(alloc: Global, name: &str) -> Made<bool> {
+    let text = told_of_nested(alloc, name)?;
+    let refused = text.as_str().strip_prefix("1 Type \"");
+    Ok(refused.and_then(|rest| rest.strip_suffix("\" not found")) == Some(name))
+}
+
+#[test]
+fn lists_lie_deep_and_names_are_long(rt: HostRuntime) -> Result<(), Fail> {
+    assert_eq!(rt; told_of_nested(rt.alloc(), "Int")?.as_str(), "sound");
+    let name = long_name(rt.alloc())?;
+    assert!(rt; is_refused(rt.alloc(), name.as_str())?);
     Ok(())
 }
 
-/// What a table tells whose field has an argument with a default of this type.
-fn told_of_default(alloc: Global, ty: TypeRef, default: Value) -> Made<Text> {
-    let argument = InputValue::new(alloc, "a", ty)?.default_value(default);
-    let field = Field::new(alloc, "f", TypeRef::named(alloc, "Int")?, 0)?.argument(
-        alloc, argument,
-    )?;
-    let object = Object::new(alloc, "Query")?;
-    if object.has_field(field.name()) {
-        return Text::new(alloc, "");
-    }
-    let object = object.field(alloc, field)?;
-    let id = Scalar::new(alloc, "Date")?.rule(ScalarRule::IntBetween(1, 31));
-    told_of(alloc, SchemaType::Object(object), SchemaType::Scalar(id))
+/// What a table tells whose field has an argument with a default.
+fn told_of_default(alloc: Global, argument: InputValue) -> Made<Text> {
+    let field = field_with(alloc, argument)?;
+    let object = SchemaType::Object(Object::new(alloc, "Query")?.field(alloc, field)?);
+    told_of(alloc, object, day(alloc)?)
+}
+
+/// The scalar of the numbers from 1 to 31.
+fn day(alloc: Global) -> Made<SchemaType> {
+    let day = Scalar::new(alloc, "Date")?;
+    Ok(SchemaType::Scalar(day.rule(ScalarRule::IntBetween(1, 31))))
+}
+
+/// What a table tells that has a number as the default of a list of a type.
+fn told_of_number(alloc: Global, name: &str, number: i64) -> Made<Text> {
+    let argument = InputValue::new(alloc, "a", TypeRef::named_list(alloc, name)?)?;
+    let default = Value::Number(Number::from_i64(number));
+    told_of_default(alloc, argument.default_value(default))
 }
 
 #[test]
 fn a_default_fits(rt: HostRuntime) -> Result<(), Fail> {
-    let alloc = rt.alloc();
     let unfit = "9 Default of \"Query.f.a\" does not fit";
     for (name, number, expected) in [
         ("Int", 2147483647, "sound"),
@@ -288,66 +319,63 @@ fn a_default_fits(rt: HostRuntime) -> Result<(), Fail> {
         ("Date", 31, "sound"),
         ("Date", 32, unfit),
     ] {
-        let value = Value::Number(Number::from_i64(number));
-        let text = told_of_default(alloc, TypeRef::named_list(alloc, name)?, value)?;
+        let text = told_of_number(rt.alloc(), name, number)?;
         assert_eq!(rt; text.as_str(), expected, "at {name}");
     }
     Ok(())
 }
 
-#[test]
-fn readers_tell_what_was_built(rt: HostRuntime) -> Result<(), Fail> {
-    let alloc = rt.alloc();
+/// A table to which a second object of the first one's name was given last.
+fn replaced(alloc: Global) -> Made<Types> {
     let mut types = Types::new(alloc);
-    assert_eq!(rt; types.get("Query").is_none(), true);
     for (name, field) in [("Query", "a"), ("Other", "b"), ("Query", "c")] {
-        let object = object_type(alloc, name, field, TypeRef::named(alloc, "Int")?)?;
+        let object = object(alloc, name, field, TypeRef::named(alloc, "Int")?)?;
         types.register(alloc, SchemaType::Object(object))?;
     }
-    assert_eq!(rt; types.len(), 2);
-    if types.len() == 2 {
-        assert_eq!(rt; types.at(0).name(), "Query");
-    }
-    let found = match types.get("Query") {
-        Some(SchemaType::Object(object)) => object.get("c").map(|field| field.resolver()),
+    Ok(types)
+}
+
+/// The number of the resolver of a field of the object `Query`.
+fn resolver_of(types: &Types, field: &str) -> Option<u32> {
+    match types.get("Query") {
+        Some(SchemaType::Object(object)) => Some(object.get(field)?.resolver()),
         _ => None,
-    };
-    assert_eq!(rt; found, Some(7));
+    }
+}
+
+/// Whether the table has two types, of which the first is the second object `Query`.
+fn is_replaced(types: &Types) -> bool {
+    types.len() == 2 && types.at(0).name() == "Query" && resolver_of(types, "c") == Some(7)
+}
+
+/// Whether a table equals its copy, until a type of it is changed.
+fn equals_its_copy(alloc: Global, types: &Types) -> Made<bool> {
     let copy = types.try_clone(alloc)?;
-    assert_eq!(rt; types.equals(&copy), true);
-    types.register(alloc, SchemaType::Union(Union::new(alloc, "Other")?))?;
-    assert_eq!(rt; types.equals(&copy), false);
+    let equal = types.equals(&copy);
+    let other = SchemaType::Union(Union::new(alloc, "Other")?);
+    Ok(equal && !types.equals(&with(alloc, copy, other)?))
+}
+
+#[test]
+fn readers_tell_what_was_built(rt: HostRuntime) -> Result<(), Fail> {
+    assert!(rt; Types::new(rt.alloc()).get("Query").is_none());
+    let types = replaced(rt.alloc())?;
+    assert!(rt; is_replaced(&types));
+    assert!(rt; equals_its_copy(rt.alloc(), &types)?);
     Ok(())
 }
 
 /// A table of an entity `O` with a field `f`, and a union `U` of it.
 fn entity_table(alloc: Global) -> Made<Types> {
-    let mut types = Types::new(alloc);
-    let object = object_type(alloc, "O", "f", TypeRef::named(alloc, "Int")?)?.key(alloc, "f")?;
-    types.register(alloc, SchemaType::Object(object))?;
+    let object = object(alloc, "O", "f", TypeRef::named(alloc, "Int")?)?.key(alloc, "f")?;
+    let types = with(alloc, Types::new(alloc), SchemaType::Object(object))?;
     let union_type = Union::new(alloc, "U")?.possible_type(alloc, "O")?;
-    types.register(alloc, SchemaType::Union(union_type))?;
-    Ok(types)
+    with(alloc, types, SchemaType::Union(union_type))
 }
 
 /// The number of a field's resolver, or none where there is no such field.
 fn number_at(types: &Types, type_name: &str, field_name: &str) -> Option<u32> {
     types.field(type_name, field_name)?.number
-}
-
-#[test]
-fn a_table_tells_fields_and_objects(rt: HostRuntime) -> Result<(), Fail> {
-    let alloc = rt.alloc();
-    let types = entity_table(alloc)?;
-    assert_eq!(rt;
-        types.field("O", "f").map(|field| field.number),
-        Some(Some(7))
-    );
-    assert_eq!(rt; types.field("U", "f").is_none(), true);
-    assert_eq!(rt; types.is_possible("U", "O"), true);
-    assert_eq!(rt; types.is_possible("U", "U"), false);
-    assert_eq!(rt; types.possible(alloc, "U")?.has("O"), true);
-    Ok(())
 }
 
 /// Whether the union of entities has this member.
@@ -358,16 +386,32 @@ fn is_member(types: &Types, name: &str) -> bool {
     }
 }
 
+/// Whether `O` is the object that is possible for `U`.
+fn has_one_possible(alloc: Global, types: &Types) -> Made<bool> {
+    let possible = types.possible(alloc, "U")?;
+    Ok(possible.has("O") && types.is_possible("U", "O") && !types.is_possible("U", "U"))
+}
+
+#[test]
+fn a_table_tells_fields_and_objects(rt: HostRuntime) -> Result<(), Fail> {
+    let types = entity_table(rt.alloc())?;
+    assert_eq!(rt; number_at(&types, "O", "f"), Some(7));
+    assert!(rt; types.field("U", "f").is_none());
+    assert!(rt; types.has_entities());
+    assert!(rt; has_one_possible(rt.alloc(), &types)?);
+    Ok(())
+}
+
+/// Whether the table with the two types of entities has four types, and `O` among the entities.
+fn has_entities(types: &Types) -> bool {
+    types.len() == 4 && is_member(types, "O")
+}
+
 #[test]
 fn entities_have_two_types(rt: HostRuntime) -> Result<(), Fail> {
-    let alloc = rt.alloc();
-    let types = entity_table(alloc)?;
-    assert_eq!(rt; types.has_entities(), true);
-    let types = types.with_entities(alloc)?;
-    assert_eq!(rt; types.len(), 4);
-    assert_eq!(rt; is_member(&types, "O"), true);
-    let text = told(alloc, types)?;
-    assert_eq!(rt; text.as_str(), "sound");
+    let types = entity_table(rt.alloc())?.with_entities(rt.alloc())?;
+    assert!(rt; has_entities(&types));
+    assert_eq!(rt; told(rt.alloc(), types)?.as_str(), "sound");
     Ok(())
 }
 
