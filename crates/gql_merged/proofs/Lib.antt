@@ -8,6 +8,7 @@ pub mod ContextLemmas
 pub mod EntryLemmas
 pub mod FillingLemmas
 pub mod GatheredLemmas
+pub mod GivingLemmas
 pub mod GroupLemmas
 pub mod JobLemmas
 pub mod LevelLemmas

@@ -8,6 +8,8 @@ use Rattle.gql_base.specs.Pairs.{names_of, values_of}
 use Rattle.gql_base.specs.declared.path_segment.PathSegment.TheVariants as segment
 use Rattle.gql_base.specs.declared.pos.Pos.{Pos}
 use Rattle.gql_doc.specs.Depth.{deep_from, operation_set}
+use Rattle.gql_doc.specs.declared.document.Field.{Field}
+use Rattle.gql_doc.specs.declared.document.Positioned.{Positioned}
 use Rattle.gql_engine.proofs.Lists.{get_at, get_map, get_within}
 use Rattle.gql_engine.proofs.RecordLemmas.{with_more_none}
 use Rattle.gql_engine.proofs.RunLemmas.{all_done, first_made, first_right}
@@ -25,6 +27,7 @@ use Rattle.gql_engine.specs.declared.given.Given.TheVariants.{Answered}
 use Rattle.gql_engine.specs.declared.scene.Scene.{Scene}
 use Rattle.gql_meaning.specs.Responses.{Members, root_place}
 use Rattle.gql_place.specs.declared.place.Place.{Place}
+use Rattle.gql_request.specs.QueryEnv.{levels_of}
 use Rattle.gql_resolve.specs.Call.{Call}
 use Rattle.gql_resolve.specs.Record.{with_more}
 use Rattle.gql_resolve.specs.declared.answer.Answer.{Answer}
@@ -45,11 +48,13 @@ use Rattle.gql_merged.specs.Parents.{Standing, standing_at, standing_of}
 use Rattle.gql_merged.specs.Run.{basis_of, job_subject, merged_response, merged_work, Nests, root_jobs, root_selections, root_spot}
 use Rattle.gql_merged.specs.Standing.{IsHeld, Paired}
 use Rattle.gql_merged.specs.Tasks.{IsDeep, job_of_task, jobs_in}
+use Rattle.gql_merged.specs.Within.{AllNest}
 use Rattle.gql_merged.specs.declared.kept.Filled.{Filled}
 use Rattle.gql_merged.specs.declared.parent.Parent.{Parent}
 use Rattle.gql_merged.specs.declared.task.Task.{Task}
 use Rattle.gql_merged.proofs.BeneathLemmas.{every_at, every_of, jobs_all}
 use Rattle.gql_merged.proofs.GatheredLemmas.{level_members}
+use Rattle.gql_merged.proofs.NestLemmas.{collected_nest}
 use Rattle.gql_merged.proofs.PlacedLemmas.{root_right}
 use Rattle.gql_merged.proofs.WithinLemmas.{nests_within}
 
@@ -74,6 +79,13 @@ taken (x ∷ first) more (suc n) long =
     record { more = rest.more; is = ap (λ xs. x ∷ xs) rest.is }
 
 module _ {V : Type 0} (scene : Scene V) where
+  -- the fields of the root nest
+  pub root_nest : (object : List ℕ) (fields : List (Positioned Field)) → fields ≡ collected (basis_of scene) object (root_selections scene) → AllNest scene.env.now fields
+  root_nest object fields is =
+      let setting = setting_by (basis_of scene) in
+      subst (AllNest scene.env.now) (sym is)
+      (collected_nest setting object (levels_of scene.env.now) setting.levels (operation_set scene.env.now.operation) scene.env.now.nests)
+
   -- the tasks of the root have paths of one segment
   root_short : AllByRecursion (λ (job : Job V). length job.path ≡ 1) (root_jobs scene)
   root_short = jobs_all (λ (job : Job V). length job.path ≡ 1) (λ field. Unit {0}) (basis_of scene) (root_spot scene)

@@ -4,6 +4,7 @@ ghost use Rattle.gql_engine.specs.Parts.{due_by};
 ghost use Rattle.gql_engine.specs.Progress.{RunsWhole, RunStopped, seen};
 ghost use Rattle.gql_engine.specs.Rounds.{RoundsWhole, RoundsStopped};
 ghost use Rattle.gql_engine.specs.Steps.{IsCounted};
+ghost use Rattle.gql_meaning.specs.Responses.{root_place};
 ghost use Rattle.gql_resolve.specs.Call.{Call, is_mutation};
 ghost use Rattle.gql_resolve.specs.declared.answer.Answer.{Answer};
 ghost use Rattle.gql_merged.specs.Assembling.{AllHeld, IsAssembled};
@@ -24,7 +25,7 @@ use crate::members::members_at;
 use crate::parent::{Held, Parent};
 use crate::task_making::make_tasks;
 use crate::tree_plan::TreePlan;
-use gql_base::{Items, Made, NoMemory, Pos, Steps};
+use gql_base::{Items, Made, NoMemory, Pairs, Pos, Steps};
 use gql_engine::{Rounds, Scene, finish, fresh_arena};
 use gql_place::{Place, Tree};
 use gql_request::Hooks;
@@ -187,7 +188,6 @@ fn plan_of<'a, V: Drop>(alloc: Global, root: &Rc<Parent<'a, V>>) -> Made<TreePla
 }
 
 /// The place of the root, of what is kept of all tasks.
-#[tactic(auto, using(crate::proofs::RunLemmas::root_assembled))]
 fn place_of_root<'a, V: Drop>(
     alloc: Global,
     pos: Pos,
@@ -207,11 +207,18 @@ fn place_of_root<'a, V: Drop>(
     } = plan;
     let mut places = assemble(alloc, kept, roots, tasks.len())?;
     let members = members_at(alloc, root.level.as_ref(), &mut places)?;
-    Ok(Place {
+    Ok(root_with(alloc, pos, members))
+}
+
+/// The place of the root with these members.
+fn root_with(alloc: Global, pos: Pos, members: Pairs<Place>) -> Place
+    ensures { result ≡ root_place pos members }
+{
+    Place {
         pos,
         non_null: false,
         added: Items::new(alloc),
         headers: Items::new(alloc),
         tree: Tree::Object(members),
-    })
+    }
 }
