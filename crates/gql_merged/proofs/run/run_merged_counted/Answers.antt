@@ -134,7 +134,7 @@ returns-clause-places g c = λ law calm n nests.
     } in
     let keeps = subst (λ js. KeepNumbers js last) asked went.passed.enters.stays in
     response_is c.args.scene.now (due_by g.R.ResolverSet c.args.resolvers.now) (standing_behind c.in_ok-root.root) c.finish.new.plan.roots last
-    c.in_ok-place_of_root.value n c.in_ok-root.ensures keeps
+    c.in_ok-place_of_root.field-0 n c.in_ok-root.ensures keeps
     (roots_enough c.args.scene.now c.finish.new.plan.tasks.items c.finish.new.plan.roots keeps c.finish.new.plan.deep)
     (c.in_ok-place_of_root.ensures (due_by g.R.ResolverSet c.args.resolvers.now)
     (all_held g.R.ResolverSet g.P.Turns c.args.scene.now old first c.in_ok-arena.arena.states.items begins new last entries entries' c.finish.new.arena.states.items finishes)) nests

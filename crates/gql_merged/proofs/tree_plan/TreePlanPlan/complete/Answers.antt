@@ -1,4 +1,4 @@
-use Rattle.std.proofs.Common.{◌∙◌, ◌++◌, ◌∷◌, [], ap, arith, length, refl}
+use Rattle.std.proofs.Common.{◌∙◌, ◌<◌, ◌++◌, ◌∷◌, [], ap, arith, length, refl}
 use Rattle.std.proofs.lemmas.List.{length-map}
 use Rattle.std.proofs.lemmas.Option.{slice_get_read}
 use Rattle.gql_merged.specs.Fitting.{made_beneath}
@@ -14,7 +14,7 @@ invariant_of-self-2 g c =
     let given = c.args.given in
     let k : Kept g.row.V.Denot
     = record { number = c.args.number; first = c.len-first.result; count = c.len-count.result; filled = c.in_ok-filled.filled } in
-    let within = (let l = length-map tasks job_of_task in let r = c.requires in omega arith) in
+    let within : c.args.number < length tasks = (let l = length-map tasks job_of_task in let r = c.requires in omega arith) in
     let done =
     completes_task tasks c.append.new.self.items c.fill_given.new.tasks.items c.args.self.now.kept.items c.push_reserved.new.self.items k task given
     (slice_get_read tasks (length tasks) c.args.number task refl within c.index.ensures)
@@ -40,7 +40,7 @@ completed g c =
     let given = c.args.given in
     let k : Kept g.row.V.Denot
     = record { number = c.args.number; first = c.len-first.result; count = c.len-count.result; filled = c.in_ok-filled.filled } in
-    let within = (let l = length-map tasks job_of_task in let r = c.requires in omega arith) in
+    let within : c.args.number < length tasks = (let l = length-map tasks job_of_task in let r = c.requires in omega arith) in
     completes_task tasks c.append.new.self.items c.fill_given.new.tasks.items c.args.self.now.kept.items c.push_reserved.new.self.items k task given
     (slice_get_read tasks (length tasks) c.args.number task refl within c.index.ensures)
     c.in_ok-append.ensures.items
