@@ -1,14 +1,13 @@
 -- The places of tasks as they are put together, from the task that was answered last to the first.
-use Rattle.std.proofs.Common.{◌≡◌, ℕ, zero, suc, ◌+◌, ◌<◌, ◌≤◌, List, [], ◌∷◌, ◌++◌, length, map, take, drop, Option, Some, None, slice_get, refl, ap, sym, subst, ◌∙◌, arith}
+use Rattle.std.proofs.Common.{◌≡◌, ℕ, zero, suc, ◌<◌, ◌≤◌, List, [], ◌∷◌, ◌++◌, length, take, drop, Option, Some, None, slice_get, refl, ap, sym, subst, ◌∙◌, arith}
 use Rattle.gql_place.specs.declared.place.Place.{Place}
 use Rattle.gql_resolve.specs.Call.{Call}
 use Rattle.gql_resolve.specs.declared.answer.Answer.{Answer}
 use Rattle.gql_merged.specs.Assembling.{AllHeld, beneath_due, IsFilledDue, IsRight, place_made}
-use Rattle.gql_merged.specs.Entries.{Entry, laid}
+use Rattle.gql_merged.specs.Entries.{laid}
 use Rattle.gql_merged.specs.Fitting.{entries_in, entry_of}
 use Rattle.gql_merged.specs.Jobs.{Job}
 use Rattle.gql_merged.specs.Standing.{Paired, present, put_open}
-use Rattle.gql_merged.specs.declared.kept.Filled.{Filled}
 use Rattle.gql_merged.specs.declared.kept.Kept.{Kept}
 use Rattle.gql_merged.proofs.EntryLemmas.{Laid, laid_less}
 use Rattle.gql_merged.proofs.PlacedLemmas.{made_right}

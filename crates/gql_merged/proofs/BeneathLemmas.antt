@@ -1,5 +1,5 @@
 -- The tasks beneath an answer, and the levels of its objects.
-use Rattle.std.proofs.Common.{◌≡◌, ℕ, zero, suc, ◌+◌, ◌<◌, ◌≤◌, Bool, true, false, cond, List, [], ◌∷◌, ◌++◌, length, map, Option, Some, None, slice_get, refl, ap, sym, subst, ◌∙◌, arith, append_assoc, length-append}
+use Rattle.std.proofs.Common.{◌≡◌, ℕ, zero, suc, ◌<◌, Bool, true, false, cond, List, [], ◌∷◌, ◌++◌, length, map, Option, Some, None, slice_get, refl, ap, sym, subst, ◌∙◌, arith, append_assoc, length-append}
 use Rattle.std.specs.Prelude.{option_map}
 use Rattle.std.specs.List.{AllByRecursion, flat_map}
 use Rattle.std.specs.Cmp.Lexicographic.{bytes_decides}
@@ -7,7 +7,6 @@ use Rattle.std.specs.Str.{bytes_eq}
 use Rattle.std.specs.declared.alloc.Global.{Global}
 use Rattle.std.specs.declared.rc.Rc.{Rc}
 use Rattle.gql_base.specs.Pairs.{put, under, values_of}
-use Rattle.gql_base.specs.declared.path_segment.PathSegment.{PathSegment}
 use Rattle.gql_base.specs.declared.path_segment.PathSegment.TheVariants as segment
 use Rattle.gql_doc.specs.Depth.{field_set}
 use Rattle.gql_doc.specs.declared.document.Field.{Field}
@@ -16,25 +15,20 @@ use Rattle.gql_doc.specs.declared.document.Selection.{Selection}
 use Rattle.gql_engine.specs.Path.{key_text}
 use Rattle.gql_meaning.specs.Execution.{Asking, field_asking}
 use Rattle.gql_request.specs.QueryEnv.{levels_of}
-use Rattle.gql_resolve.specs.Layers.{layers_of}
 use Rattle.gql_resolve.specs.declared.answer.Answer.{Answer}
 use Rattle.gql_select.specs.Collected.{own_selections}
 use Rattle.gql_select.specs.Documents.{reading}
 use Rattle.gql_select.specs.Reading.{merged}
-use Rattle.gql_merged.specs.Asks.{asking_by}
 use Rattle.gql_merged.specs.Basis.{execution_of, setting_by}
 use Rattle.gql_merged.specs.Beneath.{AreBeneath, IsBeneath, level_behind}
 use Rattle.gql_merged.specs.FieldsWithin.{collected}
 use Rattle.gql_merged.specs.Groups.{united}
-use Rattle.gql_merged.specs.Jobs.{asked_by_job, completed_by, Job, job_at, job_by, jobs_at, jobs_beneath, jobs_by, jobs_of}
-use Rattle.gql_merged.specs.Levels.{Asked, asked_in}
+use Rattle.gql_merged.specs.Jobs.{completed_by, Job, job_at, jobs_at, jobs_beneath, jobs_of}
 use Rattle.gql_merged.specs.Parents.{jobs_of_standing, spot_found, Standing, standing_at, standing_behind}
-use Rattle.gql_merged.specs.Steps.{path_of, segment_of}
+use Rattle.gql_merged.specs.Steps.{path_of}
 use Rattle.gql_merged.specs.Stored.{Spot, spots}
 use Rattle.gql_merged.specs.Tasks.{IsDeep}
 use Rattle.gql_merged.specs.Within.{AllNest, IsWithin}
-use Rattle.gql_merged.specs.declared.asks.Asks.{Asks}
-use Rattle.gql_merged.specs.declared.asks.Asks.TheVariants as asks
 use Rattle.gql_merged.specs.declared.basis.Basis.{Basis}
 use Rattle.gql_merged.specs.declared.level.Level.{Level}
 use Rattle.gql_merged.specs.declared.level.Node.{Node}
@@ -44,7 +38,7 @@ use Rattle.gql_merged.specs.declared.step.Step.{Step}
 use Rattle.gql_merged.proofs.JobLemmas.{level_jobs}
 use Rattle.gql_merged.proofs.NestLemmas.{collected_nest, every_both}
 use Rattle.gql_merged.proofs.TaskLemmas.{map_append}
-use Rattle.gql_merged.proofs.WithinLemmas.{both_within, every_map, merged_all}
+use Rattle.gql_merged.proofs.WithinLemmas.{both_within, merged_all}
 
 -- what holds of all holds of each
 pub every_at : {X : Type 0} (P : X → Type 0) (xs : List X) (k : ℕ) (x : X) → AllByRecursion P xs → slice_get xs k ≡ Some x → P x

@@ -1,5 +1,5 @@
 -- What the resolver of a task is told of it.
-use Rattle.std.proofs.Common.{◌≡◌, ℕ, Bool, false, List, Some, slice_get, refl, ap, sym, ◌∙◌}
+use Rattle.std.proofs.Common.{◌≡◌, ℕ, false, List, Some, slice_get, ap, sym, ◌∙◌}
 use Rattle.std.specs.Prelude.{◌&&◌}
 use Rattle.gql_engine.proofs.Lists.{get_map}
 use Rattle.gql_engine.specs.Plan.{IsContextOf}

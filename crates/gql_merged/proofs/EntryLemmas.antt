@@ -1,5 +1,5 @@
 -- What is kept of tasks, one after another.
-use Rattle.std.proofs.Common.{◌≡◌, ℕ, zero, suc, ◌+◌, ◌<◌, ◌≤◌, Bool, true, false, cond, ltb, eqb, List, [], ◌∷◌, ◌++◌, length, Option, Some, None, refl, sym, ap, subst, ◌∙◌, arith, ltb-true, eqb-true, eq-eqb, lt-ltb, ne_eqb}
+use Rattle.std.proofs.Common.{◌≡◌, ℕ, ◌+◌, ◌<◌, ◌≤◌, Bool, true, false, cond, ltb, eqb, List, [], ◌∷◌, ◌++◌, Option, Some, None, refl, sym, ap, subst, ◌∙◌, arith, ltb-true, eqb-true, eq-eqb, lt-ltb, ne_eqb}
 use Rattle.std.specs.Prelude.{◌&&◌}
 use Rattle.std.specs.Option.{option_or}
 use Rattle.gql_merged.specs.Entries.{Entry, if_number, laid, latest}

@@ -15,7 +15,7 @@ use Rattle.gql_merged.specs.Fitting.{IsFilled}
 use Rattle.gql_merged.specs.Groups.{united, with_others}
 use Rattle.gql_merged.specs.Jobs.{completed_by, Job, jobs_beneath}
 use Rattle.gql_merged.specs.Parents.{jobs_of_standing, spot_found, standing_at, standing_behind}
-use Rattle.gql_merged.specs.Stored.{bare, Spot, spots}
+use Rattle.gql_merged.specs.Stored.{bare, spots}
 use Rattle.gql_merged.specs.Tasks.{IsDeep, job_with, path_with}
 use Rattle.gql_merged.specs.declared.group.Group.{Group}
 use Rattle.gql_merged.specs.declared.kept.Filled.{Filled}

@@ -7,7 +7,6 @@ use Rattle.gql_doc.specs.declared.document.Field.{Field}
 use Rattle.gql_doc.specs.declared.document.Positioned.{Positioned}
 use Rattle.gql_doc.specs.declared.document.Selection.{Selection}
 use Rattle.gql_meaning.specs.Completion.{Completed}
-use Rattle.gql_meaning.specs.Responses.{Members}
 use Rattle.gql_place.specs.Filled.{fill}
 use Rattle.gql_place.specs.declared.place.Place.{Place}
 use Rattle.gql_resolve.specs.Call.{Call}

@@ -1,11 +1,11 @@
 -- The sets of collected and united fields nest within the levels of the set that the fields stand in.
-use Rattle.std.proofs.Common.{◌≡◌, ℕ, zero, suc, ◌≤◌, Bool, true, false, cond, List, [], ◌∷◌, ◌++◌, Option, Some, None, refl, ap, sym, subst, ◌∙◌, arith}
+use Rattle.std.proofs.Common.{◌≡◌, ℕ, zero, suc, Bool, true, false, cond, List, [], ◌∷◌, ◌++◌, Option, Some, None, refl, ap, sym, subst, arith}
 use Rattle.std.specs.Prelude.{option_and_then, option_map}
 use Rattle.std.specs.List.{AllByRecursion, Contains, flat_map}
 use Rattle.std.specs.Option.{option_or}
 use Rattle.gql_base.specs.Pairs.{under}
 use Rattle.gql_doc.proofs.DepthLaws.{deep_less, field_nests, nests_beneath}
-use Rattle.gql_doc.specs.Depth.{deep_from, field_set, fragment_set, Fragments, selections_of, set_beneath, set_under}
+use Rattle.gql_doc.specs.Depth.{deep_from, field_set, fragment_set, selections_of, set_beneath, set_under}
 use Rattle.gql_doc.specs.First.{first_in}
 use Rattle.gql_doc.specs.declared.document.Field.{Field}
 use Rattle.gql_doc.specs.declared.document.FragmentDefinition.{FragmentDefinition}

@@ -3,19 +3,15 @@ use Rattle.std.proofs.Common.{◌≡◌, ℕ, zero, suc, false, List, [], ◌∷
 use Rattle.std.proofs.lemmas.List.{append-nil}
 use Rattle.std.specs.List.{AllByRecursion, flat_map}
 use Rattle.gql_base.specs.Pairs.{values_of}
-use Rattle.gql_base.specs.declared.pos.Pos.{Pos}
-use Rattle.gql_doc.specs.declared.document.Field.{Field}
 use Rattle.gql_doc.specs.declared.document.Positioned.{Positioned}
 use Rattle.gql_doc.specs.declared.document.Selection.{Selection}
-use Rattle.gql_meaning.specs.Completion.{outcome_at}
-use Rattle.gql_meaning.specs.Responses.{Members, placed}
+use Rattle.gql_meaning.specs.Responses.{placed}
 use Rattle.gql_place.specs.Filled.{fill}
 use Rattle.gql_place.specs.declared.place.Place.{Place}
 use Rattle.gql_resolve.specs.Call.{Call}
 use Rattle.gql_resolve.specs.declared.answer.Answer.{Answer}
 use Rattle.gql_resolve.specs.declared.field_value.FieldValue.{FieldValue}
-use Rattle.gql_schema.specs.Table.{types_of}
-use Rattle.gql_select.specs.Collected.{collect, own_selections, Setting}
+use Rattle.gql_select.specs.Collected.{own_selections, Setting}
 use Rattle.gql_select.specs.Documents.{reading}
 use Rattle.gql_select.specs.Reading.{merged, over}
 use Rattle.gql_merged.specs.Assembled.{members_with, place_of_job, places_behind_all}
@@ -27,7 +23,7 @@ use Rattle.gql_merged.specs.Fitting.{IsFilled}
 use Rattle.gql_merged.specs.Jobs.{completed_by, Job, jobs_at, jobs_beneath}
 use Rattle.gql_merged.specs.Levels.{asked_in}
 use Rattle.gql_merged.specs.Merged.{merged_beneath, merged_members, merged_place}
-use Rattle.gql_merged.specs.Parents.{Standing, standing_at, standing_behind}
+use Rattle.gql_merged.specs.Parents.{standing_at, standing_behind}
 use Rattle.gql_merged.specs.Standing.{Paired}
 use Rattle.gql_merged.specs.Stored.{bare, Spot, spots}
 use Rattle.gql_merged.specs.Within.{IsWithin}

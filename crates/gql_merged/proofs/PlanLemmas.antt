@@ -1,5 +1,5 @@
 -- What a plan keeps as a task is given something.
-use Rattle.std.proofs.Common.{◌≡◌, ℕ, zero, suc, ◌+◌, ◌<◌, ◌≤◌, List, [], ◌∷◌, ◌++◌, length, map, Option, Some, None, slice_get, refl, ap, sym, subst, ◌∙◌, arith, length-append, inl, inr}
+use Rattle.std.proofs.Common.{◌≡◌, ℕ, ◌+◌, ◌<◌, ◌≤◌, List, [], ◌∷◌, ◌++◌, length, Some, slice_get, refl, ap, sym, subst, ◌∙◌, arith, length-append, inl, inr}
 use Rattle.std.proofs.lemmas.List.{length-map}
 use Rattle.std.specs.List.{AllByRecursion}
 use Rattle.gql_engine.proofs.Lists.{get_append, get_map, get_within}
@@ -9,7 +9,6 @@ use Rattle.gql_merged.specs.Entries.{laid}
 use Rattle.gql_merged.specs.Fitting.{entries_in, entry_of, HoldsGiven, IsFilledWith, made_beneath}
 use Rattle.gql_merged.specs.Jobs.{Job}
 use Rattle.gql_merged.specs.Tasks.{IsDeep, job_of_task, jobs_in}
-use Rattle.gql_merged.specs.declared.kept.Filled.{Filled}
 use Rattle.gql_merged.specs.declared.kept.Kept.{Kept}
 use Rattle.gql_merged.specs.declared.task.Task.{Task}
 use Rattle.gql_merged.proofs.BeneathLemmas.{every_at}

@@ -1,28 +1,24 @@
 -- From the first turn to the last: the tasks of the root, and what stands when none waits.
-use Rattle.std.proofs.Common.{ℕ, zero, suc, ◌≡◌, ◌+◌, ◌≤◌, ◌<◌, Bool, true, false, ltb, List, [], ◌∷◌, ◌++◌, length, map, take, refl, sym, ap, subst, ◌∙◌, arith, ltb-true, ltb-false}
+use Rattle.std.proofs.Common.{ℕ, zero, suc, ◌≡◌, ◌≤◌, Bool, true, false, ltb, List, [], ◌∷◌, ◌++◌, length, map, take, refl, sym, ap, subst, ◌∙◌, arith, ltb-true, ltb-false}
 use Rattle.std.proofs.lemmas.List.{append-nil}
-use Rattle.std.specs.Prelude.{Option, Some, None, slice_get}
+use Rattle.std.specs.Prelude.{Some, slice_get}
 use Rattle.std.specs.List.{AllByRecursion, zip}
 use Rattle.std.specs.Option.{ForSome}
 use Rattle.gql_base.specs.Pairs.{names_of, values_of}
-use Rattle.gql_base.specs.declared.path_segment.PathSegment.TheVariants as segment
 use Rattle.gql_base.specs.declared.pos.Pos.{Pos}
-use Rattle.gql_doc.specs.Depth.{deep_from, operation_set}
+use Rattle.gql_doc.specs.Depth.{operation_set}
 use Rattle.gql_doc.specs.declared.document.Field.{Field}
 use Rattle.gql_doc.specs.declared.document.Positioned.{Positioned}
-use Rattle.gql_engine.proofs.Lists.{get_at, get_map, get_within}
+use Rattle.gql_engine.proofs.Lists.{get_at, get_within}
 use Rattle.gql_engine.proofs.RecordLemmas.{with_more_none}
 use Rattle.gql_engine.proofs.RunLemmas.{all_done, first_made, first_right}
 use Rattle.gql_engine.specs.Arena.{fresh_states, IsRight as IsRightAt, made_of, marks_of}
 use Rattle.gql_engine.specs.Pace.{EachPaced, EachPacedSoFar, pending_then_ready}
 use Rattle.gql_engine.specs.Parts.{choice_by, delay_by, due_by}
-use Rattle.gql_engine.specs.Path.{key_text}
 use Rattle.gql_engine.specs.Progress.{Agrees, RunsWhole, RunStopped, Seen, stage_of, story_at}
 use Rattle.gql_engine.specs.Record.{begun_at, fresh, Ran, Stopped, waiting_from}
 use Rattle.gql_engine.specs.Rounds.{KeepNumbers}
 use Rattle.gql_engine.specs.declared.arena.State.{State}
-use Rattle.gql_engine.specs.declared.arena.State.TheVariants as state
-use Rattle.gql_engine.specs.declared.given.Given.{Given}
 use Rattle.gql_engine.specs.declared.given.Given.TheVariants.{Answered}
 use Rattle.gql_engine.specs.declared.scene.Scene.{Scene}
 use Rattle.gql_meaning.specs.Responses.{Members, root_place}
@@ -37,7 +33,7 @@ use Rattle.gql_resolve.specs.declared.turns.Turns.{Ghosts as Choosing}
 use Rattle.gql_select.specs.Documents.{reading}
 use Rattle.gql_select.specs.Reading.{merged}
 use Rattle.gql_merged.specs.Assembled.{members_with, places_with}
-use Rattle.gql_merged.specs.Assembling.{AllHeld, beneath_due, IsAssembled, IsFilledDue, IsRight}
+use Rattle.gql_merged.specs.Assembling.{AllHeld, IsAssembled, IsRight}
 use Rattle.gql_merged.specs.Basis.{setting_by}
 use Rattle.gql_merged.specs.Entries.{Entry}
 use Rattle.gql_merged.specs.FieldsWithin.{collected}
@@ -46,7 +42,7 @@ use Rattle.gql_merged.specs.Jobs.{Job, jobs_beneath}
 use Rattle.gql_merged.specs.Levels.{asked_behind}
 use Rattle.gql_merged.specs.Parents.{Standing, standing_at, standing_of}
 use Rattle.gql_merged.specs.Run.{basis_of, job_subject, merged_response, merged_work, Nests, root_jobs, root_selections, root_spot}
-use Rattle.gql_merged.specs.Standing.{IsHeld, Paired}
+use Rattle.gql_merged.specs.Standing.{Paired}
 use Rattle.gql_merged.specs.Tasks.{IsDeep, job_of_task, jobs_in}
 use Rattle.gql_merged.specs.Within.{AllNest}
 use Rattle.gql_merged.specs.declared.kept.Filled.{Filled}

@@ -1,6 +1,6 @@
 -- Places of tasks, put together from the last task that was answered to the first.
-use Rattle.std.proofs.Common.{◌≡◌, ℕ, zero, suc, ◌+◌, ◌<◌, ◌≤◌, Bool, true, false, eqb, List, [], ◌∷◌, ◌++◌, length, take, drop, Option, Some, None, slice_get, refl, sym, ap, subst, ◌∙◌, arith, eqb-true, false-eqb, inl, inr, length-append}
-use Rattle.std.specs.Prelude.{◌⊎◌, ◌-◌}
+use Rattle.std.proofs.Common.{◌≡◌, ℕ, zero, suc, ◌+◌, ◌<◌, ◌≤◌, Bool, true, false, eqb, List, [], ◌∷◌, ◌++◌, length, take, drop, Option, Some, None, slice_get, refl, sym, ap, subst, ◌∙◌, arith, eqb-true, false-eqb, length-append}
+use Rattle.std.specs.Prelude.{◌-◌}
 use Rattle.gql_merged.specs.Entries.{Entry, laid, latest}
 use Rattle.gql_merged.specs.Standing.{IsHeld, Paired, present, put_open}
 use Rattle.gql_merged.proofs.EntryLemmas.{laid_less, latest_other, latest_same, latest_within}

@@ -1,5 +1,5 @@
 -- The objects of completed answers, stored one after another.
-use Rattle.std.proofs.Common.{rules, ◌≡◌, ℕ, zero, suc, ◌+◌, Bool, List, [], ◌∷◌, ◌++◌, length, map, take, refl, ap, sym, ◌∙◌, subst, arith, append_assoc, length-append}
+use Rattle.std.proofs.Common.{rules, ◌≡◌, ℕ, suc, ◌+◌, Bool, List, [], ◌∷◌, ◌++◌, length, map, take, refl, ap, sym, ◌∙◌, arith, append_assoc, length-append}
 use Rattle.std.proofs.lemmas.List.{append-nil}
 use Rattle.gql_base.specs.declared.error.Error.{Error}
 use Rattle.gql_base.specs.declared.path_segment.PathSegment.{PathSegment}
@@ -9,10 +9,8 @@ use Rattle.gql_meaning.specs.Completion.{Completed}
 use Rattle.gql_place.specs.declared.shape.Shape.{the_lemmas}
 use Rattle.gql_place.specs.declared.shape.Shape.TheVariants as shape
 use Rattle.gql_resolve.specs.declared.field_value.FieldValue.{FieldValue}
-use Rattle.gql_merged.specs.Parents.{spot_found}
 use Rattle.gql_merged.specs.Steps.{path_of, segment_of}
 use Rattle.gql_merged.specs.Stored.{Bare, bare, numbered, Spot, spots}
-use Rattle.gql_merged.specs.declared.parent.Found.{Found}
 use Rattle.gql_merged.specs.declared.step.Step.{Step}
 use Rattle.gql_merged.specs.declared.step.Step.TheVariants as step
 use Rattle.gql_merged.proofs.TaskLemmas.{map_append}

@@ -11,12 +11,11 @@ use Rattle.gql_doc.specs.declared.document.Field.{Field}
 use Rattle.gql_doc.specs.declared.document.Positioned.{Positioned}
 use Rattle.gql_engine.specs.Path.{key_text}
 use Rattle.gql_resolve.specs.Layers.{layers_of}
-use Rattle.gql_resolve.specs.declared.field_value.FieldValue.{FieldValue}
-use Rattle.gql_merged.specs.Asks.{asking_at, asking_by, is_call}
+use Rattle.gql_merged.specs.Asks.{asking_at, is_call}
 use Rattle.gql_merged.specs.Groups.{united}
-use Rattle.gql_merged.specs.Jobs.{Job, job_by, job_of, jobs_by}
-use Rattle.gql_merged.specs.Levels.{Asked, asked_behind, asked_by, members_of}
-use Rattle.gql_merged.specs.Parents.{jobs_of_standing, path_to, standing_behind, standing_of, value_of}
+use Rattle.gql_merged.specs.Jobs.{Job, job_by, jobs_by}
+use Rattle.gql_merged.specs.Levels.{asked_behind, asked_by, members_of}
+use Rattle.gql_merged.specs.Parents.{jobs_of_standing, standing_of}
 use Rattle.gql_merged.specs.Steps.{path_of, segment_of}
 use Rattle.gql_merged.specs.Stored.{Spot}
 use Rattle.gql_merged.specs.Tasks.{job_of_task, job_with, jobs_in}

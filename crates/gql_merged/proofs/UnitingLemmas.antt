@@ -1,8 +1,8 @@
 -- One field for several occurrences.
-use Rattle.std.proofs.Common.{◌≡◌, ℕ, suc, ◌+◌, ◌<◌, ◌==◌, true, false, List, [], ◌∷◌, ◌++◌, length, Some, None, take, get_or, refl, ap, sym, ◌∙◌, arith, eqb-true}
+use Rattle.std.proofs.Common.{◌≡◌, ℕ, ◌+◌, ◌<◌, ◌==◌, true, false, List, [], ◌∷◌, ◌++◌, length, Some, None, take, get_or, refl, ap, sym, ◌∙◌, arith, eqb-true}
 use Rattle.std.proofs.lemmas.List.{take_more}
 use Rattle.std.specs.Borrow.{Bor}
-use Rattle.gql_doc.specs.declared.document.Field.{Field, out-Field, out-roll-Field}
+use Rattle.gql_doc.specs.declared.document.Field.{Field, out-roll-Field}
 use Rattle.gql_doc.specs.declared.document.Positioned.{Positioned}
 use Rattle.gql_doc.specs.Document.{alias_or}
 use Rattle.gql_engine.specs.Path.{key_text}

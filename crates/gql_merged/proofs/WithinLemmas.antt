@@ -11,7 +11,7 @@ use Rattle.gql_doc.specs.declared.document.Selection.{out-Selection, Selection}
 use Rattle.gql_doc.specs.declared.document.Selection.TheOpen.{Selection-F}
 use Rattle.gql_doc.specs.declared.document.SelectionSet.{SelectionSet}
 use Rattle.gql_select.proofs.DocumentLemmas.{is_reading, set_of_both}
-use Rattle.gql_select.specs.Collected.{collect, collect_within, own_selections, Setting}
+use Rattle.gql_select.specs.Collected.{collect_within, own_selections, Setting}
 use Rattle.gql_select.specs.Documents.{both, reading}
 use Rattle.gql_select.specs.Reading.{keyed, merged}
 use Rattle.gql_merged.specs.Within.{IsWithin}

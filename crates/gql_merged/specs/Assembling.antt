@@ -34,7 +34,9 @@ module _ {V : Type 0} where
     non_null = filled.non_null;
     added = filled.added;
     headers = filled.headers;
-    tree = tree_with filled.pos filled.shape (members_each (map standing_behind filled.parents.items) places);
+    tree =
+        tree_with filled.pos filled.shape
+        (members_each (map standing_behind filled.parents.items) places);
   }
 
   module _ (answer : Call V → Answer V) where
@@ -48,7 +50,9 @@ module _ {V : Type 0} where
 
     -- the answers that are due are kept of all tasks
     abbrev pub AllHeld : List (Job V) → List (Entry (Filled V)) → Type 0
-    AllHeld jobs entries = (k : ℕ) (job : Job V) → slice_get jobs k ≡ Some job → IsHeld IsFilledDue beneath_due jobs entries k
+    AllHeld jobs entries =
+        (k : ℕ) (job : Job V) → slice_get jobs k ≡ Some job
+        → IsHeld IsFilledDue beneath_due jobs entries k
 
     -- a place is that of merged execution, for all levels within which the field's set nests
     abbrev pub IsRight : Job V → Place → Type 0
@@ -56,7 +60,8 @@ module _ {V : Type 0} where
         → place ≡ merged_place job.basis answer n job
 
     -- a place of the root, of the right places of the root's tasks
-    pub record IsAssembled (pos : Pos) (root : Standing V) (jobs : List (Job V)) (place : Place) : Type 0 where
+    pub record IsAssembled (pos : Pos) (root : Standing V) (jobs : List (Job V))
+        (place : Place) : Type 0 where
       pub own : List Place
       pub right : Paired IsRight jobs own
       pub place_is : place ≡ root_place pos (members_with root.spot.object root.members own)

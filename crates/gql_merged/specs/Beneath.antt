@@ -16,8 +16,10 @@ level_behind level = level.value
 -- a level is that of the objects of a name beneath a field
 pub record IsBeneath (node : Node) (object : List ℕ) (level : Level) : Type 0 where
   pub object_is : level.object ≡ object
-  pub members_are : members_of level ≡ asked_in node.basis object (own_selections (united node.group))
+  pub members_are : members_of level
+      ≡ asked_in node.basis object (own_selections (united node.group))
 
 -- levels that are kept under the names of their objects
 pub record AreBeneath (node : Node) (levels : List (List ℕ × Rc Level Global)) : Type 0 where
-  pub each : (object : List ℕ) (level : Level) → option_map level_behind (under object levels) ≡ Some level → IsBeneath node object level
+  pub each : (object : List ℕ) (level : Level)
+      → option_map level_behind (under object levels) ≡ Some level → IsBeneath node object level

@@ -1,8 +1,10 @@
 -- What is kept of tasks, one after another, as they are answered.
-use Rattle.std.specs.Prelude.{ℕ, ◌+◌, Bool, ltb, eqb, List, [], ◌∷◌, Option, Some, None, if◌then◌else◌, ◌&&◌}
+use Rattle.std.specs.Prelude.{ℕ, ◌+◌, ltb, eqb, List, [], ◌∷◌, Option, Some, None}
+use Rattle.std.specs.Prelude.{if◌then◌else◌, ◌&&◌}
 use Rattle.std.specs.Option.{option_or}
 
--- what is kept of a task: its number, the place and the count of the tasks beneath it, and what it came to
+-- what is kept of a task: its number, the place and the count of the tasks beneath it, and what it
+-- came to
 pub record Entry (X : Type 0) : Type 0 where
   pub number : ℕ
   pub first : ℕ
@@ -10,10 +12,12 @@ pub record Entry (X : Type 0) : Type 0 where
   pub filled : X
 
 module _ {X : Type 0} where
-  -- the number of tasks once these are kept one after another, each of an earlier task, with the tasks beneath it behind all others
+  -- the number of tasks once these are kept one after another, each of an earlier task, with the
+  -- tasks beneath it behind all others
   abbrev pub laid : ℕ → List (Entry X) → Option ℕ
   laid n [] = Some n
-  laid n (kept ∷ others) = if ltb kept.number n && eqb kept.first n then laid (n + kept.count) others else None
+  laid n (kept ∷ others) =
+      if ltb kept.number n && eqb kept.first n then laid (n + kept.count) others else None
 
   -- what is kept of a task, where it is the one of this number
   abbrev pub if_number : ℕ → Entry X → Option (Entry X)

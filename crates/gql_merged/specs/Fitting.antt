@@ -1,5 +1,5 @@
 -- What is kept of tasks, and what fits it.
-use Rattle.std.specs.Prelude.{◌≡◌, ℕ, ◌≤◌, not, List, [], Option, Some, None, Result, Ok, Err, map, length}
+use Rattle.std.specs.Prelude.{◌≡◌, ℕ, not, List, Option, Some, None, Result, Ok, Err, map}
 use Rattle.gql_base.specs.TypeRef.{is_nullable}
 use Rattle.gql_base.specs.declared.error.Error.{Error}
 use Rattle.gql_base.specs.declared.value.Value.{Value}
@@ -32,7 +32,8 @@ module _ {V : Type 0} where
     pub headers_is : filled.headers ≡ answer.headers
     pub shape_is : filled.shape ≡ bare (completed_by job answer)
     pub parents_are : map standing_behind filled.parents.items
-        ≡ map (standing_at job.basis (own_selections job.field)) (spots (completed_by job answer) job.path)
+        ≡ map (standing_at job.basis (own_selections job.field))
+        (spots (completed_by job answer) job.path)
 
   -- what came of what a task was given
   abbrev pub IsFilledWith : Given V → Job V → Filled V → Type 0
@@ -45,7 +46,8 @@ module _ {V : Type 0} where
 
   -- what is kept, in order
   abbrev pub entry_of : Kept V → Entry (Filled V)
-  entry_of kept = record { number = kept.number; first = kept.first; count = kept.count; filled = kept.filled }
+  entry_of kept =
+      record { number = kept.number; first = kept.first; count = kept.count; filled = kept.filled }
 
   -- all of it
   abbrev pub entries_in : List (Kept V) → List (Entry (Filled V))
@@ -53,4 +55,5 @@ module _ {V : Type 0} where
 
   -- what a task was given last is kept
   abbrev pub HoldsGiven : List (Job V) → List (Entry (Filled V)) → ℕ → Given V → Type 0
-  HoldsGiven jobs entries number given = IsHeld (IsFilledWith given) (made_beneath given) jobs entries number
+  HoldsGiven jobs entries number given =
+      IsHeld (IsFilledWith given) (made_beneath given) jobs entries number

@@ -1,10 +1,9 @@
--- The tasks of merged execution: one for each key of an object that asks an answer, over the merged sets of all its occurrences
--- (GraphQL, October 2021, sections 6.3 and 6.4).
+-- The tasks of merged execution: one for each key of an object that asks an answer, over the merged
+-- sets of all its occurrences (GraphQL, October 2021, sections 6.3 and 6.4).
 use Rattle.std.specs.Prelude.{ℕ, false, List, [], ◌∷◌, ◌++◌, Option, Some, None}
 use Rattle.std.specs.List.{flat_map}
 use Rattle.gql_base.specs.declared.path_segment.PathSegment.{PathSegment}
 use Rattle.gql_base.specs.declared.path_segment.PathSegment.TheVariants as segment
-use Rattle.gql_base.specs.declared.type_ref.TypeRef.{TypeRef}
 use Rattle.gql_doc.specs.declared.document.Field.{Field}
 use Rattle.gql_doc.specs.declared.document.Positioned.{Positioned}
 use Rattle.gql_doc.specs.declared.document.Selection.{Selection}
@@ -25,8 +24,8 @@ use Rattle.gql_engine.specs.Path.{key_text}
 use Rattle.gql_engine.specs.Plan.{Asking as Asks}
 use Rattle.gql_merged.specs.Stored.{Spot, spots}
 
--- a task: what the execution stands on, the name of an object, a field of it, merged over its occurrences, with the call that it asks,
--- the type of its answer, and its path
+-- a task: what the execution stands on, the name of an object, a field of it, merged over its
+-- occurrences, with the call that it asks, the type of its answer, and its path
 pub record Job (V : Type 0) : Type 0 where
   pub basis : Basis
   pub object : List ℕ
@@ -47,7 +46,8 @@ module _ {V : Type 0} where
   }
 
   -- the task of a field of an object of this name at a path, where it asks an answer
-  abbrev pub job_at : Basis → List ℕ → List PathSegment → Positioned Field → Option (Asking V) → List (Job V)
+  abbrev pub job_at : Basis → List ℕ → List PathSegment → Positioned Field → Option (Asking V)
+      → List (Job V)
   job_at basis object path field None = []
   job_at basis object path field (Some asking) =
       record { basis = basis; object = object; field = field; asking = asking; path = path } ∷ []
@@ -66,7 +66,8 @@ module _ {V : Type 0} where
   -- the tasks of an object in selections
   abbrev pub jobs_at : Basis → List (Positioned Selection) → Spot V → List (Job V)
   jobs_at basis selections spot =
-      jobs_of basis spot (merged (reading (setting_by basis)) (collected basis spot.object selections))
+      jobs_of basis spot
+      (merged (reading (setting_by basis)) (collected basis spot.object selections))
 
   -- what an answer to a task comes to
   abbrev pub completed_by : Job V → Answer V → Completed V
@@ -75,12 +76,14 @@ module _ {V : Type 0} where
   -- the tasks beneath an answer: those of the objects in it, in their order
   abbrev pub jobs_beneath : Job V → Answer V → List (Job V)
   jobs_beneath job answer =
-      flat_map (jobs_at job.basis (own_selections job.field)) (spots (completed_by job answer) job.path)
+      flat_map (jobs_at job.basis (own_selections job.field))
+      (spots (completed_by job answer) job.path)
 
   -- the task of a field of an object by what it asks
   abbrev pub job_by : Spot V → Asked → List (Job V)
   job_by spot asked =
-      job_of asked.basis spot asked.field (asking_by false (layers_of asked.basis.layers) spot.parent asked.asks)
+      job_of asked.basis spot asked.field
+      (asking_by false (layers_of asked.basis.layers) spot.parent asked.asks)
 
   -- the tasks of fields by what each asks
   abbrev pub jobs_by : Spot V → List Asked → List (Job V)

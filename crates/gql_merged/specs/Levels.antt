@@ -1,5 +1,6 @@
--- The fields of an object, one for each key, with what each asks (GraphQL, October 2021, sections 6.3.1 and 6.3.2).
-use Rattle.std.specs.Prelude.{◌≡◌, ℕ, List, [], ◌∷◌, map}
+-- The fields of an object, one for each key, with what each asks (GraphQL, October 2021, sections
+-- 6.3.1 and 6.3.2).
+use Rattle.std.specs.Prelude.{ℕ, List, [], ◌∷◌, map}
 use Rattle.std.specs.List.{zip}
 use Rattle.std.specs.declared.alloc.Global.{Global}
 use Rattle.std.specs.declared.rc.Rc.{Rc}
@@ -38,12 +39,14 @@ members_of level = zip (names_of level.keys) (map asked_behind level.nodes.items
 
 -- a field with what it asks on an object
 abbrev pub asked_of : Basis → List ℕ → Positioned Field → Asked
-asked_of basis object field = record { basis = basis; field = field; asks = asks_of (execution_of basis) object field }
+asked_of basis object field =
+    record { basis = basis; field = field; asks = asks_of (execution_of basis) object field }
 
 -- fields under their keys, each with what it asks on an object
 abbrev pub asked_on : Basis → List ℕ → List (List ℕ × Positioned Field) → List (List ℕ × Asked)
 asked_on basis object [] = []
-asked_on basis object (member ∷ members) = (member.0, asked_of basis object member.1) ∷ asked_on basis object members
+asked_on basis object (member ∷ members) =
+    (member.0, asked_of basis object member.1) ∷ asked_on basis object members
 
 -- the fields of an object in selections, one for each key, with what each asks
 abbrev pub asked_in : Basis → List ℕ → List (Positioned Selection) → List (List ℕ × Asked)

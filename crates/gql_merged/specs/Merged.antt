@@ -20,7 +20,8 @@ module _ {V : Type 0} (basis : Basis) (answer : Call V → Answer V) where
   -- the members of an object, each key answered once, so many levels of sets deep
   abbrev pub merged_members : ℕ → List ℕ → FieldValue V → List (Positioned Selection) → Members
   merged_members n object parent selections =
-      grouped (placing_by (setting_by basis) (placed (execution_of basis) false answer)) n object parent selections
+      grouped (placing_by (setting_by basis) (placed (execution_of basis) false answer)) n object
+      parent selections
 
   -- those beneath a field
   abbrev pub merged_beneath : ℕ → Positioned Field → List ℕ → FieldValue V → Members

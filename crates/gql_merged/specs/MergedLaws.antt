@@ -29,7 +29,8 @@ use Rattle.gql_merged.specs.declared.basis.Basis.{Basis}
 -- a field asks the call that is made of what it asks on any value of its object
 abbrev pub FieldsAskTheirCalls : (V : Type 0) → Type 0
 FieldsAskTheirCalls V =
-    (is_root : Bool) (execution : Execution) (parent : FieldValue V) (object : List ℕ) (field : Positioned Field)
+    (is_root : Bool) (execution : Execution) (parent : FieldValue V) (object : List ℕ)
+    (field : Positioned Field)
     → field_asking is_root execution object parent field
     ≡ asking_by is_root execution.layers parent (asks_of execution object field)
 
@@ -43,14 +44,16 @@ module _ {V : Type 0} (basis : Basis) (answer : Call V → Answer V) (n : ℕ) w
 -- the places of the tasks of an object, with one level of sets less, make its members
 abbrev pub MembersAreMerged : (V : Type 0) → Type 0
 MembersAreMerged V =
-    (basis : Basis) (answer : Call V → Answer V) (n : ℕ) (spot : Spot V) (selections : List (Positioned Selection))
+    (basis : Basis) (answer : Call V → Answer V) (n : ℕ) (spot : Spot V)
+    (selections : List (Positioned Selection))
     → members_of_tasks basis answer n selections spot
     ≡ merged_members basis answer (suc n) spot.object spot.parent selections
 
 -- a completed answer, taken apart and put together of the places of the tasks beneath it
 abbrev pub TreesAreMerged : (V : Type 0) → Type 0
 TreesAreMerged V =
-    (basis : Basis) (answer : Call V → Answer V) (n : ℕ) (pos : Pos) (field : Positioned Field) (comes : Completed V)
+    (basis : Basis) (answer : Call V → Answer V) (n : ℕ) (pos : Pos) (field : Positioned Field)
+    (comes : Completed V)
     (path : List PathSegment)
     → tree_with pos (bare comes)
     (map (members_of_tasks basis answer n (own_selections field)) (spots comes path))
@@ -60,7 +63,8 @@ TreesAreMerged V =
 abbrev pub TasksAreJobs : (V : Type 0) → Type 0
 TasksAreJobs V =
     (basis : Basis) (spot : Spot V) (selections : List (Positioned Selection))
-    → jobs_by spot (values_of (asked_in basis spot.object selections)) ≡ jobs_at basis selections spot
+    → jobs_by spot (values_of (asked_in basis spot.object selections))
+    ≡ jobs_at basis selections spot
 
 -- the set of each field that is collected in a set nests within the levels of that set
 abbrev pub CollectedNest : Type 0

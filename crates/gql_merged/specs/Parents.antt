@@ -1,5 +1,5 @@
 -- Objects whose fields are asked.
-use Rattle.std.specs.Prelude.{ℕ, List, [], map}
+use Rattle.std.specs.Prelude.{ℕ, List, []}
 use Rattle.std.specs.declared.alloc.Global.{Global}
 use Rattle.std.specs.declared.rc.Rc.{Rc}
 use Rattle.gql_base.specs.Pairs.{values_of}
@@ -26,7 +26,8 @@ pub record Standing (V : Type 0) : Type 0 where
 module _ {V : Type 0} where
   -- an object that came of an answer
   abbrev pub spot_found : Found V → Spot V
-  spot_found found = record { object = found.object; parent = found.value; path = path_of found.path.items }
+  spot_found found =
+      record { object = found.object; parent = found.value; path = path_of found.path.items }
 
   -- the value of which fields are asked
   abbrev pub value_of : Held V → FieldValue V
@@ -45,7 +46,12 @@ module _ {V : Type 0} where
   -- an object whose fields are asked
   abbrev pub standing_of : Parent V → Standing V
   standing_of parent = record {
-    spot = record { object = parent.level.value.object; parent = value_of parent.held; path = path_to parent.held };
+    spot =
+        record {
+          object = parent.level.value.object;
+          parent = value_of parent.held;
+          path = path_to parent.held;
+        };
     members = members_of parent.level.value;
   }
 
@@ -55,7 +61,8 @@ module _ {V : Type 0} where
 
   -- an object whose fields are asked in selections
   abbrev pub standing_at : Basis → List (Positioned Selection) → Spot V → Standing V
-  standing_at basis selections spot = record { spot = spot; members = asked_in basis spot.object selections }
+  standing_at basis selections spot =
+      record { spot = spot; members = asked_in basis spot.object selections }
 
   -- the tasks of an object
   abbrev pub jobs_of_standing : Standing V → List (Job V)

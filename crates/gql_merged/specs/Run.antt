@@ -53,4 +53,5 @@ module _ {V : Type 0} (scene : Scene V) where
   -- the place of the whole response by merged execution, so many levels of sets deep
   abbrev pub merged_response : (Call V → Answer V) → ℕ → Place
   merged_response answer n =
-      root_place scene.env.now.operation.pos (merged_members basis_of answer n root_spot.object root_spot.parent root_selections)
+      root_place scene.env.now.operation.pos
+      (merged_members basis_of answer n root_spot.object root_spot.parent root_selections)

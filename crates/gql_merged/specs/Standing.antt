@@ -1,5 +1,6 @@
 -- Places of tasks, as they are put together from the last task that was answered to the first.
-use Rattle.std.specs.Prelude.{◌≡◌, ℕ, zero, suc, ◌+◌, ◌≤◌, List, [], ◌∷◌, Option, Some, None, take, drop, length, slice_get}
+use Rattle.std.specs.Prelude.{◌≡◌, ℕ, zero, suc, ◌+◌, ◌≤◌, List, [], ◌∷◌, Option, Some, None, take}
+use Rattle.std.specs.Prelude.{drop, length, slice_get}
 use Rattle.gql_merged.specs.Entries.{Entry, latest}
 
 -- the places that are there
@@ -23,7 +24,8 @@ Paired R (x ∷ xs) [] = ⊥
 Paired R (x ∷ xs) (y ∷ ys) = R x y × Paired R xs ys
 
 -- what is kept last of a task fits it, and the tasks beneath it stand where it says
-pub record IsHeld {J X : Type 0} (Fits : J → X → Type 0) (beneath : J → List J) (jobs : List J) (kepts : List (Entry X)) (number : ℕ) : Type 0 where
+pub record IsHeld {J X : Type 0} (Fits : J → X → Type 0) (beneath : J → List J) (jobs : List J)
+    (kepts : List (Entry X)) (number : ℕ) : Type 0 where
   pub job : J
   pub there : slice_get jobs number ≡ Some job
   pub kept : Entry X

@@ -42,4 +42,5 @@ module _ {V : Type 0} where
 
   -- a path is that of the task of a number
   abbrev pub IsAimed : List (Task V) → List PathSegment → ℕ → Type 0
-  IsAimed tasks path number = (task : Task V) → slice_get tasks number ≡ Some task → path ≡ (job_of_task task).path
+  IsAimed tasks path number =
+      (task : Task V) → slice_get tasks number ≡ Some task → path ≡ (job_of_task task).path

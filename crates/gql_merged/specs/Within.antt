@@ -1,4 +1,5 @@
--- Sets that nest within so many levels, as their fields are collected, and fields whose sets nest within those of a request.
+-- Sets that nest within so many levels, as their fields are collected, and fields whose sets nest
+-- within those of a request.
 use Rattle.std.specs.Prelude.{◌≡◌, ℕ, zero, suc, List, []}
 use Rattle.std.specs.List.{AllByRecursion}
 use Rattle.gql_doc.specs.Depth.{field_set}
@@ -13,7 +14,8 @@ use Rattle.gql_select.specs.Collected.{collect, own_selections, Setting}
 abbrev pub IsWithin : Setting → ℕ → List (Positioned Selection) → Type 0
 IsWithin setting zero selections = (object : List ℕ) → collect setting object selections ≡ []
 IsWithin setting (suc n) selections = (object : List ℕ)
-    → AllByRecursion (λ field. IsWithin setting n (own_selections field)) (collect setting object selections)
+    → AllByRecursion (λ field. IsWithin setting n (own_selections field))
+    (collect setting object selections)
 
 -- the set of each field nests within the levels of a request
 abbrev pub AllNest : QueryEnv → List (Positioned Field) → Type 0

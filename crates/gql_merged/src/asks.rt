@@ -2,7 +2,8 @@ ghost use Rattle.std.specs.Prelude.{◌≡◌, true};
 
 use gql_base::{Pairs, TypeRef, Value};
 
-/// What a field asks on an object, whatever the object's value: the object's name, nothing, or a call of a resolver.
+/// What a field asks on an object, whatever the object's value: the object's name, nothing, or a
+/// call of a resolver.
 #[derive(Debug, Drop)]
 pub enum Asks {
     Typename,

@@ -1,6 +1,7 @@
-//! The places of tasks, put together from the one that was answered last to the first. So the places beneath a task stand behind all
-//! others when it is its turn, and are moved into its own.
-ghost use Rattle.std.specs.Prelude.{ℕ, ◌≡◌, ◌<◌, ◌≤◌, List, [], ◌∷◌, ◌++◌, Some, Option, None, drop, length, map, slice_get, take, IfOk, OnOk};
+//! The places of tasks, put together from the one that was answered last to the first. So the
+//! places beneath a task stand behind all others when it is its turn, and are moved into its own.
+ghost use Rattle.std.specs.Prelude.{ℕ, ◌≡◌, ◌<◌, ◌≤◌, List, [], ◌∷◌, ◌++◌, Some, Option, None};
+ghost use Rattle.std.specs.Prelude.{drop, length, map, slice_get, take, IfOk, OnOk};
 ghost use Rattle.gql_merged.specs.Assembling.{AllHeld, IsRight, members_each, place_made};
 ghost use Rattle.gql_merged.specs.Entries.{laid};
 ghost use Rattle.gql_merged.specs.Fitting.{entries_in};
@@ -54,7 +55,8 @@ fn no_places(alloc: Global, count: usize) -> Made<Vec<Option<Place>>>
     Ok(places)
 }
 
-/// Puts the place of a task where it is open, of the places beneath it, which stand behind all others.
+/// Puts the place of a task where it is open, of the places beneath it, which stand behind all
+/// others.
 fn put_place<'a, V: Drop>(
     alloc: Global,
     kept: Kept<'a, V>,

@@ -4,7 +4,8 @@ use gql_place::Shape;
 use gql_request::HeaderOp;
 use std::rc::Rc;
 
-/// What a task came to: its place, but for what is beneath its objects, and these objects in their order.
+/// What a task came to: its place, but for what is beneath its objects, and these objects in their
+/// order.
 #[derive(Drop)]
 pub struct Filled<'a, V> {
     pub pos: Pos,
@@ -15,7 +16,8 @@ pub struct Filled<'a, V> {
     pub parents: Vec<Rc<Parent<'a, V>>>,
 }
 
-/// What is kept of a task: its number, the number of the first task beneath it, their count, and what it came to.
+/// What is kept of a task: its number, the number of the first task beneath it, their count, and
+/// what it came to.
 #[derive(Drop)]
 pub struct Kept<'a, V> {
     pub number: usize,

@@ -13,8 +13,8 @@ use gql_base::{Name, Pairs};
 use gql_doc::Field;
 use std::rc::Rc;
 
-/// A field of an object, merged over its occurrences, with what it asks there. Where there are several occurrences, one field stands
-/// for them all. The operation is no mutation.
+/// A field of an object, merged over its occurrences, with what it asks there. Where there are
+/// several occurrences, one field stands for them all. The operation is no mutation.
 #[derive(Drop)]
 pub struct Node<'a> {
     pub basis: Basis<'a>,

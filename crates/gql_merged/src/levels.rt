@@ -1,4 +1,5 @@
-//! The fields of an object, one for each key, with what each asks (GraphQL, October 2021, sections 6.3.1 and 6.3.2).
+//! The fields of an object, one for each key, with what each asks (GraphQL, October 2021, sections
+//! 6.3.1 and 6.3.2).
 ghost use Rattle.std.specs.Prelude.{◌≡◌, ◌++◌, false, map, IfOk, OnOk};
 ghost use Rattle.gql_doc.specs.Depth.{field_set};
 ghost use Rattle.gql_request.specs.QueryEnv.{NestsIn};
@@ -59,8 +60,8 @@ fn add_occurrence_fields<'a>(
     add_fields(basis, basis.env.levels(), object, selections, fields)
 }
 
-/// The level of an object with these fields, whose sets nest within the levels of the request. The operation is no
-/// mutation.
+/// The level of an object with these fields, whose sets nest within the levels of the request. The
+/// operation is no mutation.
 #[tactic(auto, using(crate::proofs::LevelLemmas::asked_zipped))]
 pub fn level_of<'a>(
     alloc: Global,

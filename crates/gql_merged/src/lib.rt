@@ -1,6 +1,7 @@
-//! Merged execution, part by part (GraphQL, October 2021, sections 6.3 and 6.4): the fields that an object has in a set, collected and
-//! merged under their keys, with what each asks; what an answer comes to by its type; and places that are put together of those
-//! beneath; the plan that runs the parts as tasks; and `run_merged`, the whole execution of a query.
+//! Merged execution, part by part (GraphQL, October 2021, sections 6.3 and 6.4): the fields that an
+//! object has in a set, collected and merged under their keys, with what each asks; what an answer
+//! comes to by its type; and places that are put together of those beneath; the plan that runs the
+//! parts as tasks; and `run_merged`, the whole execution of a query.
 #![tactic(auto)]
 
 mod argument_values;

@@ -3,7 +3,8 @@ ghost use Rattle.std.specs.Prelude.{◌≡◌, map, IfOk, OnOk};
 ghost use Rattle.std.specs.List.{zip};
 ghost use Rattle.gql_base.specs.Pairs.{names_of};
 ghost use Rattle.gql_merged.specs.Assembled.{absent_place, first_place, other_places, place_of};
-ghost use Rattle.gql_merged.specs.Assembled.{places_behind, places_behind_all, places_with, typename_place};
+ghost use Rattle.gql_merged.specs.Assembled.{places_behind, places_behind_all, places_with};
+ghost use Rattle.gql_merged.specs.Assembled.{typename_place};
 ghost use Rattle.gql_merged.specs.Groups.{united};
 ghost use Rattle.gql_merged.specs.Levels.{asked_behind};
 
@@ -15,8 +16,8 @@ use std::alloc::Global;
 use std::collections::VecDeque;
 use std::rc::Rc;
 
-/// The members of an object: each of its fields under its key, where those that ask an answer take these places from the front, one after
-/// another.
+/// The members of an object: each of its fields under its key, where those that ask an answer take
+/// these places from the front, one after another.
 pub fn members_at(
     alloc: Global,
     level: &Level<'_>,

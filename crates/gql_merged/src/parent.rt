@@ -6,7 +6,8 @@ use gql_base::Name;
 use gql_resolve::FieldValue;
 use std::rc::Rc;
 
-/// An object that came of an answer: the name of its type, its value, and its path, which isn't empty.
+/// An object that came of an answer: the name of its type, its value, and its path, which isn't
+/// empty.
 #[derive(Drop)]
 pub struct Found<'a, V> {
     pub object: Name,
@@ -15,7 +16,8 @@ pub struct Found<'a, V> {
     pub ghost below: { 0 < length path.items },
 }
 
-/// The value of which the fields of an object are asked: that of the root, or one that came of an answer.
+/// The value of which the fields of an object are asked: that of the root, or one that came of an
+/// answer.
 #[derive(Drop)]
 pub enum Held<'a, V> {
     Root(&'a FieldValue<V>),

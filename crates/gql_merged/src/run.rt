@@ -1,5 +1,6 @@
 //! Merged execution of an operation that is no mutation (GraphQL, October 2021, section 6.2.1).
-ghost use Rattle.std.specs.Prelude.{ℕ, ◌≡◌, ◌<◌, ◌+◌, [], false, length, take, IfOk, IfErr, OnOk, OnErr};
+ghost use Rattle.std.specs.Prelude.{ℕ, ◌≡◌, ◌<◌, ◌+◌, [], false, length, take, IfOk, IfErr, OnOk};
+ghost use Rattle.std.specs.Prelude.{OnErr};
 ghost use Rattle.gql_engine.specs.Parts.{due_by};
 ghost use Rattle.gql_engine.specs.Progress.{RunsWhole, RunStopped, seen};
 ghost use Rattle.gql_engine.specs.Rounds.{RoundsWhole, RoundsStopped};
@@ -35,7 +36,8 @@ use std::marker::Brand;
 use std::rc::Rc;
 use std::sync::ledger::{Blank, Ledger};
 
-/// The place of the whole response of a query: each key of a set is one task, and the tasks take the turns that are chosen for them.
+/// The place of the whole response of a query: each key of a set is one task, and the tasks take
+/// the turns that are chosen for them.
 pub fn run_merged<R: ResolverSet, P: Turns>(
     alloc: Global,
     scene: &Scene<'_, R::Own>,
@@ -92,8 +94,8 @@ fn run_on_blank<R: ResolverSet, P: Turns, S: Ledger>(
     run_merged_counted(alloc, scene, resolvers, hooks, turns, &mut steps)
 }
 
-/// The same with the rounds of any hooks, where each start of a resolver that answered is a step. The hooks of each task are entered
-/// once, before its resolver is started.
+/// The same with the rounds of any hooks, where each start of a resolver that answered is a step.
+/// The hooks of each task are entered once, before its resolver is started.
 pub fn run_merged_counted<R: ResolverSet, H: Rounds, P: Turns, S: Ledger>(
     alloc: Global,
     scene: &Scene<'_, R::Own>,

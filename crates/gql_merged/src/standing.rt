@@ -5,7 +5,8 @@ ghost use Rattle.gql_base.specs.Pairs.{under};
 ghost use Rattle.gql_select.specs.Collected.{own_selections};
 ghost use Rattle.gql_merged.specs.Beneath.{AreBeneath, IsBeneath, level_behind};
 ghost use Rattle.gql_merged.specs.Groups.{united};
-ghost use Rattle.gql_merged.specs.Parents.{jobs_of_standing, spot_found, standing_at, standing_behind};
+ghost use Rattle.gql_merged.specs.Parents.{jobs_of_standing, spot_found, standing_at};
+ghost use Rattle.gql_merged.specs.Parents.{standing_behind};
 ghost use Rattle.gql_merged.specs.Tasks.{jobs_in};
 
 use crate::level::{Level, Node};
@@ -17,7 +18,8 @@ use gql_base::{Made, Name, Pairs};
 use std::alloc::Global;
 use std::rc::Rc;
 
-/// Objects that were found beneath a field, each with its fields, and their tasks behind the others.
+/// Objects that were found beneath a field, each with its fields, and their tasks behind the
+/// others.
 #[tactic(auto, using(crate::proofs::BeneathLemmas::none_beneath, crate::proofs::BeneathLemmas::parents_more, crate::proofs::BeneathLemmas::placed_more))]
 pub(crate) fn place_found<'a, V: Drop>(
     alloc: Global,

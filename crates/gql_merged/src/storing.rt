@@ -1,4 +1,5 @@
-//! Completed answers, taken apart: their objects go into one list, and what is left has no object's value any more.
+//! Completed answers, taken apart: their objects go into one list, and what is left has no object's
+//! value any more.
 ghost use Rattle.std.specs.Prelude.{◌≡◌, ◌<◌, [], ◌∷◌, ◌++◌, length, map, IfOk, OnOk};
 ghost use Rattle.gql_merged.specs.Parents.{spot_found};
 ghost use Rattle.gql_merged.specs.Steps.{path_of};

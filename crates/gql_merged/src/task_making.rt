@@ -1,4 +1,5 @@
-//! The tasks of an object, one for each of its fields that asks an answer, in the order of the response.
+//! The tasks of an object, one for each of its fields that asks an answer, in the order of the
+//! response.
 ghost use Rattle.std.specs.Prelude.{◌≡◌, ◌++◌, OnOk};
 ghost use Rattle.gql_merged.specs.Jobs.{job_by};
 ghost use Rattle.gql_merged.specs.Levels.{asked_behind};

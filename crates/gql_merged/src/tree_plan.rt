@@ -20,8 +20,8 @@ use gql_request::{QueryPathNode, ResolveInfo};
 use gql_resolve::ResolverContext;
 use std::alloc::Global;
 
-/// The tasks of merged execution, what is kept of those that were given something, in that order, and the path of one of them. The
-/// first so many are those of the root.
+/// The tasks of merged execution, what is kept of those that were given something, in that order,
+/// and the path of one of them. The first so many are those of the root.
 #[derive(Drop)]
 pub struct TreePlan<'a, V> {
     pub tasks: Vec<Task<'a, V>>,

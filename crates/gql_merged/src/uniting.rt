@@ -1,4 +1,5 @@
-//! The one field that stands for several occurrences of a key (GraphQL, October 2021, section 6.4.3: MergeSelectionSets).
+//! The one field that stands for several occurrences of a key (GraphQL, October 2021, section
+//! 6.4.3: MergeSelectionSets).
 ghost use Rattle.std.specs.Prelude.{◌≡◌, ◌++◌, IfOk, OnOk};
 ghost use Rattle.gql_select.specs.Collected.{own_selections};
 ghost use Rattle.gql_select.specs.Documents.{with_selections};
