@@ -1,12 +1,11 @@
 -- What a field asks by its name and arguments is what the meaning of execution says.
 use Rattle.std.proofs.Common.{◌≡◌, ℕ, ◌||◌, Bool, true, false, cond, List, Option, Some, None, refl, ap, sym, ◌∙◌}
-use Rattle.std.specs.Prelude.{Err, IfOk, Ok, option_and_then, option_map, Result}
+use Rattle.std.specs.Prelude.{Err, IfOk, Ok, option_and_then, Result}
 use Rattle.gql_base.specs.declared.value.Value.{Value}
 use Rattle.gql_doc.specs.declared.document.Field.{Field}
 use Rattle.gql_doc.specs.declared.document.Positioned.{Positioned}
 use Rattle.gql_meaning.specs.Execution.{answered_outcome, Asking, asking_at, Execution, field_asking, field_outcome, is_typename, typename_outcome}
 use Rattle.gql_meaning.specs.TableSetting.{arguments_in, field_in}
-use Rattle.gql_place.specs.Filled.{Outcome}
 use Rattle.gql_resolve.specs.Call.{Call}
 use Rattle.gql_resolve.specs.declared.answer.Answer.{Answer}
 use Rattle.gql_resolve.specs.declared.field_value.FieldValue.{FieldValue}

@@ -1,5 +1,5 @@
 -- A completed answer that gets the members of its objects one after another is the one that is filled with them.
-use Rattle.std.proofs.Common.{rules, ◌≡◌, ℕ, zero, suc, Bool, false, List, [], ◌∷◌, ◌++◌, map, refl, ap, sym, ◌∙◌, subst, append_assoc}
+use Rattle.std.proofs.Common.{rules, ◌≡◌, ℕ, suc, Bool, false, List, [], ◌∷◌, ◌++◌, map, refl, ap, sym, ◌∙◌, subst, append_assoc}
 use Rattle.std.proofs.lemmas.List.{append-nil}
 use Rattle.gql_base.specs.declared.error.Error.{Error}
 use Rattle.gql_base.specs.declared.path_segment.PathSegment.{PathSegment}
@@ -12,7 +12,7 @@ use Rattle.gql_place.specs.Filled.{fill, fill_step, item_of}
 use Rattle.gql_place.specs.declared.place.Place.{Place}
 use Rattle.gql_place.specs.declared.place.Tree.{Tree}
 use Rattle.gql_place.specs.declared.place.Tree.TheVariants as tree
-use Rattle.gql_place.specs.declared.shape.Shape.{roll-Shape, Shape, the_lemmas}
+use Rattle.gql_place.specs.declared.shape.Shape.{roll-Shape, the_lemmas}
 use Rattle.gql_place.specs.declared.shape.Shape.TheFolds.{fold-roll-Shape, ind-Shape, map-Shape}
 use Rattle.gql_place.specs.declared.shape.Shape.TheOpen.{Shape-F}
 use Rattle.gql_place.specs.declared.shape.Shape.TheVariants as shape

@@ -1,5 +1,5 @@
 -- Fields that are united under their keys, one by one.
-use Rattle.std.proofs.Common.{◌≡◌, ℕ, zero, suc, ◌+◌, ◌<◌, Bool, true, false, cond, List, [], ◌∷◌, ◌++◌, length, map, Option, Some, None, slice_get, slice_set, refl, ap, sym, ◌∙◌, subst, arith}
+use Rattle.std.proofs.Common.{◌≡◌, ℕ, suc, Bool, true, false, cond, List, [], ◌∷◌, ◌++◌, length, map, Option, Some, None, slice_get, slice_set, refl, ap, sym, ◌∙◌, subst, arith}
 use Rattle.std.specs.List.{zip}
 use Rattle.std.specs.Option.{option_map_or, option_map}
 use Rattle.std.specs.Str.{bytes_eq}
@@ -10,7 +10,7 @@ use Rattle.gql_doc.specs.declared.document.Field.{Field}
 use Rattle.gql_doc.specs.declared.document.Positioned.{Positioned}
 use Rattle.gql_select.specs.Collected.{Setting}
 use Rattle.gql_select.specs.Documents.{both, reading}
-use Rattle.gql_select.specs.Reading.{keyed, merged}
+use Rattle.gql_select.specs.Reading.{keyed}
 use Rattle.gql_engine.proofs.Lists.{get_map, map_set}
 use Rattle.gql_merged.specs.Behind.{all_behind}
 use Rattle.gql_merged.specs.Groups.{under_keys, united, with_others}

@@ -3,6 +3,8 @@ use Rattle.std.proofs.Common.{◌≡◌, ℕ, List, [], ◌∷◌, ◌++◌, map
 use Rattle.std.proofs.lemmas.List.{take_more}
 use Rattle.std.specs.Borrow.{Bor}
 use Rattle.std.specs.List.{zip}
+use Rattle.std.specs.declared.alloc.Global.{Global}
+use Rattle.std.specs.declared.rc.Rc.{Rc}
 use Rattle.gql_doc.specs.declared.document.Field.{Field}
 use Rattle.gql_doc.specs.declared.document.Positioned.{Positioned}
 use Rattle.gql_meaning.specs.Execution.{Execution}
@@ -16,7 +18,7 @@ use Rattle.gql_merged.specs.Basis.{execution_of, setting_by}
 use Rattle.gql_merged.specs.Behind.{all_behind}
 use Rattle.gql_merged.specs.FieldsWithin.{collected}
 use Rattle.gql_merged.specs.Groups.{united, with_others}
-use Rattle.gql_merged.specs.Levels.{Asked, asked_by, asked_of, asked_on}
+use Rattle.gql_merged.specs.Levels.{Asked, asked_behind, asked_of, asked_on}
 use Rattle.gql_merged.specs.declared.asks.Asks.{Asks}
 use Rattle.gql_merged.specs.declared.basis.Basis.{Basis}
 use Rattle.gql_merged.specs.declared.group.Group.{Group}
@@ -37,11 +39,11 @@ asks_alike execution object f g named argued = rw (named, argued) refl
 
 -- a group asks what its first occurrence asks
 pub asked_first : (basis : Basis) (object : List ℕ) (group : Group) (asks : Asks) → asks ≡ asks_of (execution_of basis) object group.first.now
-    → (let asked : Asked = record { field = united group; asks = asks } in asked) ≡ asked_of basis object (united group)
+    → (let asked : Asked = record { basis = basis; field = united group; asks = asks } in asked) ≡ asked_of basis object (united group)
 asked_first basis object group asks is =
     let others = all_behind group.more.items in
     let same = is ∙ sym (asks_alike (execution_of basis) object (with_others group.first.now others) group.first.now (name_with_others group.first.now others) (arguments_with_others group.first.now others)) in
-    λ i. record { field = united group; asks = same i }
+    λ i. record { basis = basis; field = united group; asks = same i }
 
 -- fields under their keys, each with what it asks
 pub asked_zipped : (basis : Basis) (object : List ℕ) (keys : List (List ℕ)) (fields : List (Positioned Field))
@@ -78,20 +80,20 @@ pub pos_with_others : (f : Positioned Field) (gs : List (Positioned Field)) → 
 pos_with_others f [] = refl
 pos_with_others f (g ∷ gs) = pos_with_others (both f g) gs
 
-asked_append : (nodes : List Node) (node : Node) → map asked_by (nodes ++ node ∷ []) ≡ map asked_by nodes ++ asked_by node ∷ []
+asked_append : (nodes : List (Rc Node Global)) (node : Rc Node Global) → map asked_behind (nodes ++ node ∷ []) ≡ map asked_behind nodes ++ asked_behind node ∷ []
 asked_append [] node = refl
-asked_append (x ∷ nodes) node = ap (λ xs. asked_by x ∷ xs) (asked_append nodes node)
+asked_append (x ∷ nodes) node = ap (λ xs. asked_behind x ∷ xs) (asked_append nodes node)
 
 -- one more group has a node
-pub nodes_more : (basis : Basis) (object : List ℕ) (nodes nodes' : List Node) (node : Node) (its rest : List Group) (group : Group) (all : List Asked)
-    → its ≡ group ∷ rest → nodes' ≡ nodes ++ node ∷ [] → asked_by node ≡ asked_of basis object (united group)
-    → map asked_by nodes ++ map (asked_of basis object) (map united its) ≡ all
-    → map asked_by nodes' ++ map (asked_of basis object) (map united rest) ≡ all
+pub nodes_more : (basis : Basis) (object : List ℕ) (nodes nodes' : List (Rc Node Global)) (node : Rc Node Global) (its rest : List Group) (group : Group) (all : List Asked)
+    → its ≡ group ∷ rest → nodes' ≡ nodes ++ node ∷ [] → asked_behind node ≡ asked_of basis object (united group)
+    → map asked_behind nodes ++ map (asked_of basis object) (map united its) ≡ all
+    → map asked_behind nodes' ++ map (asked_of basis object) (map united rest) ≡ all
 nodes_more basis object nodes nodes' node its rest group all is added asks before =
     let others = map (asked_of basis object) (map united rest) in
-    ap (λ ns. map asked_by ns ++ others) added
+    ap (λ ns. map asked_behind ns ++ others) added
     ∙ ap (λ xs. xs ++ others) (asked_append nodes node)
-    ∙ append_assoc (map asked_by nodes) (asked_by node ∷ []) others
-    ∙ ap (λ a. map asked_by nodes ++ a ∷ others) asks
-    ∙ ap (λ gs. map asked_by nodes ++ map (asked_of basis object) (map united gs)) (sym is)
+    ∙ append_assoc (map asked_behind nodes) (asked_behind node ∷ []) others
+    ∙ ap (λ a. map asked_behind nodes ++ a ∷ others) asks
+    ∙ ap (λ gs. map asked_behind nodes ++ map (asked_of basis object) (map united gs)) (sym is)
     ∙ before

@@ -7,7 +7,6 @@ use Rattle.gql_doc.specs.declared.document.Field.{Field}
 use Rattle.gql_doc.specs.declared.document.Positioned.{Positioned}
 use Rattle.gql_doc.specs.declared.document.Selection.{Selection}
 use Rattle.gql_meaning.specs.Completion.{Completed}
-use Rattle.gql_meaning.specs.Responses.{Members}
 use Rattle.gql_place.specs.Filled.{fill}
 use Rattle.gql_place.specs.declared.place.Place.{Place}
 use Rattle.gql_resolve.specs.Call.{Call}
@@ -21,7 +20,7 @@ use Rattle.gql_merged.specs.FieldsWithin.{collected}
 use Rattle.gql_merged.specs.Filling.{Made, tree_with}
 use Rattle.gql_merged.specs.Jobs.{jobs_at}
 use Rattle.gql_merged.specs.Levels.{asked_in, asked_on}
-use Rattle.gql_merged.specs.Merged.{ground_of, merged_beneath, merged_members, merged_place}
+use Rattle.gql_merged.specs.Merged.{merged_beneath, merged_members, merged_place}
 use Rattle.gql_merged.specs.MergedLaws.{members_of_tasks}
 use Rattle.gql_merged.specs.Stored.{bare, Spot, spots}
 use Rattle.gql_merged.specs.declared.basis.Basis.{Basis}
@@ -32,18 +31,18 @@ use Rattle.gql_merged.proofs.JobLemmas.{jobs_by_is}
 module _ {V : Type 0} (basis : Basis) (answer : Call V → Answer V) (n : ℕ) where
   -- the members of an object, of the places of its tasks with one level of sets less
   pub members_merged : (spot : Spot V) (selections : List (Positioned Selection)) (rest : List Place)
-      → members_with spot.object (asked_in basis spot.object selections) (map (merged_place basis answer n) (jobs_at (ground_of basis) selections spot) ++ rest)
+      → members_with spot.object (asked_in basis spot.object selections) (map (merged_place basis answer n) (jobs_at basis selections spot) ++ rest)
       ≡ merged_members basis answer (suc n) spot.object spot.parent selections
   members_merged spot selections rest =
       let fields : List (List ℕ × Positioned Field) = merged (reading (setting_by basis)) (collected basis spot.object selections) in
       ap (λ js. members_with spot.object (asked_on basis spot.object fields) (map (merged_place basis answer n) js ++ rest))
-      (sym (jobs_by_is basis (ground_of basis) refl spot fields))
-      ∙ members_are basis (ground_of basis) refl answer spot (λ field. merged_beneath basis answer n field) fields rest
+      (sym (jobs_by_is basis spot fields))
+      ∙ members_are basis answer spot (λ field. merged_beneath basis answer n field) fields rest
 
   pub members_alone : (spot : Spot V) (selections : List (Positioned Selection))
       → members_of_tasks basis answer n selections spot ≡ merged_members basis answer (suc n) spot.object spot.parent selections
   members_alone spot selections =
-      ap (λ ps. members_with spot.object (asked_in basis spot.object selections) ps) (sym (append-nil (map (merged_place basis answer n) (jobs_at (ground_of basis) selections spot))))
+      ap (λ ps. members_with spot.object (asked_in basis spot.object selections) ps) (sym (append-nil (map (merged_place basis answer n) (jobs_at basis selections spot))))
       ∙ members_merged spot selections []
 
   all_merged : (selections : List (Positioned Selection)) (ss : List (Spot V))

@@ -1,12 +1,17 @@
--- What a field asks on an object, whatever the object's value (GraphQL, October 2021, sections 6.4.1 and 6.4.2).
-use Rattle.std.specs.Prelude.{ℕ, Bool, List, [], Option, Some, None, if◌then◌else◌}
+-- What a field asks on an object, whatever the object's value (GraphQL, October 2021, sections
+-- 6.4.1 and 6.4.2).
+use Rattle.std.specs.Prelude.{ℕ, Bool, true, false, List, [], Option, Some, None, if◌then◌else◌}
+use Rattle.gql_base.specs.declared.type_ref.TypeRef.{TypeRef}
+use Rattle.gql_base.specs.declared.type_ref.TypeRef.TheVariants as ref
 use Rattle.gql_base.specs.declared.value.Value.{Value}
 use Rattle.gql_doc.specs.declared.document.Argument.{Argument}
 use Rattle.gql_doc.specs.declared.document.Field.{Field}
 use Rattle.gql_doc.specs.declared.document.Positioned.{Positioned}
 use Rattle.gql_meaning.specs.Completion.{outcome_at}
-use Rattle.gql_meaning.specs.Execution.{absent_outcome, Asking, Execution, is_typename, typename_outcome}
-use Rattle.gql_meaning.specs.TableSetting.{arguments_in, entities_field, field_in}
+use Rattle.gql_meaning.specs.Execution.{absent_outcome, Asking, Execution, is_typename}
+use Rattle.gql_meaning.specs.Execution.{typename_outcome}
+use Rattle.gql_meaning.specs.TableSetting.{arguments_in as arguments_of_declared, entities_field}
+use Rattle.gql_meaning.specs.TableSetting.{field_in}
 use Rattle.gql_place.specs.Filled.{Outcome}
 use Rattle.gql_resolve.specs.Call.{Call}
 use Rattle.gql_resolve.specs.declared.answer.Answer.{Answer}
@@ -29,35 +34,94 @@ asks_at arguments (Some declared) = asks_by arguments declared declared.number
 
 -- what it asks, at the constants of its arguments as they are written
 abbrev pub asks_of_declared : (List ℕ → Value) → Option Declared → List Argument → Asks
-asks_of_declared known declared written = asks_at (constants known (arguments_in declared) written) declared
+asks_of_declared known declared written =
+    asks_at (constants known (arguments_of_declared declared) written) declared
 
 -- the field of entities, which a resolver finds
 abbrev pub entities_by : ℕ → Declared
 entities_by resolver = entities_field (record { root = []; resolver = resolver })
 
--- what the field of a name asks on an object, unless it is that of the object's own name; in introspection-only mode it asks nothing
+-- what the field of a name asks on an object, unless it is that of the object's own name; in
+-- introspection-only mode it asks nothing
 abbrev pub asks_allowed : Execution → List ℕ → List ℕ → List Argument → Asks
 asks_allowed execution object name written =
-    if execution.only_introspection then asks.Nothing else asks_of_declared execution.known (field_in execution.schema object name) written
+    if execution.only_introspection
+    then asks.Nothing
+    else asks_of_declared execution.known (field_in execution.schema object name) written
 
 -- what an occurrence asks on an object
 abbrev pub asks_of : Execution → List ℕ → Positioned Field → Asks
 asks_of execution object field =
-    if is_typename (name_of field) then asks.Typename else asks_allowed execution object (name_of field) (arguments_of field)
+    if is_typename (name_of field)
+    then asks.Typename else asks_allowed execution object (name_of field) (arguments_of field)
 
 -- the call that is asked on an object of this value, if any
-abbrev pub asking_by : {V : Type 0} → Bool → List (List (ℕ × Value)) → FieldValue V → Asks → Option (Asking V)
+abbrev pub asking_by : {V : Type 0} → Bool → List (List (ℕ × Value)) → FieldValue V → Asks
+    → Option (Asking V)
 asking_by is_root layers parent asks.Typename = None
 asking_by is_root layers parent asks.Nothing = None
 asking_by is_root layers parent (asks.Call resolver ty arguments) = Some (record {
-  call = record { is_root = is_root; resolver = resolver; parent = parent; arguments = arguments; layers = layers };
+  call =
+      record {
+        is_root = is_root;
+        resolver = resolver;
+        parent = parent;
+        arguments = arguments;
+        layers = layers;
+      };
   ty = ty;
 })
 
--- what is asked comes to this, with these answers: the object's name, nothing, or what the answer comes to at its type
-abbrev pub outcome_by : {V : Type 0} → Bool → Execution → (Call V → Answer V) → List ℕ → FieldValue V → Asks → Outcome (List ℕ) (FieldValue V)
+-- what is asked comes to this, with these answers: the object's name, nothing, or what the answer
+-- comes to at its type
+abbrev pub outcome_by : {V : Type 0} → Bool → Execution → (Call V → Answer V) → List ℕ
+    → FieldValue V → Asks → Outcome (List ℕ) (FieldValue V)
 outcome_by is_root execution answer object parent asks.Typename = typename_outcome object
 outcome_by is_root execution answer object parent asks.Nothing = absent_outcome
 outcome_by is_root execution answer object parent (asks.Call resolver ty arguments) =
     outcome_at execution.schema.table ty
-    (answer (record { is_root = is_root; resolver = resolver; parent = parent; arguments = arguments; layers = execution.layers }))
+    (answer (record {
+      is_root = is_root;
+      resolver = resolver;
+      parent = parent;
+      arguments = arguments;
+      layers = execution.layers;
+    }))
+
+-- whether an answer is asked
+abbrev pub is_call : Asks → Bool
+is_call asks.Typename = false
+is_call asks.Nothing = false
+is_call (asks.Call resolver ty arguments) = true
+
+-- the resolver that is called; where no answer is asked it has no meaning, as the next two
+abbrev pub resolver_in : Asks → ℕ
+resolver_in asks.Typename = 0
+resolver_in asks.Nothing = 0
+resolver_in (asks.Call resolver ty arguments) = resolver
+
+-- the type of the answer
+abbrev pub type_in : Asks → TypeRef
+type_in asks.Typename = ref.Named []
+type_in asks.Nothing = ref.Named []
+type_in (asks.Call resolver ty arguments) = ty
+
+-- the values of the arguments
+abbrev pub arguments_in : Asks → List (List ℕ × Value)
+arguments_in asks.Typename = []
+arguments_in asks.Nothing = []
+arguments_in (asks.Call resolver ty arguments) = arguments
+
+-- the call that is asked on an object of this value, with its type
+abbrev pub asking_at : {V : Type 0} → List (List (ℕ × Value)) → FieldValue V → Asks → Asking V
+asking_at layers parent what = record {
+  call =
+      record {
+        is_root = false;
+        resolver = resolver_in what;
+        parent = parent;
+        arguments = arguments_in what;
+        layers = layers;
+      };
+  ty = type_in what;
+}

@@ -1,4 +1,5 @@
--- The members of an object, of the places of those of its fields that ask an answer (GraphQL, October 2021, section 6.3).
+-- The members of an object, of the places of those of its fields that ask an answer (GraphQL,
+-- October 2021, section 6.3).
 use Rattle.std.specs.Prelude.{ℕ, true, false, List, [], ◌∷◌}
 use Rattle.std.specs.List.{zip}
 use Rattle.gql_base.specs.Pairs.{names_of, values_of}
@@ -12,6 +13,7 @@ use Rattle.gql_place.specs.declared.place.Tree.TheVariants as tree
 use Rattle.gql_resolve.specs.Call.{Call}
 use Rattle.gql_resolve.specs.declared.answer.Answer.{Answer}
 use Rattle.gql_resolve.specs.declared.field_value.FieldValue.{FieldValue}
+use Rattle.gql_schema.specs.Table.{types_of}
 use Rattle.gql_merged.specs.Jobs.{Job}
 use Rattle.gql_merged.specs.Levels.{Asked}
 use Rattle.gql_merged.specs.declared.asks.Asks.{Asks}
@@ -19,11 +21,19 @@ use Rattle.gql_merged.specs.declared.asks.Asks.TheVariants as asks
 
 -- the place of the name of an object, which is never null
 abbrev pub typename_place : Pos → List ℕ → Place
-typename_place pos object = record { pos = pos; non_null = true; added = []; headers = []; tree = tree.Leaf (value.String object) }
+typename_place pos object =
+    record {
+      pos = pos;
+      non_null = true;
+      added = [];
+      headers = [];
+      tree = tree.Leaf (value.String object);
+    }
 
 -- the place of a field that asks nothing
 abbrev pub absent_place : Pos → Place
-absent_place pos = record { pos = pos; non_null = false; added = []; headers = []; tree = tree.Absent }
+absent_place pos =
+    record { pos = pos; non_null = false; added = []; headers = []; tree = tree.Absent }
 
 -- the first of places, or an absent one
 abbrev pub first_place : Pos → List Place → Place
@@ -51,18 +61,23 @@ places_behind (asks.Call resolver ty arguments) places = other_places places
 abbrev pub places_with : List ℕ → List Asked → List Place → List Place
 places_with object [] places = []
 places_with object (asked ∷ others) places =
-    place_of object asked.field.pos asked.asks places ∷ places_with object others (places_behind asked.asks places)
+    place_of object asked.field.pos asked.asks places
+    ∷ places_with object others (places_behind asked.asks places)
 
 -- the places that all of them leave
 abbrev pub places_behind_all : List Asked → List Place → List Place
 places_behind_all [] places = places
-places_behind_all (asked ∷ others) places = places_behind_all others (places_behind asked.asks places)
+places_behind_all (asked ∷ others) places =
+    places_behind_all others (places_behind asked.asks places)
 
 -- the members of an object
 abbrev pub members_with : List ℕ → List (List ℕ × Asked) → List Place → Members
-members_with object members places = zip (names_of members) (places_with object (values_of members) places)
+members_with object members places =
+    zip (names_of members) (places_with object (values_of members) places)
 
 -- the place of a task with these answers, and with what is beneath the objects of its field
-abbrev pub place_of_job : {V : Type 0} → (Call V → Answer V) → (List ℕ → FieldValue V → Members) → Job V → Place
+abbrev pub place_of_job : {V : Type 0} → (Call V → Answer V) → (List ℕ → FieldValue V → Members)
+    → Job V → Place
 place_of_job answer below job =
-    place_with job.field.pos (outcome_at job.ground.execution.schema.table job.asking.ty (answer job.asking.call)) below
+    place_with job.field.pos
+    (outcome_at (types_of job.basis.types.now) job.asking.ty (answer job.asking.call)) below

@@ -1,11 +1,11 @@
 -- What an execution knows (GraphQL, October 2021, section 6.2), as the machine holds it.
-use Rattle.std.specs.Prelude.{ℕ, Bool, true, false, List, Option, option_map}
+use Rattle.std.specs.Prelude.{ℕ, Bool, true, false, List, option_map}
 use Rattle.gql_base.specs.declared.value.Value.{Value}
 use Rattle.gql_doc.specs.declared.document.Field.{Field}
 use Rattle.gql_doc.specs.declared.document.Positioned.{Positioned}
 use Rattle.gql_doc.specs.declared.document.Selection.{Selection}
 use Rattle.gql_meaning.specs.Execution.{Execution, setting_in}
-use Rattle.gql_meaning.specs.TableSetting.{Entities, Schema}
+use Rattle.gql_meaning.specs.TableSetting.{Schema}
 use Rattle.gql_request.specs.QueryEnv.{levels_of}
 use Rattle.gql_request.specs.declared.query_env.IntrospectionMode.{IntrospectionMode}
 use Rattle.gql_request.specs.declared.query_env.IntrospectionMode.TheVariants as mode
@@ -30,7 +30,8 @@ known_in env = variable_value env.variables env.operation.node.variable_definiti
 abbrev pub schema_of : Basis → Schema
 schema_of basis = record {
   table = types_of basis.types.now;
-  entities = option_map (λ resolver. record { root = basis.query.now; resolver = resolver }) basis.entities;
+  entities =
+      option_map (λ resolver. record { root = basis.query.now; resolver = resolver }) basis.entities;
 }
 
 -- what the execution knows
@@ -48,6 +49,9 @@ execution_of basis = record {
 abbrev pub setting_by : Basis → Setting
 setting_by basis = setting_in (execution_of basis)
 
--- an object's fields in the selections, as many levels of fragments deep as are left (section 6.3.2)
-abbrev pub fields_within : Basis → ℕ → List ℕ → List (Positioned Selection) → List (Positioned Field)
-fields_within basis left object selections = collect_within (setting_by basis) left object selections
+-- an object's fields in the selections, as many levels of fragments deep as are left (section
+-- 6.3.2)
+abbrev pub fields_within : Basis → ℕ → List ℕ → List (Positioned Selection)
+    → List (Positioned Field)
+fields_within basis left object selections =
+    collect_within (setting_by basis) left object selections

@@ -1,5 +1,6 @@
--- Completed answers without what their objects are, which get members one after another, from the front of a list.
-use Rattle.std.specs.Prelude.{ℕ, Bool, false, List, [], ◌∷◌, map}
+-- Completed answers without what their objects are, which get members one after another, from the
+-- front of a list.
+use Rattle.std.specs.Prelude.{Bool, false, List, [], ◌∷◌, map}
 use Rattle.gql_base.specs.declared.pos.Pos.{Pos}
 use Rattle.gql_meaning.specs.Responses.{Members}
 use Rattle.gql_place.specs.Filled.{item_of}
@@ -35,7 +36,9 @@ module _ (pos : Pos) where
   abbrev pub made_all : Bool → List (List Members → Made) → List Members → AllMade
   made_all non_null [] members = record { places = []; left = members }
   made_all non_null (item ∷ items) members = record {
-    places = item_of pos non_null (item members).tree ∷ (made_all non_null items (item members).left).places;
+    places =
+        item_of pos non_null (item members).tree
+        ∷ (made_all non_null items (item members).left).places;
     left = (made_all non_null items (item members).left).left;
   }
 
@@ -47,7 +50,10 @@ module _ (pos : Pos) where
   made_step (Shape-F.Object object parent) members =
       record { tree = tree.Object (first_members members); left = other_members members }
   made_step (Shape-F.List non_null items) members =
-      record { tree = tree.List (made_all non_null items members).places; left = (made_all non_null items members).left }
+      record {
+        tree = tree.List (made_all non_null items members).places;
+        left = (made_all non_null items members).left;
+      }
 
   -- what a shape comes to with these members
   abbrev pub made_of : Bare → List Members → Made

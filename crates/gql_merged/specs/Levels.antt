@@ -1,6 +1,9 @@
--- The fields of an object, one for each key, with what each asks (GraphQL, October 2021, sections 6.3.1 and 6.3.2).
-use Rattle.std.specs.Prelude.{◌≡◌, ℕ, List, [], ◌∷◌, map}
+-- The fields of an object, one for each key, with what each asks (GraphQL, October 2021, sections
+-- 6.3.1 and 6.3.2).
+use Rattle.std.specs.Prelude.{ℕ, List, [], ◌∷◌, map}
 use Rattle.std.specs.List.{zip}
+use Rattle.std.specs.declared.alloc.Global.{Global}
+use Rattle.std.specs.declared.rc.Rc.{Rc}
 use Rattle.gql_base.specs.Pairs.{names_of}
 use Rattle.gql_doc.specs.declared.document.Field.{Field}
 use Rattle.gql_doc.specs.declared.document.Positioned.{Positioned}
@@ -16,27 +19,34 @@ use Rattle.gql_merged.specs.declared.basis.Basis.{Basis}
 use Rattle.gql_merged.specs.declared.level.Level.{Level}
 use Rattle.gql_merged.specs.declared.level.Node.{Node}
 
--- a field, merged over its occurrences, with what it asks
+-- a field, merged over its occurrences, with what it asks, and what the execution stands on
 pub record Asked : Type 0 where
+  pub basis : Basis
   pub field : Positioned Field
   pub asks : Asks
 
 -- a node as such a field
 abbrev pub asked_by : Node → Asked
-asked_by node = record { field = united node.group; asks = node.asks }
+asked_by node = record { basis = node.basis; field = united node.group; asks = node.asks }
+
+-- the same of a node that is shared
+abbrev pub asked_behind : Rc Node Global → Asked
+asked_behind node = asked_by node.value
 
 -- the fields of a level under their keys
 abbrev pub members_of : Level → List (List ℕ × Asked)
-members_of level = zip (names_of level.keys) (map asked_by level.nodes.items)
+members_of level = zip (names_of level.keys) (map asked_behind level.nodes.items)
 
 -- a field with what it asks on an object
 abbrev pub asked_of : Basis → List ℕ → Positioned Field → Asked
-asked_of basis object field = record { field = field; asks = asks_of (execution_of basis) object field }
+asked_of basis object field =
+    record { basis = basis; field = field; asks = asks_of (execution_of basis) object field }
 
 -- fields under their keys, each with what it asks on an object
 abbrev pub asked_on : Basis → List ℕ → List (List ℕ × Positioned Field) → List (List ℕ × Asked)
 asked_on basis object [] = []
-asked_on basis object (member ∷ members) = (member.0, asked_of basis object member.1) ∷ asked_on basis object members
+asked_on basis object (member ∷ members) =
+    (member.0, asked_of basis object member.1) ∷ asked_on basis object members
 
 -- the fields of an object in selections, one for each key, with what each asks
 abbrev pub asked_in : Basis → List ℕ → List (Positioned Selection) → List (List ℕ × Asked)

@@ -13,18 +13,15 @@ use Rattle.gql_select.specs.Documents.{placing_by}
 use Rattle.gql_select.specs.Grouped.{grouped}
 use Rattle.gql_merged.specs.Assembled.{place_of_job}
 use Rattle.gql_merged.specs.Basis.{execution_of, setting_by}
-use Rattle.gql_merged.specs.Jobs.{Ground, Job}
+use Rattle.gql_merged.specs.Jobs.{Job}
 use Rattle.gql_merged.specs.declared.basis.Basis.{Basis}
-
--- what all tasks of an execution have in common
-abbrev pub ground_of : Basis → Ground
-ground_of basis = record { execution = execution_of basis; env = basis.env.now }
 
 module _ {V : Type 0} (basis : Basis) (answer : Call V → Answer V) where
   -- the members of an object, each key answered once, so many levels of sets deep
   abbrev pub merged_members : ℕ → List ℕ → FieldValue V → List (Positioned Selection) → Members
   merged_members n object parent selections =
-      grouped (placing_by (setting_by basis) (placed (execution_of basis) false answer)) n object parent selections
+      grouped (placing_by (setting_by basis) (placed (execution_of basis) false answer)) n object
+      parent selections
 
   -- those beneath a field
   abbrev pub merged_beneath : ℕ → Positioned Field → List ℕ → FieldValue V → Members

@@ -20,17 +20,17 @@ use Rattle.gql_select.specs.Collected.{collect_within, own_selections, Setting}
 use Rattle.gql_merged.specs.Asks.{asking_by, asks_of}
 use Rattle.gql_merged.specs.Assembled.{members_with}
 use Rattle.gql_merged.specs.Filling.{tree_with}
-use Rattle.gql_merged.specs.Jobs.{jobs_at, jobs_of_slots}
+use Rattle.gql_merged.specs.Jobs.{jobs_at, jobs_by}
 use Rattle.gql_merged.specs.Levels.{asked_in}
-use Rattle.gql_merged.specs.Merged.{ground_of, merged_beneath, merged_members, merged_place}
+use Rattle.gql_merged.specs.Merged.{merged_beneath, merged_members, merged_place}
 use Rattle.gql_merged.specs.Stored.{bare, Spot, spots}
-use Rattle.gql_merged.specs.Tasks.{slots_from}
 use Rattle.gql_merged.specs.declared.basis.Basis.{Basis}
 
 -- a field asks the call that is made of what it asks on any value of its object
 abbrev pub FieldsAskTheirCalls : (V : Type 0) → Type 0
 FieldsAskTheirCalls V =
-    (is_root : Bool) (execution : Execution) (parent : FieldValue V) (object : List ℕ) (field : Positioned Field)
+    (is_root : Bool) (execution : Execution) (parent : FieldValue V) (object : List ℕ)
+    (field : Positioned Field)
     → field_asking is_root execution object parent field
     ≡ asking_by is_root execution.layers parent (asks_of execution object field)
 
@@ -39,19 +39,21 @@ module _ {V : Type 0} (basis : Basis) (answer : Call V → Answer V) (n : ℕ) w
   abbrev pub members_of_tasks : List (Positioned Selection) → Spot V → List (List ℕ × Place)
   members_of_tasks selections spot =
       members_with spot.object (asked_in basis spot.object selections)
-      (map (merged_place basis answer n) (jobs_at (ground_of basis) selections spot))
+      (map (merged_place basis answer n) (jobs_at basis selections spot))
 
 -- the places of the tasks of an object, with one level of sets less, make its members
 abbrev pub MembersAreMerged : (V : Type 0) → Type 0
 MembersAreMerged V =
-    (basis : Basis) (answer : Call V → Answer V) (n : ℕ) (spot : Spot V) (selections : List (Positioned Selection))
+    (basis : Basis) (answer : Call V → Answer V) (n : ℕ) (spot : Spot V)
+    (selections : List (Positioned Selection))
     → members_of_tasks basis answer n selections spot
     ≡ merged_members basis answer (suc n) spot.object spot.parent selections
 
 -- a completed answer, taken apart and put together of the places of the tasks beneath it
 abbrev pub TreesAreMerged : (V : Type 0) → Type 0
 TreesAreMerged V =
-    (basis : Basis) (answer : Call V → Answer V) (n : ℕ) (pos : Pos) (field : Positioned Field) (comes : Completed V)
+    (basis : Basis) (answer : Call V → Answer V) (n : ℕ) (pos : Pos) (field : Positioned Field)
+    (comes : Completed V)
     (path : List PathSegment)
     → tree_with pos (bare comes)
     (map (members_of_tasks basis answer n (own_selections field)) (spots comes path))
@@ -61,9 +63,8 @@ TreesAreMerged V =
 abbrev pub TasksAreJobs : (V : Type 0) → Type 0
 TasksAreJobs V =
     (basis : Basis) (spot : Spot V) (selections : List (Positioned Selection))
-    → jobs_of_slots (ground_of basis) spot.parent
-    (slots_from 0 spot.path (values_of (asked_in basis spot.object selections)))
-    ≡ jobs_at (ground_of basis) selections spot
+    → jobs_by spot (values_of (asked_in basis spot.object selections))
+    ≡ jobs_at basis selections spot
 
 -- the set of each field that is collected in a set nests within the levels of that set
 abbrev pub CollectedNest : Type 0

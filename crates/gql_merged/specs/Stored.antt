@@ -1,4 +1,5 @@
--- The objects of a completed answer, each with its value and its path, and what is left of the answer without them.
+-- The objects of a completed answer, each with its value and its path, and what is left of the
+-- answer without them.
 use Rattle.std.specs.Prelude.{ℕ, suc, List, [], ◌∷◌, ◌++◌}
 use Rattle.gql_base.specs.declared.path_segment.PathSegment.{PathSegment}
 use Rattle.gql_base.specs.declared.path_segment.PathSegment.TheVariants as segment
@@ -21,16 +22,20 @@ Bare = Shape (Unit {0}) (Unit {0})
 
 module _ {V : Type 0} where
   -- those of items, each behind its index, counted from this number on
-  abbrev pub numbered : ℕ → List (List PathSegment → List (Spot V)) → List PathSegment → List (Spot V)
+  abbrev pub numbered : ℕ → List (List PathSegment → List (Spot V)) → List PathSegment
+      → List (Spot V)
   numbered n [] path = []
-  numbered n (item ∷ items) path = item (path ++ segment.Index n ∷ []) ++ numbered (suc n) items path
+  numbered n (item ∷ items) path =
+      item (path ++ segment.Index n ∷ []) ++ numbered (suc n) items path
 
   -- one level of a shape
-  abbrev pub spots_step : Shape-F (List ℕ) (FieldValue V) (List PathSegment → List (Spot V)) → List PathSegment → List (Spot V)
+  abbrev pub spots_step : Shape-F (List ℕ) (FieldValue V) (List PathSegment → List (Spot V))
+      → List PathSegment → List (Spot V)
   spots_step Shape-F.Absent path = []
   spots_step (Shape-F.Leaf leaf) path = []
   spots_step (Shape-F.Fault error) path = []
-  spots_step (Shape-F.Object object parent) path = record { object = object; parent = parent; path = path } ∷ []
+  spots_step (Shape-F.Object object parent) path =
+      record { object = object; parent = parent; path = path } ∷ []
   spots_step (Shape-F.List non_null items) path = numbered 0 items path
 
   -- the objects of a shape that stands at a path, in their order

@@ -1,30 +1,46 @@
--- The tasks of an object: one for each of its fields that asks an answer.
-use Rattle.std.specs.Prelude.{ℕ, suc, List, [], ◌∷◌, ◌++◌}
+-- Tasks as the machine holds them.
+use Rattle.std.specs.Prelude.{◌≡◌, ℕ, ◌≤◌, List, [], ◌∷◌, ◌++◌, Some, length, map, slice_get}
 use Rattle.gql_base.specs.declared.path_segment.PathSegment.{PathSegment}
 use Rattle.gql_base.specs.declared.path_segment.PathSegment.TheVariants as segment
-use Rattle.gql_merged.specs.Levels.{Asked}
 use Rattle.gql_engine.specs.Path.{key_text}
-use Rattle.gql_merged.specs.declared.asks.Asks.{Asks}
-use Rattle.gql_merged.specs.declared.asks.Asks.TheVariants as asks
+use Rattle.gql_resolve.specs.Layers.{layers_of}
+use Rattle.gql_merged.specs.Asks.{asking_at}
+use Rattle.gql_merged.specs.Groups.{united}
+use Rattle.gql_merged.specs.Jobs.{Job}
+use Rattle.gql_merged.specs.Parents.{path_to, value_of}
+use Rattle.gql_merged.specs.declared.level.Node.{Node}
+use Rattle.gql_merged.specs.declared.parent.Held.{Held}
+use Rattle.gql_merged.specs.declared.parent.Parent.{Parent}
+use Rattle.gql_merged.specs.declared.task.Task.{Task}
 
--- a field that asks an answer: its place among the fields of its object, itself, and its path
-pub record Slot : Type 0 where
-  pub node : ℕ
-  pub asked : Asked
-  pub path : List PathSegment
+module _ {V : Type 0} where
+  -- a task beneath another one has a path of two segments at least
+  abbrev pub IsDeep : Job V → Type 0
+  IsDeep job = 2 ≤ length job.path
 
--- what is there only for a field that asks an answer
-abbrev pub if_call : {X : Type 0} → Asks → X → List X
-if_call asks.Typename x = []
-if_call asks.Nothing x = []
-if_call (asks.Call resolver ty arguments) x = x ∷ []
+  -- the path of a field of an object
+  abbrev pub path_with : Held V → Node → List PathSegment
+  path_with held node = path_to held ++ segment.Field (key_text (united node.group)) ∷ []
 
--- a field of an object at a path
-abbrev pub slot_at : ℕ → List PathSegment → Asked → List Slot
-slot_at node path asked =
-    if_call asked.asks (record { node = node; asked = asked; path = path ++ segment.Field (key_text asked.field) ∷ [] })
+  -- a field of an object as a task
+  abbrev pub job_with : Parent V → Node → Job V
+  job_with parent node = record {
+    basis = node.basis;
+    object = parent.level.value.object;
+    field = united node.group;
+    asking = asking_at (layers_of node.basis.layers) (value_of parent.held) node.asks;
+    path = path_with parent.held node;
+  }
 
--- the fields of an object that ask, their places counted from this number on
-abbrev pub slots_from : ℕ → List PathSegment → List Asked → List Slot
-slots_from node path [] = []
-slots_from node path (asked ∷ others) = slot_at node path asked ++ slots_from (suc node) path others
+  -- what a task is
+  abbrev pub job_of_task : Task V → Job V
+  job_of_task task = job_with task.parent.value task.node.value
+
+  -- all of them
+  abbrev pub jobs_in : List (Task V) → List (Job V)
+  jobs_in tasks = map job_of_task tasks
+
+  -- a path is that of the task of a number
+  abbrev pub IsAimed : List (Task V) → List PathSegment → ℕ → Type 0
+  IsAimed tasks path number =
+      (task : Task V) → slice_get tasks number ≡ Some task → path ≡ (job_of_task task).path

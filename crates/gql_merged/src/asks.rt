@@ -1,6 +1,9 @@
+ghost use Rattle.std.specs.Prelude.{◌≡◌, true};
+
 use gql_base::{Pairs, TypeRef, Value};
 
-/// What a field asks on an object, whatever the object's value: the object's name, nothing, or a call of a resolver.
+/// What a field asks on an object, whatever the object's value: the object's name, nothing, or a
+/// call of a resolver.
 #[derive(Debug, Drop)]
 pub enum Asks {
     Typename,
@@ -10,4 +13,71 @@ pub enum Asks {
         ty: TypeRef,
         arguments: Pairs<Value>,
     },
+}
+
+impl Asks {
+    ghost use Rattle.gql_merged.specs.Asks.{arguments_in, is_call, resolver_in, type_in};
+
+    /// Whether an answer is asked.
+    pub(crate) fn is_call(&self) -> bool
+        ensures { result ≡ is_call self.now }
+    {
+        match self {
+            Asks::Typename => false,
+            Asks::Nothing => false,
+            Asks::Call {
+                resolver: _,
+                ty: _,
+                arguments: _,
+            } => true,
+        }
+    }
+
+    /// The number of the resolver.
+    pub(crate) fn resolver(&self) -> u32
+        requires { is_call self.now ≡ true }
+        ensures { result ≡ resolver_in self.now }
+    {
+        match self {
+            Asks::Typename => unreachable!(),
+            Asks::Nothing => unreachable!(),
+            Asks::Call {
+                resolver,
+                ty: _,
+                arguments: _,
+            } => *resolver,
+        }
+    }
+
+    /// The type of the answer.
+    pub(crate) fn ty(&self) -> &TypeRef
+        requires { is_call self.now ≡ true }
+        ensures { result.now ≡ type_in self.now }
+    {
+        match self {
+            Asks::Typename => unreachable!(),
+            Asks::Nothing => unreachable!(),
+            Asks::Call {
+                resolver: _,
+                ty,
+                arguments: _,
+            } => ty,
+        }
+    }
+
+    /// The values of the arguments.
+    pub(crate) fn arguments(&self) -> &Pairs<Value>
+        requires { is_call self.now ≡ true }
+        ensures { result.now ≡ arguments_in self.now }
+    {
+        match self {
+            Asks::Typename => unreachable!(),
+            Asks::Nothing => unreachable!(),
+            Asks::Call {
+                resolver: _,
+                ty: _,
+                arguments,
+            } => arguments,
+        }
+    }
 }

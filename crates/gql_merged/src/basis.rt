@@ -2,8 +2,8 @@ use gql_request::QueryEnv;
 use gql_resolve::Layers;
 use gql_schema::Types;
 
-/// What an execution stands on, but for its root, its answers and its world: the request, the types of its schema, the entities, and the
-/// data of the layers.
+/// What an execution stands on, but for its root, its answers and its world: the request, the types
+/// of its schema, the entities, and the data of the layers.
 #[derive(Clone, Copy)]
 pub struct Basis<'a> {
     pub env: &'a QueryEnv,

@@ -1,4 +1,5 @@
-//! CompleteValue (GraphQL, October 2021, section 6.4.3): what an answer comes to by the type of its field.
+//! CompleteValue (GraphQL, October 2021, section 6.4.3): what an answer comes to by the type of its
+//! field.
 ghost use Rattle.std.specs.Prelude.{◌≡◌, map, IfOk, Some};
 ghost use Rattle.gql_base.specs.declared.type_ref.TypeRef.TheVariants as ref;
 ghost use Rattle.gql_resolve.specs.declared.field_value.FieldValue.TheVariants as kind;
@@ -13,7 +14,8 @@ use gql_resolve::FieldValue;
 use gql_schema::Types;
 use std::alloc::Global;
 
-/// What a resolver's result comes to at a type: an object has its type's name, and the value that its fields are asked of.
+/// What a resolver's result comes to at a type: an object has its type's name, and the value that
+/// its fields are asked of.
 pub fn complete_result<V: Drop>(
     alloc: Global,
     types: &Types,
@@ -67,7 +69,8 @@ fn require<V: Drop>(
     }
 }
 
-/// What a value comes to at the lists of a type: a list, or a value that is one, has its items completed.
+/// What a value comes to at the lists of a type: a list, or a value that is one, has its items
+/// completed.
 #[cycle(complete)]
 fn complete_list<V: Drop>(
     alloc: Global,

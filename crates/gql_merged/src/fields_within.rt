@@ -1,9 +1,11 @@
-//! CollectFields (GraphQL, October 2021, section 6.3.2): the fields of an object in selections, in document order.
+//! CollectFields (GraphQL, October 2021, section 6.3.2): the fields of an object in selections, in
+//! document order.
 ghost use Rattle.std.specs.Prelude.{◌≡◌, ◌++◌, IfOk, OnOk};
 ghost use Rattle.gql_doc.specs.declared.document.Selection.{out-Selection};
 ghost use Rattle.gql_merged.specs.Basis.{fields_within};
 ghost use Rattle.gql_merged.specs.Behind.{all_behind};
-ghost use Rattle.gql_merged.specs.FieldsWithin.{collected, fields_here, fields_of_inline_here, fields_of_name};
+ghost use Rattle.gql_merged.specs.FieldsWithin.{collected, fields_here, fields_of_inline_here};
+ghost use Rattle.gql_merged.specs.FieldsWithin.{fields_of_name};
 
 use crate::basis::Basis;
 use gql_base::Made;

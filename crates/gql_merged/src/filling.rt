@@ -1,14 +1,17 @@
-//! The trees of completed answers, with the members of their objects (GraphQL, October 2021, section 6.4.3).
+//! The trees of completed answers, with the members of their objects (GraphQL, October 2021,
+//! section 6.4.3).
 ghost use Rattle.std.specs.Prelude.{◌≡◌, IfOk, OnOk};
 ghost use Rattle.gql_place.specs.Filled.{item_of};
-ghost use Rattle.gql_merged.specs.Filling.{all_trees, first_members, left_after, left_after_all, other_members, tree_with};
+ghost use Rattle.gql_merged.specs.Filling.{all_trees, first_members, left_after, left_after_all};
+ghost use Rattle.gql_merged.specs.Filling.{other_members, tree_with};
 
 use gql_base::{Items, Made, Pairs, Pos};
 use gql_place::{Place, Shape, Tree};
 use std::alloc::Global;
 use std::collections::VecDeque;
 
-/// The tree of a completed answer, whose objects take these members from the front, one after another.
+/// The tree of a completed answer, whose objects take these members from the front, one after
+/// another.
 #[cycle(fill)]
 pub fn fill(
     alloc: Global,

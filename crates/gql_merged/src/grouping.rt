@@ -1,4 +1,5 @@
-//! The fields of one key as one field (GraphQL, October 2021, section 6.3.2, and MergeSelectionSets of section 6.4.3).
+//! The fields of one key as one field (GraphQL, October 2021, section 6.3.2, and MergeSelectionSets
+//! of section 6.4.3).
 ghost use Rattle.std.specs.Prelude.{◌≡◌, length, IfOk, OnOk};
 ghost use Rattle.gql_base.specs.Pairs.{unite};
 ghost use Rattle.gql_select.specs.Collected.{Setting};

@@ -1,10 +1,11 @@
-//! Laws on how the places of tasks are put together. Each is the contract of a function without parameters.
+//! Laws on how the places of tasks are put together. Each is the contract of a function without
+//! parameters.
 
 ghost use Rattle.gql_merged.specs.MergedLaws.{CollectedNest, FieldsAskTheirCalls, MembersAreMerged};
 ghost use Rattle.gql_merged.specs.MergedLaws.{TasksAreJobs, TreesAreMerged};
 
-/// A field asks the call that the meaning of execution says, made of what its name and its arguments ask on its object (GraphQL, October
-/// 2021, section 6.4.1).
+/// A field asks the call that the meaning of execution says, made of what its name and its
+/// arguments ask on its object (GraphQL, October 2021, section 6.4.1).
 pub fn fields_ask_their_calls<V>()
     ensures { FieldsAskTheirCalls V }
 {}
@@ -14,13 +15,14 @@ pub fn members_are_merged<V>()
     ensures { MembersAreMerged V }
 {}
 
-/// A completed answer, taken apart and put together of the places of the tasks beneath it, is what merged execution says
-/// (section 6.4.3).
+/// A completed answer, taken apart and put together of the places of the tasks beneath it, is what
+/// merged execution says (section 6.4.3).
 pub fn trees_are_merged<V>()
     ensures { TreesAreMerged V }
 {}
 
-/// The tasks that a level makes for a value of its object are those of the definition, in their order.
+/// The tasks that a level makes for a value of its object are those of the definition, in their
+/// order.
 pub fn tasks_are_jobs<V>()
     ensures { TasksAreJobs V }
 {}

@@ -1,16 +1,29 @@
-ghost use Rattle.std.specs.Prelude.{◌≡◌, length};
+ghost use Rattle.std.specs.Prelude.{◌≡◌, false, length};
+ghost use Rattle.std.specs.Coded.{Coded-set};
+ghost use Rattle.std.proofs.Props.{props};
+ghost use Rattle.gql_doc.specs.Depth.{field_set};
+ghost use Rattle.gql_request.specs.QueryEnv.{NestsIn};
+ghost use Rattle.gql_resolve.specs.Call.{is_mutation};
+ghost use Rattle.gql_merged.specs.Groups.{item_of, united};
 
 use crate::asks::Asks;
+use crate::basis::Basis;
 use crate::group::Group;
 use gql_base::{Name, Pairs};
+use gql_doc::Field;
+use std::rc::Rc;
 
-/// A field of an object, merged over its occurrences, with what it asks there. The levels beneath it are kept by the names of their
-/// objects, each made once.
+/// A field of an object, merged over its occurrences, with what it asks there. Where there are
+/// several occurrences, one field stands for them all. The operation is no mutation.
 #[derive(Drop)]
 pub struct Node<'a> {
+    pub basis: Basis<'a>,
     pub group: Group<'a>,
+    pub item: Option<Field>,
     pub asks: Asks,
-    pub below: Pairs<usize>,
+    pub ghost query: { is_mutation basis.env.now.operation.node.ty ≡ false },
+    pub ghost whole: { item ≡ item_of group } by { Coded-set item-code item (item_of group) },
+    pub ghost nests: { NestsIn basis.env.now (field_set (united group)) } by { Prim.hlevel props },
 }
 
 /// The fields of an object under their keys, in the order of the response.
@@ -18,6 +31,6 @@ pub struct Node<'a> {
 pub struct Level<'a> {
     pub object: Name,
     pub keys: Pairs<()>,
-    pub nodes: Vec<Node<'a>>,
+    pub nodes: Vec<Rc<Node<'a>>>,
     pub ghost paired: { length nodes.items ≡ length keys },
 }

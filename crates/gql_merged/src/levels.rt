@@ -1,5 +1,9 @@
-//! The fields of an object, one for each key, with what each asks (GraphQL, October 2021, sections 6.3.1 and 6.3.2).
-ghost use Rattle.std.specs.Prelude.{◌≡◌, ◌++◌, map, IfOk, OnOk};
+//! The fields of an object, one for each key, with what each asks (GraphQL, October 2021, sections
+//! 6.3.1 and 6.3.2).
+ghost use Rattle.std.specs.Prelude.{◌≡◌, ◌++◌, false, map, IfOk, OnOk};
+ghost use Rattle.gql_doc.specs.Depth.{field_set};
+ghost use Rattle.gql_request.specs.QueryEnv.{NestsIn};
+ghost use Rattle.gql_resolve.specs.Call.{is_mutation};
 ghost use Rattle.gql_select.specs.Collected.{own_selections};
 ghost use Rattle.gql_select.specs.Documents.{reading};
 ghost use Rattle.gql_select.specs.Reading.{merged};
@@ -7,7 +11,8 @@ ghost use Rattle.gql_merged.specs.Basis.{setting_by};
 ghost use Rattle.gql_merged.specs.Behind.{all_behind};
 ghost use Rattle.gql_merged.specs.FieldsWithin.{collected};
 ghost use Rattle.gql_merged.specs.Groups.{united};
-ghost use Rattle.gql_merged.specs.Levels.{asked_by, asked_of, asked_on, members_of};
+ghost use Rattle.gql_merged.specs.Levels.{asked_behind, asked_by, asked_of, asked_on, members_of};
+ghost use Rattle.gql_merged.specs.Within.{AllNest};
 
 use crate::asking::asks_for;
 use crate::basis::Basis;
@@ -15,9 +20,11 @@ use crate::fields_within::{add_fields, collect_fields};
 use crate::group::{Group, Groups};
 use crate::grouping::group_fields;
 use crate::level::{Level, Node};
-use gql_base::{Made, Name, Pairs};
+use crate::uniting::item_for;
+use gql_base::{Made, Name};
 use gql_doc::{Field, Positioned};
 use std::alloc::Global;
+use std::rc::Rc;
 
 /// The fields of an object in the sets of all occurrences of a key.
 #[tactic(auto, using(crate::proofs::LevelLemmas::beneath_more))]
@@ -53,7 +60,8 @@ fn add_occurrence_fields<'a>(
     add_fields(basis, basis.env.levels(), object, selections, fields)
 }
 
-/// The level of an object with these fields.
+/// The level of an object with these fields, whose sets nest within the levels of the request. The
+/// operation is no mutation.
 #[tactic(auto, using(crate::proofs::LevelLemmas::asked_zipped))]
 pub fn level_of<'a>(
     alloc: Global,
@@ -61,6 +69,8 @@ pub fn level_of<'a>(
     object: &str,
     fields: Vec<&'a Positioned<Field>>,
 ) -> Made<Level<'a>>
+    requires query { is_mutation basis.now.env.now.operation.node.ty ≡ false }
+    requires nest { AllNest basis.now.env.now (all_behind fields.items) }
     ensures object { IfOk result (λ level. level.object ≡ object.now) }
     ensures members { IfOk result (λ level. members_of level
         ≡ asked_on basis.entry.now object.now
@@ -82,13 +92,16 @@ fn nodes_of<'a>(
     basis: &Basis<'a>,
     object: &str,
     groups: Vec<Group<'a>>,
-) -> Made<Vec<Node<'a>>>
-    ensures { IfOk result (λ nodes. map asked_by nodes.items
+) -> Made<Vec<Rc<Node<'a>>>>
+    requires query { is_mutation basis.now.env.now.operation.node.ty ≡ false }
+    requires nest { AllNest basis.now.env.now (map united groups.items) }
+    ensures { IfOk result (λ nodes. map asked_behind nodes.items
         ≡ map (asked_of basis.entry.now object.now) (map united groups.entry.items)) }
 {
     let mut nodes = Vec::with_capacity(alloc, groups.len())?;
     for group in groups {
-        nodes.push(node_of(alloc, basis, object, group)?)?;
+        let node = node_of(alloc, basis, object, group)?;
+        nodes.push(Rc::new(alloc, node)?)?;
     }
     Ok(nodes)
 }
@@ -96,13 +109,17 @@ fn nodes_of<'a>(
 /// A group with what it asks on an object: that is what its first occurrence asks.
 #[tactic(auto, using(crate::proofs::LevelLemmas::asked_first))]
 fn node_of<'a>(alloc: Global, basis: &Basis<'a>, object: &str, group: Group<'a>) -> Made<Node<'a>>
+    requires query { is_mutation basis.now.env.now.operation.node.ty ≡ false }
+    requires nests { NestsIn basis.now.env.now (field_set (united group)) }
     ensures { IfOk result (λ node. asked_by node
         ≡ asked_of basis.entry.now object.now (united group.entry)) }
 {
+    let item = item_for(alloc, &group)?;
     let asks = asks_for(alloc, basis, object, group.first)?;
     Ok(Node {
+        basis: *basis,
         group,
+        item,
         asks,
-        below: Pairs::new(alloc),
     })
 }

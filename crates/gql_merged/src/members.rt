@@ -3,9 +3,10 @@ ghost use Rattle.std.specs.Prelude.{◌≡◌, map, IfOk, OnOk};
 ghost use Rattle.std.specs.List.{zip};
 ghost use Rattle.gql_base.specs.Pairs.{names_of};
 ghost use Rattle.gql_merged.specs.Assembled.{absent_place, first_place, other_places, place_of};
-ghost use Rattle.gql_merged.specs.Assembled.{places_behind, places_behind_all, places_with, typename_place};
+ghost use Rattle.gql_merged.specs.Assembled.{places_behind, places_behind_all, places_with};
+ghost use Rattle.gql_merged.specs.Assembled.{typename_place};
 ghost use Rattle.gql_merged.specs.Groups.{united};
-ghost use Rattle.gql_merged.specs.Levels.{asked_by};
+ghost use Rattle.gql_merged.specs.Levels.{asked_behind};
 
 use crate::asks::Asks;
 use crate::level::{Level, Node};
@@ -13,18 +14,19 @@ use gql_base::{Items, Made, Pairs, Pos, Text, Value};
 use gql_place::{Place, Tree};
 use std::alloc::Global;
 use std::collections::VecDeque;
+use std::rc::Rc;
 
-/// The members of an object: each of its fields under its key, where those that ask an answer take these places from the front, one after
-/// another.
+/// The members of an object: each of its fields under its key, where those that ask an answer take
+/// these places from the front, one after another.
 pub fn members_at(
     alloc: Global,
     level: &Level<'_>,
     places: &mut VecDeque<Place>,
 ) -> Made<Pairs<Place>>
     ensures members { IfOk result (λ members. members ≡ zip (names_of level.now.keys)
-        (places_with level.now.object (map asked_by level.now.nodes.items) places.old.items)) }
+        (places_with level.now.object (map asked_behind level.now.nodes.items) places.old.items)) }
     ensures left { OnOk result (places.new.items
-        ≡ places_behind_all (map asked_by level.now.nodes.items) places.old.items) }
+        ≡ places_behind_all (map asked_behind level.now.nodes.items) places.old.items) }
 {
     let own = places_of(alloc, level.object.as_str(), level.nodes.as_slice(), places)?;
     level.keys.with_values(alloc, own)
@@ -34,17 +36,17 @@ pub fn members_at(
 fn places_of(
     alloc: Global,
     object: &str,
-    nodes: &[Node<'_>],
+    nodes: &[Rc<Node<'_>>],
     places: &mut VecDeque<Place>,
 ) -> Made<Vec<Place>>
     ensures own { IfOk result (λ own. own.items
-        ≡ places_with object.now (map asked_by nodes.now) places.old.items) }
+        ≡ places_with object.now (map asked_behind nodes.now) places.old.items) }
     ensures left { OnOk result (places.new.items
-        ≡ places_behind_all (map asked_by nodes.now) places.old.items) }
+        ≡ places_behind_all (map asked_behind nodes.now) places.old.items) }
 {
     let mut own = Vec::with_capacity(alloc, nodes.len())?;
     for node in nodes {
-        let place = place_at(alloc, object, node, places)?;
+        let place = place_at(alloc, object, node.as_ref(), places)?;
         own.push(place)?;
     }
     Ok(own)

@@ -1,10 +1,12 @@
-//! What values come to at the types of a table by their names (GraphQL, October 2021, sections 3.5 to 3.9 and 6.4.3).
+//! What values come to at the types of a table by their names (GraphQL, October 2021, sections 3.5
+//! to 3.9 and 6.4.3).
 ghost use Rattle.std.specs.Prelude.{◌≡◌, ◌++◌, IfOk, Some, codes, option_and_then};
 ghost use Rattle.std.specs.Option.{option_copied};
 ghost use Rattle.gql_base.specs.Kinds.{enum_name_of, is_null};
 ghost use Rattle.gql_base.specs.Pairs.{under};
 ghost use Rattle.gql_meaning.specs.Completion.{at_abstract, at_enum, at_scalar, at_type, fault};
-ghost use Rattle.gql_meaning.specs.Completion.{interface_texts, is_possible, named_in, no_item, no_scalar};
+ghost use Rattle.gql_meaning.specs.Completion.{interface_texts, is_possible, named_in, no_item};
+ghost use Rattle.gql_meaning.specs.Completion.{no_scalar};
 ghost use Rattle.gql_meaning.specs.Completion.{shown, shown_number, union_texts, unless_null};
 ghost use Rattle.gql_resolve.specs.FieldValue.{value_in};
 ghost use Rattle.gql_schema.specs.Enum.{items_of};

@@ -1,4 +1,4 @@
-use Rattle.std.proofs.Common.{◌≡◌, ℕ, ◌<◌, List, [], ◌∷◌, ◌++◌, length, Some, None, refl, sym, ap, subst, ◌∙◌, arith}
+use Rattle.std.proofs.Common.{◌≡◌, ◌<◌, [], ◌∷◌, ◌++◌, length, Some, None, refl, sym, ap, subst, ◌∙◌, arith}
 use Rattle.std.proofs.lemmas.Option.{slice_get_read}
 use Rattle.gql_base.specs.Names.{place_of}
 use Rattle.gql_base.specs.Pairs.{names_of, under}

@@ -1,0 +1,96 @@
+-- The places of tasks as they are put together, from the task that was answered last to the first.
+use Rattle.std.proofs.Common.{◌≡◌, ℕ, zero, suc, ◌<◌, ◌≤◌, List, [], ◌∷◌, ◌++◌, length, take, drop, Option, Some, None, slice_get, refl, ap, sym, subst, ◌∙◌, arith}
+use Rattle.gql_place.specs.declared.place.Place.{Place}
+use Rattle.gql_resolve.specs.Call.{Call}
+use Rattle.gql_resolve.specs.declared.answer.Answer.{Answer}
+use Rattle.gql_merged.specs.Assembling.{AllHeld, beneath_due, IsFilledDue, IsRight, place_made}
+use Rattle.gql_merged.specs.Entries.{laid}
+use Rattle.gql_merged.specs.Fitting.{entries_in, entry_of}
+use Rattle.gql_merged.specs.Jobs.{Job}
+use Rattle.gql_merged.specs.Standing.{Paired, present, put_open}
+use Rattle.gql_merged.specs.declared.kept.Kept.{Kept}
+use Rattle.gql_merged.proofs.EntryLemmas.{Laid, laid_less}
+use Rattle.gql_merged.proofs.PlacedLemmas.{made_right}
+use Rattle.gql_merged.proofs.StandingLemmas.{Stands, stands_first, stands_last, stands_less}
+use Rattle.gql_merged.proofs.TaskLemmas.{map_append}
+
+take_long : {X : Type 0} (n : ℕ) (xs : List X) → n ≤ length xs → length (take n xs) ≡ n
+take_long zero xs within = refl
+take_long (suc n) [] within = absurd (omega arith)
+take_long (suc n) (x ∷ xs) within = ap suc (take_long n xs (omega arith))
+
+-- what has no length has no items
+pub no_length : {X : Type 0} (xs : List X) → length xs ≡ 0 → xs ≡ []
+no_length [] none = refl
+no_length (x ∷ xs) none = absurd (omega arith)
+
+put_long : {P : Type 0} (place : P) (os : List (Option P)) (n : ℕ) → length (put_open place os n) ≡ length os
+put_long place [] n = refl
+put_long place (None ∷ os) zero = refl
+put_long place (Some p ∷ os) zero = refl
+put_long place (None ∷ os) (suc n) = ap suc (put_long place os n)
+put_long place (Some p ∷ os) (suc n) = ap suc (put_long place os n)
+
+module _ {V : Type 0} (roots count : ℕ) (all : List (Kept V)) where
+  -- the places so far, where so much of what is kept is left
+  pub record IsPart (kept : List (Kept V)) (places : List (Option Place)) : Type 0 where
+    pub laid_is : laid roots (entries_in kept) ≡ Some (length places)
+    pub below : length places ≤ count
+    pub stands : (jobs : List (Job V)) (answer : Call V → Answer V) → length jobs ≡ count → AllHeld answer jobs (entries_in all)
+        → Stands (IsFilledDue answer) (beneath_due answer) (IsRight answer) jobs (entries_in kept) places
+
+  pub part_first : (places : List (Option Place)) → laid roots (entries_in all) ≡ Some count → length places ≡ count
+      → ((k : ℕ) (o : Option Place) → slice_get places k ≡ Some o → o ≡ None) → IsPart all places
+  part_first places is long open_are = record {
+    laid_is = is ∙ ap Some (sym long);
+    below = omega arith;
+    stands = λ jobs answer same held. stands_first (IsFilledDue answer) (beneath_due answer) (IsRight answer) jobs (entries_in all) places open_are held;
+  }
+
+  part_laid : (kept front : List (Kept V)) (last : Kept V) (places : List (Option Place)) → kept ≡ front ++ last ∷ [] → IsPart kept places
+      → Laid roots (length places) (entries_in front) (entry_of last)
+  part_laid kept front last places is part =
+      laid_less roots (length places) (entries_in front) (entry_of last)
+      (ap (laid roots) (sym (ap entries_in is ∙ map_append entry_of front (last ∷ []))) ∙ part.laid_is)
+
+  pub part_number : (kept front : List (Kept V)) (last : Kept V) (places : List (Option Place)) → kept ≡ front ++ last ∷ [] → IsPart kept places → last.number < last.first
+  part_number kept front last places is part = (part_laid kept front last places is part).number_is
+
+  pub part_within : (kept front : List (Kept V)) (last : Kept V) (places : List (Option Place)) → kept ≡ front ++ last ∷ [] → IsPart kept places → last.first ≤ length places
+  part_within kept front last places is part = (let e = (part_laid kept front last places is part).end_is in omega arith)
+
+  -- one place more
+  pub part_less : (kept front : List (Kept V)) (last : Kept V) (places places' : List (Option Place)) → kept ≡ front ++ last ∷ []
+      → places' ≡ put_open (place_made last.filled (present (drop last.first places))) (take last.first places) last.number
+      → IsPart kept places → IsPart front places'
+  part_less kept front last places places' is put part =
+      let lies = part_laid kept front last places is part in
+      let ends = lies.end_is in
+      let within : last.first ≤ length places = omega arith in
+      let place = place_made last.filled (present (drop last.first places)) in
+      let long : length places' ≡ last.first = ap length put ∙ put_long place (take last.first places) last.number ∙ take_long last.first places within in
+      let low = part.below in
+      record {
+        laid_is = lies.front_is ∙ ap Some (sym long);
+        below = omega arith;
+        stands = λ jobs answer same held.
+            subst (Stands (IsFilledDue answer) (beneath_due answer) (IsRight answer) jobs (entries_in front)) (sym put)
+            (stands_less (IsFilledDue answer) (beneath_due answer) (IsRight answer) jobs roots (entries_in front) (entry_of last) places place
+            (ap (laid roots) (sym (ap entries_in is ∙ map_append entry_of front (last ∷ []))) ∙ part.laid_is) (omega arith)
+            (subst (λ es. Stands (IsFilledDue answer) (beneath_due answer) (IsRight answer) jobs es places) (ap entries_in is ∙ map_append entry_of front (last ∷ []))
+            (part.stands jobs answer same held))
+            (λ job fits right. made_right answer job last.filled (present (drop last.first places)) fits right));
+      }
+
+  -- all places
+  pub part_last : (kept : List (Kept V)) (places : List (Option Place)) (made : List Place) → kept ≡ [] → made ≡ present places → IsPart kept places
+      → (jobs : List (Job V)) (answer : Call V → Answer V) → length jobs ≡ count → AllHeld answer jobs (entries_in all)
+      → Paired (IsRight answer) (take roots jobs) made
+  part_last kept places made none made_is part jobs answer same held =
+      let long : length places ≡ roots = (let e : Some roots ≡ Some (length places) = ap (λ ks. laid roots (entries_in ks)) (sym none) ∙ part.laid_is in cc) in
+      let low = part.below in
+      let stands : Stands (IsFilledDue answer) (beneath_due answer) (IsRight answer) jobs [] places
+      = subst (λ ks. Stands (IsFilledDue answer) (beneath_due answer) (IsRight answer) jobs (entries_in ks) places) none (part.stands jobs answer same held) in
+      subst (Paired (IsRight answer) (take roots jobs)) (sym made_is)
+      (subst (λ n. Paired (IsRight answer) (take n jobs) (present places)) long
+      (stands_last (IsFilledDue answer) (beneath_due answer) (IsRight answer) jobs places (omega arith) stands))

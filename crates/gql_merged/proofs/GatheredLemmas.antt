@@ -1,0 +1,98 @@
+-- Places and members, gathered one after another.
+use Rattle.std.proofs.Common.{◌≡◌, ℕ, zero, suc, ◌+◌, ◌<◌, List, [], ◌∷◌, ◌++◌, length, map, drop, get_or, Option, Some, None, slice_get, slice_set, refl, ap, sym, ◌∙◌, append_assoc, inl, inr}
+use Rattle.std.proofs.lemmas.List.{drop_more}
+use Rattle.std.specs.Prelude.{false, is_some, true}
+use Rattle.std.specs.List.{zip}
+use Rattle.std.specs.declared.alloc.Global.{Global}
+use Rattle.std.specs.declared.rc.Rc.{Rc}
+use Rattle.gql_base.specs.Pairs.{names_of, values_of}
+use Rattle.gql_engine.proofs.Lists.{get_append}
+use Rattle.gql_meaning.specs.Responses.{Members}
+use Rattle.gql_place.specs.declared.place.Place.{Place}
+use Rattle.gql_merged.specs.Assembled.{members_with, places_behind_all, places_with}
+use Rattle.gql_merged.specs.Assembling.{members_each}
+use Rattle.gql_merged.specs.Levels.{asked_behind, members_of}
+use Rattle.gql_merged.specs.Parents.{standing_behind}
+use Rattle.gql_merged.specs.Standing.{present, put_open}
+use Rattle.gql_merged.specs.declared.level.Level.{Level}
+use Rattle.gql_merged.specs.declared.parent.Parent.{Parent}
+use Rattle.gql_merged.proofs.TaskLemmas.{members_names, members_values}
+
+present_cons : {P : Type 0} (o : Option P) (rest : List (Option P)) → present (o ∷ rest) ≡ present (o ∷ []) ++ present rest
+present_cons None rest = refl
+present_cons (Some p) rest = refl
+
+-- one more place is gathered
+pub present_more : {P : Type 0} (made made' all : List P) (its rest : List (Option P)) (o : Option P) → its ≡ o ∷ rest → made' ≡ made ++ present (o ∷ [])
+    → made ++ present its ≡ all → made' ++ present rest ≡ all
+present_more made made' all its rest o is added before =
+    ap (λ ps. ps ++ present rest) added
+    ∙ append_assoc made (present (o ∷ [])) (present rest)
+    ∙ ap (λ ps. made ++ ps) (sym (present_cons o rest))
+    ∙ ap (λ os. made ++ present os) (sym is)
+    ∙ before
+
+-- one more open place
+pub open_more : {P : Type 0} (places places' : List (Option P)) → places' ≡ places ++ None ∷ [] → ((k : ℕ) (o : Option P) → slice_get places k ≡ Some o → o ≡ None)
+    → (k : ℕ) (o : Option P) → slice_get places' k ≡ Some o → o ≡ None
+open_more places places' added before k o at =
+    elim (get_append places (None ∷ []) k o (ap (λ ps. slice_get ps k) (sym added) ∙ at)) [
+      | inl here ↦ before k o here
+      | inr later ↦ last later.0 o later.2
+    ]
+  where
+    last : {P : Type 0} (k : ℕ) (o : Option P) → slice_get (None ∷ []) k ≡ Some o → o ≡ None
+    last zero o is = sym (let e : None ≡ o = cc in e)
+    last (suc k) o is = absurd (cc)
+
+-- a place is put where it is open
+pub put_none : {P : Type 0} (place : P) (places : List (Option P)) (n : ℕ) → slice_get places n ≡ Some None → put_open place places n ≡ slice_set places n (Some place)
+put_none place [] n is = absurd (cc)
+put_none place (None ∷ places) zero is = refl
+put_none place (Some p ∷ places) zero is = absurd (cc)
+put_none place (None ∷ places) (suc n) is = ap (λ ps. None ∷ ps) (put_none place places n is)
+put_none place (Some p ∷ places) (suc n) is = ap (λ ps. Some p ∷ ps) (put_none place places n is)
+
+pub put_some : {P : Type 0} (place : P) (places : List (Option P)) (n : ℕ) (p : P) → slice_get places n ≡ Some (Some p) → put_open place places n ≡ places
+put_some place [] n p is = absurd (cc)
+put_some place (None ∷ places) zero p is = absurd (cc)
+put_some place (Some q ∷ places) zero p is = refl
+put_some place (None ∷ places) (suc n) p is = ap (λ ps. None ∷ ps) (put_some place places n p is)
+put_some place (Some q ∷ places) (suc n) p is = ap (λ ps. Some q ∷ ps) (put_some place places n p is)
+
+-- the members of a level are those of an object that stands on it
+pub level_members : (level : Level) (object : List ℕ) (places : List Place)
+    → zip (names_of level.keys) (places_with object (map asked_behind level.nodes.items) places) ≡ members_with object (members_of level) places
+level_members level object places =
+    λ i. zip (sym (members_names level) i) (places_with object (sym (members_values level) i) places)
+
+pub level_left : (level : Level) (places : List Place)
+    → places_behind_all (map asked_behind level.nodes.items) places ≡ places_behind_all (values_of (members_of level)) places
+level_left level places = ap (λ fs. places_behind_all fs places) (sym (members_values level))
+
+-- one more object has its members
+pub members_more : {V : Type 0} (parents : List (Rc (Parent V) Global)) (i : ℕ) (parent : Rc (Parent V) Global) (made made' all : List Members) (m : Members) (own own' : List Place)
+    → i < length parents → parent ≡ get_or parents i parent → made' ≡ made ++ m ∷ []
+    → m ≡ zip (names_of parent.value.level.value.keys) (places_with parent.value.level.value.object (map asked_behind parent.value.level.value.nodes.items) own)
+    → own' ≡ places_behind_all (map asked_behind parent.value.level.value.nodes.items) own
+    → made ++ members_each (map standing_behind (drop i parents)) own ≡ all
+    → made' ++ members_each (map standing_behind (drop (i + 1) parents)) own' ≡ all
+members_more parents i parent made made' all m own own' within read added m_is own_is before =
+    let level = parent.value.level.value in
+    let rest = map standing_behind (drop (i + 1) parents) in
+    let left = own_is ∙ level_left level own in
+    ap (λ ms. ms ++ members_each rest own') added
+    ∙ append_assoc made (m ∷ []) (members_each rest own')
+    ∙ (λ k. made ++ (m_is ∙ level_members level level.object own) k ∷ members_each rest (left k))
+    ∙ ap (λ ps. made ++ members_each (map standing_behind ps) own) (sym (drop_more parents i parent within ∙ ap (λ p. p ∷ drop (i + 1) parents) (sym read)))
+    ∙ before
+
+pub put_if_none : {P : Type 0} (place : P) (places : List (Option P)) (n : ℕ) (o : Option P) → slice_get places n ≡ Some o → is_some o ≡ false
+    → slice_set places n (Some place) ≡ put_open place places n
+put_if_none place places n None is none = sym (put_none place places n is)
+put_if_none place places n (Some p) is none = cc
+
+pub put_if_some : {P : Type 0} (place : P) (places : List (Option P)) (n : ℕ) (o : Option P) → slice_get places n ≡ Some o → is_some o ≡ true
+    → places ≡ put_open place places n
+put_if_some place places n None is some = cc
+put_if_some place places n (Some p) is some = sym (put_some place places n p is)

@@ -1,0 +1,67 @@
+-- The levels of objects, made of the groups of their fields.
+use Rattle.std.proofs.Common.{◌≡◌, ℕ, List, [], length, map, ap, sym, ◌∙◌, subst}
+use Rattle.std.specs.List.{zip}
+use Rattle.std.specs.declared.alloc.Global.{Global}
+use Rattle.std.specs.declared.rc.Rc.{Rc}
+use Rattle.gql_base.specs.Pairs.{names_of, values_of}
+use Rattle.gql_doc.specs.Depth.{field_set}
+use Rattle.gql_doc.specs.declared.document.Field.{Field}
+use Rattle.gql_doc.specs.declared.document.Positioned.{Positioned}
+use Rattle.gql_request.specs.QueryEnv.{levels_of, NestsIn}
+use Rattle.gql_select.specs.Collected.{own_selections, Setting}
+use Rattle.gql_select.specs.Documents.{reading}
+use Rattle.gql_select.specs.Reading.{merged}
+use Rattle.gql_merged.specs.Basis.{setting_by}
+use Rattle.gql_merged.specs.Beneath.{IsBeneath}
+use Rattle.gql_merged.specs.Groups.{under_keys, united}
+use Rattle.gql_merged.specs.Levels.{asked_behind, asked_in, asked_of, asked_on}
+use Rattle.gql_merged.specs.Parents.{spot_found, standing_at, standing_behind, standing_of}
+use Rattle.gql_merged.specs.Steps.{path_of}
+use Rattle.gql_merged.specs.Within.{AllNest}
+use Rattle.gql_merged.specs.declared.basis.Basis.{Basis}
+use Rattle.gql_merged.specs.declared.group.Group.{Group}
+use Rattle.gql_merged.specs.declared.level.Level.{Level}
+use Rattle.gql_merged.specs.declared.level.Node.{Node}
+use Rattle.gql_merged.specs.declared.parent.Found.{Found}
+use Rattle.gql_merged.specs.declared.parent.Held.TheVariants as held
+use Rattle.gql_merged.specs.declared.parent.Parent.{Parent}
+use Rattle.gql_merged.proofs.LevelLemmas.{asked_zipped}
+use Rattle.gql_merged.proofs.NestLemmas.{both_nests}
+use Rattle.gql_merged.proofs.TaskLemmas.{map_length, zip_values}
+use Rattle.gql_merged.proofs.WithinLemmas.{merged_all}
+
+module _ (basis : Basis) (keys : List (List ℕ × Unit {0})) (groups : List Group) (fields : List (Positioned Field)) where
+  -- the groups of fields that nest do
+  pub groups_nest : length groups ≡ length keys → ((setting : Setting) → under_keys keys groups ≡ merged (reading setting) fields)
+      → AllNest basis.env.now fields → AllNest basis.env.now (map united groups)
+  groups_nest long is nest =
+      subst (AllNest basis.env.now)
+      (ap values_of (sym (is (setting_by basis)))
+      ∙ zip_values (names_of keys) (map united groups) (map_length united groups ∙ long ∙ sym (map_length (λ p. p.0) keys)))
+      (merged_all (λ field. NestsIn basis.env.now (field_set field)) (both_nests (setting_by basis) [] (levels_of basis.env.now))
+      (setting_by basis) fields nest)
+
+  module _ (object : List ℕ) (nodes : List (Rc Node Global)) (made : map asked_behind nodes ≡ map (asked_of basis object) (map united groups)) where
+    -- each key has a node
+    pub nodes_paired : length groups ≡ length keys → length nodes ≡ length keys
+    nodes_paired long =
+        sym (map_length asked_behind nodes) ∙ ap length made
+        ∙ map_length (asked_of basis object) (map united groups) ∙ map_length united groups ∙ long
+
+    -- the nodes under their keys are the merged fields, each with what it asks
+    pub nodes_asked : ((setting : Setting) → under_keys keys groups ≡ merged (reading setting) fields)
+        → zip (names_of keys) (map asked_behind nodes) ≡ asked_on basis object (merged (reading (setting_by basis)) fields)
+    nodes_asked is =
+        ap (zip (names_of keys)) made
+        ∙ sym (asked_zipped basis object (names_of keys) (map united groups))
+        ∙ ap (asked_on basis object) (is (setting_by basis))
+
+-- an object that was found stands on the level of its name
+pub stands_found : {V : Type 0} (node : Node) (object : List ℕ) (level : Rc Level Global) (found : Found V) (parent : Rc (Parent V) Global)
+    → parent.value ≡ record { level = level; held = held.Found found } → object ≡ found.object → IsBeneath node object level.value
+    → standing_behind parent ≡ standing_at node.basis (own_selections (united node.group)) (spot_found found)
+stands_found node object level found parent is same beneath =
+    let object_is = beneath.object_is ∙ same in
+    let members_are = beneath.members_are ∙ ap (λ o. asked_in node.basis o (own_selections (united node.group))) same in
+    ap standing_of is
+    ∙ (λ i. record { spot = record { object = object_is i; parent = found.value; path = path_of found.path.items }; members = members_are i })

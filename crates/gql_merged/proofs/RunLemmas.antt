@@ -1,0 +1,256 @@
+-- From the first turn to the last: the tasks of the root, and what stands when none waits.
+use Rattle.std.proofs.Common.{ℕ, zero, suc, ◌≡◌, ◌≤◌, Bool, true, false, ltb, List, [], ◌∷◌, ◌++◌, length, map, take, refl, sym, ap, subst, ◌∙◌, arith, ltb-true, ltb-false}
+use Rattle.std.proofs.lemmas.List.{append-nil}
+use Rattle.std.specs.Prelude.{Some, slice_get}
+use Rattle.std.specs.List.{AllByRecursion, zip}
+use Rattle.std.specs.Option.{ForSome}
+use Rattle.gql_base.specs.Pairs.{names_of, values_of}
+use Rattle.gql_base.specs.declared.pos.Pos.{Pos}
+use Rattle.gql_doc.specs.Depth.{operation_set}
+use Rattle.gql_doc.specs.declared.document.Field.{Field}
+use Rattle.gql_doc.specs.declared.document.Positioned.{Positioned}
+use Rattle.gql_engine.proofs.Lists.{get_at, get_within}
+use Rattle.gql_engine.proofs.RecordLemmas.{with_more_none}
+use Rattle.gql_engine.proofs.RunLemmas.{all_done, first_made, first_right}
+use Rattle.gql_engine.specs.Arena.{fresh_states, IsRight as IsRightAt, made_of, marks_of}
+use Rattle.gql_engine.specs.Pace.{EachPaced, EachPacedSoFar, pending_then_ready}
+use Rattle.gql_engine.specs.Parts.{choice_by, delay_by, due_by}
+use Rattle.gql_engine.specs.Progress.{Agrees, RunsWhole, RunStopped, Seen, stage_of, story_at}
+use Rattle.gql_engine.specs.Record.{begun_at, fresh, Ran, Stopped, waiting_from}
+use Rattle.gql_engine.specs.Rounds.{KeepNumbers}
+use Rattle.gql_engine.specs.declared.arena.State.{State}
+use Rattle.gql_engine.specs.declared.given.Given.TheVariants.{Answered}
+use Rattle.gql_engine.specs.declared.scene.Scene.{Scene}
+use Rattle.gql_meaning.specs.Responses.{Members, root_place}
+use Rattle.gql_place.specs.declared.place.Place.{Place}
+use Rattle.gql_request.specs.QueryEnv.{levels_of}
+use Rattle.gql_resolve.specs.Call.{Call}
+use Rattle.gql_resolve.specs.Record.{with_more}
+use Rattle.gql_resolve.specs.declared.answer.Answer.{Answer}
+use Rattle.gql_resolve.specs.declared.record_entry.RecordEntry.{RecordEntry}
+use Rattle.gql_resolve.specs.declared.resolver_set.ResolverSet.{Ghosts as Resolving}
+use Rattle.gql_resolve.specs.declared.turns.Turns.{Ghosts as Choosing}
+use Rattle.gql_select.specs.Documents.{reading}
+use Rattle.gql_select.specs.Reading.{merged}
+use Rattle.gql_merged.specs.Assembled.{members_with, places_with}
+use Rattle.gql_merged.specs.Assembling.{AllHeld, IsAssembled, IsRight}
+use Rattle.gql_merged.specs.Basis.{setting_by}
+use Rattle.gql_merged.specs.Entries.{Entry}
+use Rattle.gql_merged.specs.FieldsWithin.{collected}
+use Rattle.gql_merged.specs.Fitting.{HoldsGiven, IsFilled}
+use Rattle.gql_merged.specs.Jobs.{Job, jobs_beneath}
+use Rattle.gql_merged.specs.Levels.{asked_behind}
+use Rattle.gql_merged.specs.Parents.{Standing, standing_at, standing_of}
+use Rattle.gql_merged.specs.Run.{basis_of, job_subject, merged_response, merged_work, Nests, root_jobs, root_selections, root_spot}
+use Rattle.gql_merged.specs.Standing.{Paired}
+use Rattle.gql_merged.specs.Tasks.{IsDeep, job_of_task, jobs_in}
+use Rattle.gql_merged.specs.Within.{AllNest}
+use Rattle.gql_merged.specs.declared.kept.Filled.{Filled}
+use Rattle.gql_merged.specs.declared.parent.Parent.{Parent}
+use Rattle.gql_merged.specs.declared.task.Task.{Task}
+use Rattle.gql_merged.proofs.BeneathLemmas.{every_at, every_of, jobs_all}
+use Rattle.gql_merged.proofs.GatheredLemmas.{level_members}
+use Rattle.gql_merged.proofs.NestLemmas.{collected_nest}
+use Rattle.gql_merged.proofs.PlacedLemmas.{root_right}
+use Rattle.gql_merged.proofs.WithinLemmas.{nests_within}
+
+-- a list that begins with another
+pub record Begun {X : Type 0} (first last : List X) : Type 0 where
+  pub more : List X
+  pub is : last ≡ first ++ more
+
+pub begun_by : {X : Type 0} (first last : List X) → KeepNumbers first last → Begun first last
+begun_by [] last keeps = record { more = last; is = refl }
+begun_by (x ∷ first) [] keeps = (let e = keeps 0 x refl in absurd (cc))
+begun_by (x ∷ first) (y ∷ last) keeps =
+    let rest = begun_by first last (λ k t is. keeps (suc k) t is) in
+    let same : y ≡ x = (let e = keeps 0 x refl in cc) in
+    record { more = rest.more; is = λ i. same i ∷ rest.is i }
+
+taken : {X : Type 0} (first more : List X) (n : ℕ) → length first ≤ n → Begun first (take n (first ++ more))
+taken [] more n long = record { more = take n more; is = refl }
+taken (x ∷ first) more zero long = absurd (omega arith)
+taken (x ∷ first) more (suc n) long =
+    let rest = taken first more n (omega arith) in
+    record { more = rest.more; is = ap (λ xs. x ∷ xs) rest.is }
+
+module _ {V : Type 0} (scene : Scene V) where
+  -- the fields of the root nest
+  pub root_nest : (object : List ℕ) (fields : List (Positioned Field)) → fields ≡ collected (basis_of scene) object (root_selections scene) → AllNest scene.env.now fields
+  root_nest object fields is =
+      let setting = setting_by (basis_of scene) in
+      subst (AllNest scene.env.now) (sym is)
+      (collected_nest setting object (levels_of scene.env.now) setting.levels (operation_set scene.env.now.operation) scene.env.now.nests)
+
+  -- the tasks of the root have paths of one segment
+  root_short : AllByRecursion (λ (job : Job V). length job.path ≡ 1) (root_jobs scene)
+  root_short = jobs_all (λ (job : Job V). length job.path ≡ 1) (λ field. Unit {0}) (basis_of scene) (root_spot scene)
+      (λ field asking q. refl) (root_selections scene)
+      (every_of (λ field. Unit {0}) (λ field. tt) (values_of (merged (reading (setting_by (basis_of scene))) (collected (basis_of scene) (root_spot scene).object (root_selections scene)))))
+
+  -- the first tasks of a plan are those of the root
+  pub roots_enough : (tasks : List (Task V)) (roots : ℕ) → KeepNumbers (root_jobs scene) (jobs_in tasks)
+      → ((k : ℕ) (task : Task V) → roots ≤ k → slice_get tasks k ≡ Some task → IsDeep (job_of_task task)) → length (root_jobs scene) ≤ roots
+  roots_enough tasks roots keeps deep = by (ltb roots (length (root_jobs scene))) refl
+    where
+      at_task : (ts : List (Task V)) (k : ℕ) (job : Job V) → slice_get (jobs_in ts) k ≡ Some job → (task : Task V) × (slice_get ts k ≡ Some task) × (job_of_task task ≡ job)
+      at_task [] k job is = absurd (cc)
+      at_task (t ∷ ts) zero job is = (t, refl, cc)
+      at_task (t ∷ ts) (suc k) job is = at_task ts k job is
+
+      by : (b : Bool) → ltb roots (length (root_jobs scene)) ≡ b → length (root_jobs scene) ≤ roots
+      by true test =
+          let found = get_at (root_jobs scene) roots (ltb-true roots (length (root_jobs scene)) test) in
+          let at = at_task tasks roots found.0 (keeps roots found.0 found.1) in
+          let long : 2 ≤ length found.0.path = subst IsDeep at.2 (deep roots at.0 (omega arith) at.1) in
+          let short : length found.0.path ≡ 1 = every_at (λ (job : Job V). length job.path ≡ 1) (root_jobs scene) roots found.0 root_short found.1 in
+          absurd (omega arith)
+      by false test = ltb-false roots (length (root_jobs scene)) test
+
+  -- the place that is assembled is that of merged execution
+  pub response_is : (answer : Call V → Answer V) (root : Standing V) (roots : ℕ) (jobs : List (Job V)) (place : Place) (n : ℕ)
+      → root ≡ standing_at (basis_of scene) (root_selections scene) (root_spot scene) → KeepNumbers (root_jobs scene) jobs → length (root_jobs scene) ≤ roots
+      → IsAssembled answer scene.env.now.operation.pos root (take roots jobs) place → Nests scene n → place ≡ merged_response scene answer n
+  response_is answer root roots jobs place zero root_is keeps enough assembled nests = cc
+  response_is answer root roots jobs place (suc n) root_is keeps enough assembled nests =
+      let begun = begun_by (root_jobs scene) jobs keeps in
+      let front = taken (root_jobs scene) begun.more roots enough in
+      let right : Paired (IsRight answer) (root_jobs scene ++ front.more) assembled.own
+      = subst (λ js. Paired (IsRight answer) js assembled.own) (ap (take roots) begun.is ∙ front.is) assembled.right in
+      assembled.place_is
+      ∙ ap (λ (s : Standing V). root_place scene.env.now.operation.pos (members_with s.spot.object s.members assembled.own)) root_is
+      ∙ ap (λ ms. root_place scene.env.now.operation.pos ms)
+      (root_right answer (basis_of scene) n (root_selections scene) (root_spot scene) front.more assembled.own
+      (nests_within (setting_by (basis_of scene)) n (operation_set scene.env.now.operation) nests) right)
+
+-- the execution of a scene, from its plan to its place
+module _ {R Own World Future P : Type 0} (set : Resolving R Own World Future) (turns : Choosing P) (scene : Scene Own) (old : Seen R P) where
+  -- the answers that are due
+  abbrev pub answers_due : Job Own → Answer Own
+  answers_due job = due_by set old.set job.asking.call
+
+  pub due_agrees : Agrees {V = Own} {Task = Job Own} job_subject false (due_by set old.set) answers_due
+  due_agrees = record { agrees = λ task is. refl }
+
+  abbrev delay_of : Job Own → ℕ
+  delay_of job = delay_by set old.set job.asking.call.resolver
+
+  -- the plan and the arena as they are made
+  pub record Begins (first : List (Job Own)) (states : List (State Future)) : Type 0 where
+    pub n : ℕ
+    pub first_is : first ≡ root_jobs scene
+    pub states_is : states ≡ fresh_states n
+    pub n_is : n ≡ length first
+
+  -- the plan and the arena as they stand in the end
+  pub record Finishes (new : Seen R P) (first last : List (Job Own)) (entries entries' : List (Entry (Filled Own))) (states states' : List (State Future)) : Type 0 where
+    pub lengths : length states' ≡ length last
+    pub whole : waiting_from 0 (marks_of states') ≡ []
+    pub right : IsRightAt 0 answers_due (HoldsGiven first entries) first states → IsRightAt 0 answers_due (HoldsGiven last entries') last states'
+    pub ran : Ran (choice_by turns) (story_at set turns job_subject old) (stage_of set turns (made_of first states) old)
+        (stage_of set turns (made_of last states') new)
+
+  pub stopped_none : (new : Seen R P) → set.told new.set ≡ set.told old.set → set.begun new.set ≡ set.begun old.set
+      → RunStopped set turns (merged_work scene) old new
+  stopped_none new told_is begun_is = record {
+    stopped = record {
+      entries = [];
+      told_is = told_is ∙ sym (with_more_none (set.told old.set));
+      last = [];
+      at_most_one = omega arith;
+      starts_is = begun_is ∙ sym (with_more_none (set.begun old.set));
+      turned = λ s is. tt;
+    };
+    paces = λ pace before some. record { paced = λ k task is. (pending_then_ready (delay_of task), refl) };
+  }
+
+  module _ (first : List (Job Own)) (states : List (State Future)) (begins : Begins first states) where
+    made_is : made_of first states ≡ fresh (root_jobs scene)
+    made_is = first_made Own (Job Own) Future first states begins.n begins.states_is begins.n_is ∙ ap fresh begins.first_is
+
+    asks_pace : (entries : List RecordEntry) → EachPacedSoFar delay_of first entries → EachPacedSoFar delay_of (root_jobs scene) entries
+    asks_pace entries paced = subst (λ ts. EachPacedSoFar delay_of ts entries) begins.first_is paced
+
+    pub stopped_run : (new : Seen R P)
+        → Stopped (choice_by turns) (story_at set turns job_subject old) (stage_of set turns (made_of first states) old) (set.told new.set) (set.begun new.set)
+        → ((before entries : List RecordEntry) → set.is_paced old.set → set.told old.set ≡ Some before → set.told new.set ≡ with_more (set.told old.set) entries
+        → EachPacedSoFar delay_of first entries)
+        → RunStopped set turns (merged_work scene) old new
+    stopped_run new stopped paces =
+        let whole : Stopped (choice_by turns) (story_at set turns job_subject old) (stage_of set turns (fresh (root_jobs scene)) old) (set.told new.set) (set.begun new.set)
+        = subst (λ m. Stopped (choice_by turns) (story_at set turns job_subject old) (stage_of set turns m old) (set.told new.set) (set.begun new.set)) made_is stopped in
+        record {
+          stopped = whole;
+          paces = λ pace before some. asks_pace whole.entries (paces before whole.entries pace some whole.told_is);
+        }
+
+    module _ (new : Seen R P) (last : List (Job Own)) (entries entries' : List (Entry (Filled Own))) (states' : List (State Future))
+        (finishes : Finishes new first last entries entries' states states') where
+      pub whole_ran : Ran (choice_by turns) (story_at set turns job_subject old) (stage_of set turns (fresh (root_jobs scene)) old)
+          (stage_of set turns (made_of last states') new)
+      whole_ran = subst (λ m. Ran (choice_by turns) (story_at set turns job_subject old) (stage_of set turns m old)
+          (stage_of set turns (made_of last states') new)) made_is finishes.ran
+
+      pub runs_whole : (set.is_paced old.set → ForSome (set.told old.set) (λ before. EachPaced delay_of last whole_ran.entries))
+          → RunsWhole set turns (merged_work scene) old new
+      runs_whole paces = record {
+        made = made_of last states';
+        ran = whole_ran;
+        whole = finishes.whole;
+        paces = paces;
+      }
+
+      pub stopped_whole : ((before entries : List RecordEntry) → set.is_paced old.set → set.told old.set ≡ Some before → set.told new.set ≡ with_more (set.told old.set) entries
+          → EachPacedSoFar delay_of first entries)
+          → RunStopped set turns (merged_work scene) old new
+      stopped_whole paces = record {
+        stopped = record {
+          entries = whole_ran.entries;
+          told_is = whole_ran.told_is;
+          last = [];
+          at_most_one = omega arith;
+          starts_is = whole_ran.starts_is ∙ ap (with_more (set.begun old.set)) (sym (append-nil (begun_at (story_at set turns job_subject old) (fresh (root_jobs scene)) whole_ran.entries)));
+          turned = whole_ran.turned;
+        };
+        paces = λ pace before some. asks_pace whole_ran.entries (paces before whole_ran.entries pace some whole_ran.told_is);
+      }
+
+      held_due : (k : ℕ) (job : Job Own) → slice_get last k ≡ Some job → HoldsGiven last entries' k (Answered (answers_due job))
+      held_due k job is =
+          let right = finishes.right (first_right Own (Job Own) Future answers_due (HoldsGiven first entries) first states begins.n begins.states_is) in
+          let within = get_within last k job is in
+          let m = finishes.lengths in
+          let at = get_at states' k (omega arith) in
+          let done = all_done Own (Job Own) Future states' finishes.whole k at.0 at.1 in
+          right.kept k job (omega arith) is (at.1 ∙ ap Some (sym done))
+
+      -- in the end the answers that are due are kept of all tasks
+      pub all_held : AllHeld (due_by set old.set) last entries'
+      all_held = λ k job is.
+          let held = held_due k job is in
+          let same : held.job ≡ job = (let e : Some held.job ≡ Some job = sym held.there ∙ is in cc) in
+          record {
+            job = held.job;
+            there = held.there;
+            kept = held.kept;
+            last = held.last;
+            fits = subst (λ j. IsFilled held.job (answers_due j) held.kept.filled) (sym same) held.fits;
+            within = held.within;
+            block = held.block ∙ ap (λ j. jobs_beneath held.job (answers_due j)) (sym same);
+          }
+
+-- no task stands behind the first ones
+pub none_deep : {V : Type 0} (tasks : List (Task V)) (roots : ℕ) → roots ≡ length tasks → (k : ℕ) (task : Task V) → roots ≤ k → slice_get tasks k ≡ Some task
+    → IsDeep (job_of_task task)
+none_deep tasks roots is k task above there = (let w = get_within tasks k task there in absurd (omega arith))
+
+-- the place of the root is put together of the places of its tasks
+pub root_assembled : {V : Type 0} (answer : Call V → Answer V) (pos : Pos) (parent : Parent V) (jobs : List (Job V)) (own : List Place) (members : Members) (place : Place)
+    → Paired (IsRight answer) jobs own
+    → members ≡ zip (names_of parent.level.value.keys) (places_with parent.level.value.object (map asked_behind parent.level.value.nodes.items) own)
+    → place ≡ root_place pos members → IsAssembled answer pos (standing_of parent) jobs place
+root_assembled answer pos parent jobs own members place right members_is place_is = record {
+  own = own;
+  right = right;
+  place_is = place_is ∙ ap (root_place pos) (members_is ∙ level_members parent.level.value parent.level.value.object own);
+}

@@ -1,0 +1,134 @@
+-- The tasks of an object, made one after another.
+use Rattle.std.proofs.Common.{◌≡◌, ℕ, zero, suc, ◌+◌, ◌<◌, ◌≤◌, true, false, List, [], ◌∷◌, ◌++◌, length, map, take, get_or, refl, ap, sym, ◌∙◌, append_assoc, arith}
+use Rattle.std.proofs.lemmas.List.{append-nil, take_more}
+use Rattle.std.specs.List.{flat_map, zip}
+use Rattle.std.specs.declared.alloc.Global.{Global}
+use Rattle.std.specs.declared.rc.Rc.{Rc}
+use Rattle.gql_base.specs.Pairs.{names_of, values_of}
+use Rattle.gql_base.specs.declared.path_segment.PathSegment.{PathSegment}
+use Rattle.gql_base.specs.declared.path_segment.PathSegment.TheVariants as segment
+use Rattle.gql_doc.specs.declared.document.Field.{Field}
+use Rattle.gql_doc.specs.declared.document.Positioned.{Positioned}
+use Rattle.gql_engine.specs.Path.{key_text}
+use Rattle.gql_resolve.specs.Layers.{layers_of}
+use Rattle.gql_merged.specs.Asks.{asking_at, is_call}
+use Rattle.gql_merged.specs.Groups.{united}
+use Rattle.gql_merged.specs.Jobs.{Job, job_by, jobs_by}
+use Rattle.gql_merged.specs.Levels.{asked_behind, asked_by, members_of}
+use Rattle.gql_merged.specs.Parents.{jobs_of_standing, standing_of}
+use Rattle.gql_merged.specs.Steps.{path_of, segment_of}
+use Rattle.gql_merged.specs.Stored.{Spot}
+use Rattle.gql_merged.specs.Tasks.{job_of_task, job_with, jobs_in}
+use Rattle.gql_merged.specs.declared.asks.Asks.{Asks}
+use Rattle.gql_merged.specs.declared.asks.Asks.TheVariants as asks
+use Rattle.gql_merged.specs.declared.basis.Basis.{Basis}
+use Rattle.gql_merged.specs.declared.level.Level.{Level}
+use Rattle.gql_merged.specs.declared.level.Node.{Node}
+use Rattle.gql_merged.specs.declared.parent.Parent.{Parent}
+use Rattle.gql_merged.specs.declared.step.Step.{Step}
+use Rattle.gql_merged.specs.declared.task.Task.{Task}
+
+pub map_append : {A B : Type 0} (f : A → B) (xs ys : List A) → map f (xs ++ ys) ≡ map f xs ++ map f ys
+map_append f [] ys = refl
+map_append f (x ∷ xs) ys = ap (λ zs. f x ∷ zs) (map_append f xs ys)
+
+pub flat_append : {X Y : Type 0} (f : X → List Y) (one other : List X) → flat_map f (one ++ other) ≡ flat_map f one ++ flat_map f other
+flat_append f [] other = refl
+flat_append f (x ∷ one) other = ap (λ ys. f x ++ ys) (flat_append f one other) ∙ sym (append_assoc (f x) (flat_map f one) (flat_map f other))
+
+pub zip_values : {T : Type 0} (names : List (List ℕ)) (values : List T) → length values ≡ length names → values_of (zip names values) ≡ values
+zip_values [] [] long = refl
+zip_values [] (v ∷ values) long = absurd (omega arith)
+zip_values (n ∷ names) [] long = absurd (omega arith)
+zip_values (n ∷ names) (v ∷ values) long = ap (λ vs. v ∷ vs) (zip_values names values (let e : length values ≡ length names = omega arith in e))
+
+zip_names : {T : Type 0} (names : List (List ℕ)) (values : List T) → length values ≡ length names → names_of (zip names values) ≡ names
+zip_names [] [] long = refl
+zip_names [] (v ∷ values) long = absurd (omega arith)
+zip_names (n ∷ names) [] long = absurd (omega arith)
+zip_names (n ∷ names) (v ∷ values) long = ap (λ ns. n ∷ ns) (zip_names names values (let e : length values ≡ length names = omega arith in e))
+
+pub map_length : {A B : Type 0} (f : A → B) (xs : List A) → length (map f xs) ≡ length xs
+map_length f [] = refl
+map_length f (x ∷ xs) = ap suc (map_length f xs)
+
+level_long : (level : Level) → length (map asked_behind level.nodes.items) ≡ length (names_of level.keys)
+level_long level = map_length asked_behind level.nodes.items ∙ level.paired ∙ sym (map_length (λ p. p.0) level.keys)
+
+-- the fields of a level, without their keys
+pub members_values : (level : Level) → values_of (members_of level) ≡ map asked_behind level.nodes.items
+members_values level = zip_values (names_of level.keys) (map asked_behind level.nodes.items) (level_long level)
+
+-- the keys of a level
+pub members_names : (level : Level) → names_of (members_of level) ≡ names_of level.keys
+members_names level = zip_names (names_of level.keys) (map asked_behind level.nodes.items) (level_long level)
+
+module _ {V : Type 0} where
+  called : (basis : Basis) (spot : Spot V) (field : Positioned Field) (a : Asks) → is_call a ≡ true
+      → job_by spot (record { basis = basis; field = field; asks = a })
+      ≡ record { basis = basis; object = spot.object; field = field; asking = asking_at (layers_of basis.layers) spot.parent a; path = spot.path ++ segment.Field (key_text field) ∷ [] } ∷ []
+  called basis spot field asks.Typename is = cc
+  called basis spot field asks.Nothing is = cc
+  called basis spot field (asks.Call resolver ty arguments) is = refl
+
+  uncalled : (basis : Basis) (spot : Spot V) (field : Positioned Field) (a : Asks) → is_call a ≡ false
+      → job_by spot (record { basis = basis; field = field; asks = a }) ≡ []
+  uncalled basis spot field asks.Typename is = refl
+  uncalled basis spot field asks.Nothing is = refl
+  uncalled basis spot field (asks.Call resolver ty arguments) is = cc
+
+  -- a field that asks an answer is a task
+  pub one_task : (tasks tasks' : List (Task V)) (task : Task V) (parent : Parent V) (node : Node) → tasks' ≡ tasks ++ task ∷ []
+      → task.parent.value ≡ parent → task.node.value ≡ node → is_call node.asks ≡ true
+      → jobs_in tasks' ≡ jobs_in tasks ++ job_by (standing_of parent).spot (asked_by node)
+  one_task tasks tasks' task parent node added parent_is node_is calls =
+      ap jobs_in added
+      ∙ map_append job_of_task tasks (task ∷ [])
+      ∙ (λ i. jobs_in tasks ++ job_with (parent_is i) (node_is i) ∷ [])
+      ∙ ap (λ js. jobs_in tasks ++ js) (sym (called node.basis (standing_of parent).spot (united node.group) node.asks calls))
+
+  -- another one is none
+  pub no_task : (tasks : List (Task V)) (parent : Parent V) (node : Node) → is_call node.asks ≡ false
+      → jobs_in tasks ≡ jobs_in tasks ++ job_by (standing_of parent).spot (asked_by node)
+  no_task tasks parent node calls =
+      sym (append-nil (jobs_in tasks))
+      ∙ ap (λ js. jobs_in tasks ++ js) (sym (uncalled node.basis (standing_of parent).spot (united node.group) node.asks calls))
+
+  -- one more field is looked at
+  pub tasks_more : (spot : Spot V) (nodes : List (Rc Node Global)) (i : ℕ) (node : Rc Node Global) (first tasks tasks' : List (Job V))
+      → i < length nodes → node ≡ get_or nodes i node → tasks ≡ first ++ jobs_by spot (map asked_behind (take i nodes))
+      → tasks' ≡ tasks ++ job_by spot (asked_behind node)
+      → tasks' ≡ first ++ jobs_by spot (map asked_behind (take (i + 1) nodes))
+  tasks_more spot nodes i node first tasks tasks' within read before added =
+      let front = map asked_behind (take i nodes) in
+      let next : map asked_behind (take (i + 1) nodes) ≡ front ++ asked_behind node ∷ []
+      = ap (map asked_behind) (take_more nodes i node within ∙ ap (λ n. take i nodes ++ n ∷ []) (sym read)) ∙ map_append asked_behind (take i nodes) (node ∷ []) in
+      added
+      ∙ ap (λ ts. ts ++ job_by spot (asked_behind node)) before
+      ∙ append_assoc first (jobs_by spot front) (job_by spot (asked_behind node))
+      ∙ ap (λ js. first ++ (jobs_by spot front ++ js)) (sym (append-nil (job_by spot (asked_behind node))))
+      ∙ ap (λ js. first ++ js) (sym (flat_append (job_by spot) front (asked_behind node ∷ [])))
+      ∙ ap (λ fs. first ++ jobs_by spot fs) (sym next)
+
+-- one more step of a path
+pub path_more : (steps : List Step) (i : ℕ) (step : Step) (old new : List PathSegment) → i < length steps → step ≡ get_or steps i step
+    → old ≡ path_of (take i steps) → new ≡ old ++ segment_of step ∷ [] → new ≡ path_of (take (i + 1) steps)
+path_more steps i step old new within read before added =
+    added
+    ∙ ap (λ ss. ss ++ segment_of step ∷ []) before
+    ∙ sym (map_append segment_of (take i steps) (step ∷ []))
+    ∙ ap path_of (sym (take_more steps i step within ∙ ap (λ s. take i steps ++ s ∷ []) (sym read)))
+
+take_past : {X : Type 0} (n : ℕ) (xs : List X) → length xs ≤ n → take n xs ≡ xs
+take_past zero [] past = refl
+take_past zero (x ∷ xs) past = absurd (omega arith)
+take_past (suc n) [] past = refl
+take_past (suc n) (x ∷ xs) past = ap (λ ys. x ∷ ys) (take_past n xs (omega arith))
+
+-- all fields were looked at
+pub tasks_end : {V : Type 0} (parent : Parent V) (nodes : List (Rc Node Global)) (i : ℕ) (first tasks : List (Job V)) → nodes ≡ parent.level.value.nodes.items → length nodes ≤ i
+    → tasks ≡ first ++ jobs_by (standing_of parent).spot (map asked_behind (take i nodes)) → tasks ≡ first ++ jobs_of_standing (standing_of parent)
+tasks_end parent nodes i first tasks same past is =
+    is
+    ∙ ap (λ ns. first ++ jobs_by (standing_of parent).spot (map asked_behind ns)) (take_past i nodes past ∙ same)
+    ∙ ap (λ fs. first ++ jobs_by (standing_of parent).spot fs) (sym (members_values parent.level.value))

@@ -1,0 +1,67 @@
+-- How the places of tasks are put together of what is kept of them, and when they are right.
+use Rattle.std.specs.Prelude.{◌≡◌, ℕ, List, [], ◌∷◌, Some, map, slice_get}
+use Rattle.gql_base.specs.declared.pos.Pos.{Pos}
+use Rattle.gql_meaning.specs.Responses.{Members, root_place}
+use Rattle.gql_place.specs.declared.place.Place.{Place}
+use Rattle.gql_resolve.specs.Call.{Call}
+use Rattle.gql_resolve.specs.declared.answer.Answer.{Answer}
+use Rattle.gql_select.specs.Collected.{own_selections}
+use Rattle.gql_base.specs.Pairs.{values_of}
+use Rattle.gql_merged.specs.Assembled.{members_with, places_behind_all}
+use Rattle.gql_merged.specs.Basis.{setting_by}
+use Rattle.gql_merged.specs.Entries.{Entry}
+use Rattle.gql_merged.specs.Filling.{tree_with}
+use Rattle.gql_merged.specs.Fitting.{IsFilled}
+use Rattle.gql_merged.specs.Jobs.{Job, jobs_beneath}
+use Rattle.gql_merged.specs.Merged.{merged_place}
+use Rattle.gql_merged.specs.Parents.{Standing, standing_behind}
+use Rattle.gql_merged.specs.Standing.{IsHeld, Paired}
+use Rattle.gql_merged.specs.Within.{IsWithin}
+use Rattle.gql_merged.specs.declared.kept.Filled.{Filled}
+
+module _ {V : Type 0} where
+  -- the members of objects, where each takes the places of its tasks from the front
+  abbrev pub members_each : List (Standing V) → List Place → List Members
+  members_each [] places = []
+  members_each (standing ∷ others) places =
+      members_with standing.spot.object standing.members places
+      ∷ members_each others (places_behind_all (values_of standing.members) places)
+
+  -- the place of what a task came to, of the places of the tasks beneath it
+  abbrev pub place_made : Filled V → List Place → Place
+  place_made filled places = record {
+    pos = filled.pos;
+    non_null = filled.non_null;
+    added = filled.added;
+    headers = filled.headers;
+    tree =
+        tree_with filled.pos filled.shape
+        (members_each (map standing_behind filled.parents.items) places);
+  }
+
+  module _ (answer : Call V → Answer V) where
+    -- what a task came to with the answer that is due
+    abbrev pub IsFilledDue : Job V → Filled V → Type 0
+    IsFilledDue job filled = IsFilled job (answer job.asking.call) filled
+
+    -- the tasks beneath that answer
+    abbrev pub beneath_due : Job V → List (Job V)
+    beneath_due job = jobs_beneath job (answer job.asking.call)
+
+    -- the answers that are due are kept of all tasks
+    abbrev pub AllHeld : List (Job V) → List (Entry (Filled V)) → Type 0
+    AllHeld jobs entries =
+        (k : ℕ) (job : Job V) → slice_get jobs k ≡ Some job
+        → IsHeld IsFilledDue beneath_due jobs entries k
+
+    -- a place is that of merged execution, for all levels within which the field's set nests
+    abbrev pub IsRight : Job V → Place → Type 0
+    IsRight job place = (n : ℕ) → IsWithin (setting_by job.basis) n (own_selections job.field)
+        → place ≡ merged_place job.basis answer n job
+
+    -- a place of the root, of the right places of the root's tasks
+    pub record IsAssembled (pos : Pos) (root : Standing V) (jobs : List (Job V))
+        (place : Place) : Type 0 where
+      pub own : List Place
+      pub right : Paired IsRight jobs own
+      pub place_is : place ≡ root_place pos (members_with root.spot.object root.members own)

@@ -1,0 +1,126 @@
+-- No task of merged execution is a root of a mutation.
+use Rattle.std.specs.Prelude.{◌≡◌, ◌||◌, ℕ, zero, suc, Bool, true, false, cond, List, [], ◌∷◌, ◌++◌}
+use Rattle.std.specs.Prelude.{Option, Some, None, slice_get, option_and_then}
+use Rattle.std.proofs.Common.{refl, subst}
+use Rattle.std.specs.List.{AllByRecursion, flat_map}
+use Rattle.gql_base.specs.declared.path_segment.PathSegment.{PathSegment}
+use Rattle.gql_base.specs.declared.path_segment.PathSegment.TheVariants as segment
+use Rattle.gql_base.specs.declared.value.Value.{Value}
+use Rattle.gql_doc.specs.declared.document.Field.{Field}
+use Rattle.gql_doc.specs.declared.document.Positioned.{Positioned}
+use Rattle.gql_doc.specs.declared.document.Selection.{Selection}
+use Rattle.gql_engine.specs.Path.{key_text}
+use Rattle.gql_meaning.specs.Execution.{Asking, asking_at, Execution, field_asking, is_typename}
+use Rattle.gql_meaning.specs.TableSetting.{arguments_in, field_in}
+use Rattle.gql_resolve.specs.declared.answer.Answer.{Answer}
+use Rattle.gql_resolve.specs.declared.field_value.FieldValue.{FieldValue}
+use Rattle.gql_schema.specs.TableReading.{Declared}
+use Rattle.gql_select.specs.Alike.{arguments_of, name_of}
+use Rattle.gql_select.specs.Collected.{own_selections}
+use Rattle.gql_select.specs.Constants.{constants}
+use Rattle.gql_select.specs.Documents.{reading}
+use Rattle.gql_select.specs.Reading.{merged}
+use Rattle.gql_merged.specs.Basis.{execution_of, setting_by}
+use Rattle.gql_merged.specs.FieldsWithin.{collected}
+use Rattle.gql_merged.specs.Jobs.{asked_by_job, completed_by, Job, job_at, job_of, jobs_at}
+use Rattle.gql_merged.specs.Jobs.{jobs_beneath, jobs_of}
+use Rattle.gql_merged.specs.Stored.{Spot, spots}
+use Rattle.gql_merged.specs.declared.basis.Basis.{Basis}
+
+-- what holds of what is there, if anything
+abbrev pub OfSome : {X : Type 0} → (X → Type 0) → Option X → Type 0
+OfSome P None = Unit {0}
+OfSome P (Some x) = P x
+
+-- what holds of all holds of each
+some_at : {X : Type 0} (P : X → Type 0) (xs : List X) (k : ℕ) → AllByRecursion P xs
+    → OfSome P (slice_get xs k)
+some_at P [] k h = tt
+some_at P (x ∷ xs) zero h = h.0
+some_at P (x ∷ xs) (suc k) h = some_at P xs k h.1
+
+-- and of two lists, one behind the other
+all_both : {X : Type 0} (P : X → Type 0) (xs ys : List X) → AllByRecursion P xs
+    → AllByRecursion P ys → AllByRecursion P (xs ++ ys)
+all_both P [] ys h k = k
+all_both P (x ∷ xs) ys h k = (h.0, all_both P xs ys h.1 k)
+
+-- and of lists that are made of each item
+all_flat : {X Y : Type 0} (P : Y → Type 0) (f : X → List Y) → ((x : X) → AllByRecursion P (f x))
+    → (xs : List X) → AllByRecursion P (flat_map f xs)
+all_flat P f each [] = tt
+all_flat P f each (x ∷ xs) = all_both P (f x) (flat_map f xs) (each x) (all_flat P f each xs)
+
+module _ {V : Type 0} where
+  -- a call isn't one of a root
+  abbrev pub IsNoRoot : Asking V → Type 0
+  IsNoRoot asking = asking.call.is_root ≡ false
+
+  number_no_root : (execution : Execution) (parent : FieldValue V)
+      (arguments : List (List ℕ × Value)) (declared : Declared) (number : Option ℕ)
+      → OfSome IsNoRoot
+      (asking_at false execution parent arguments (record declared { number = number }))
+  number_no_root execution parent arguments declared None = tt
+  number_no_root execution parent arguments declared (Some resolver) = refl
+
+  declared_no_root : (execution : Execution) (parent : FieldValue V)
+      (arguments : List (List ℕ × Value)) (found : Option Declared)
+      → OfSome IsNoRoot (option_and_then (asking_at false execution parent arguments) found)
+  declared_no_root execution parent arguments None = tt
+  declared_no_root execution parent arguments (Some declared) =
+      number_no_root execution parent arguments declared declared.number
+
+  tested_no_root : (test : Bool) (asking : Option (Asking V)) → OfSome IsNoRoot asking
+      → OfSome IsNoRoot (cond test None asking)
+  tested_no_root true asking h = tt
+  tested_no_root false asking h = h
+
+  field_no_root : (execution : Execution) (object : List ℕ) (parent : FieldValue V)
+      (field : Positioned Field)
+      → OfSome IsNoRoot (field_asking false execution object parent field)
+  field_no_root execution object parent field =
+      let found = field_in execution.schema object (name_of field) in
+      let arguments = constants execution.known (arguments_in found) (arguments_of field) in
+      tested_no_root (execution.only_introspection || is_typename (name_of field))
+      (option_and_then (asking_at false execution parent arguments) found)
+      (declared_no_root execution parent arguments found)
+
+  -- a task isn't a root of a mutation
+  abbrev pub IsJobBelow : Job V → Type 0
+  IsJobBelow job = job.asking.call.is_root ≡ false
+
+  at_no_root : (basis : Basis) (object : List ℕ) (path : List PathSegment)
+      (field : Positioned Field) (asking : Option (Asking V)) → OfSome IsNoRoot asking
+      → AllByRecursion IsJobBelow (job_at basis object path field asking)
+  at_no_root basis object path field None h = tt
+  at_no_root basis object path field (Some asking) h = (h, tt)
+
+  members_no_root : (basis : Basis) (spot : Spot V) (members : List (List ℕ × Positioned Field))
+      → AllByRecursion IsJobBelow (jobs_of basis spot members)
+  members_no_root basis spot [] = tt
+  members_no_root basis spot (member ∷ members) =
+      all_both IsJobBelow
+      (job_of basis spot member.1
+      (field_asking false (execution_of basis) spot.object spot.parent member.1))
+      (jobs_of basis spot members)
+      (at_no_root basis spot.object (spot.path ++ segment.Field (key_text member.1) ∷ []) member.1
+      (field_asking false (execution_of basis) spot.object spot.parent member.1)
+      (field_no_root (execution_of basis) spot.object spot.parent member.1))
+      (members_no_root basis spot members)
+
+  -- no task of an object is one
+  pub no_roots : (basis : Basis) (selections : List (Positioned Selection)) (spot : Spot V)
+      → AllByRecursion IsJobBelow (jobs_at basis selections spot)
+  no_roots basis selections spot =
+      members_no_root basis spot
+      (merged (reading (setting_by basis)) (collected basis spot.object selections))
+
+  -- and none beneath another one
+  pub none_is_root : (job : Job V) (answer : Answer V) (place : ℕ) (below : Job V)
+      → slice_get (jobs_beneath job answer) place ≡ Some below
+      → (asked_by_job below).call.is_root ≡ false
+  none_is_root job answer place below is =
+      subst (OfSome IsJobBelow) is
+      (some_at IsJobBelow (jobs_beneath job answer) place
+      (all_flat IsJobBelow (jobs_at job.basis (own_selections job.field))
+      (no_roots job.basis (own_selections job.field)) (spots (completed_by job answer) job.path)))

@@ -1,0 +1,69 @@
+-- Objects whose fields are asked.
+use Rattle.std.specs.Prelude.{ℕ, List, []}
+use Rattle.std.specs.declared.alloc.Global.{Global}
+use Rattle.std.specs.declared.rc.Rc.{Rc}
+use Rattle.gql_base.specs.Pairs.{values_of}
+use Rattle.gql_base.specs.declared.path_segment.PathSegment.{PathSegment}
+use Rattle.gql_doc.specs.declared.document.Positioned.{Positioned}
+use Rattle.gql_doc.specs.declared.document.Selection.{Selection}
+use Rattle.gql_resolve.specs.declared.field_value.FieldValue.{FieldValue}
+use Rattle.gql_merged.specs.Jobs.{Job, jobs_by}
+use Rattle.gql_merged.specs.Levels.{Asked, asked_in, members_of}
+use Rattle.gql_merged.specs.Steps.{path_of}
+use Rattle.gql_merged.specs.Stored.{Spot}
+use Rattle.gql_merged.specs.declared.basis.Basis.{Basis}
+use Rattle.gql_merged.specs.declared.parent.Found.{Found}
+use Rattle.gql_merged.specs.declared.parent.Held.{Held}
+use Rattle.gql_merged.specs.declared.parent.Held.TheVariants as held
+use Rattle.gql_merged.specs.declared.parent.Parent.{Parent}
+use Rattle.gql_merged.specs.declared.step.Step.{Step}
+
+-- an object with its fields, each under its key with what it asks
+pub record Standing (V : Type 0) : Type 0 where
+  pub spot : Spot V
+  pub members : List (List ℕ × Asked)
+
+module _ {V : Type 0} where
+  -- an object that came of an answer
+  abbrev pub spot_found : Found V → Spot V
+  spot_found found =
+      record { object = found.object; parent = found.value; path = path_of found.path.items }
+
+  -- the value of which fields are asked
+  abbrev pub value_of : Held V → FieldValue V
+  value_of (held.Root root) = root.now
+  value_of (held.Found found) = found.value
+
+  -- the steps to the object whose fields they are
+  abbrev pub steps_to : Held V → List Step
+  steps_to (held.Root root) = []
+  steps_to (held.Found found) = found.path.items
+
+  -- its path
+  abbrev pub path_to : Held V → List PathSegment
+  path_to whole = path_of (steps_to whole)
+
+  -- an object whose fields are asked
+  abbrev pub standing_of : Parent V → Standing V
+  standing_of parent = record {
+    spot =
+        record {
+          object = parent.level.value.object;
+          parent = value_of parent.held;
+          path = path_to parent.held;
+        };
+    members = members_of parent.level.value;
+  }
+
+  -- the same of one that is shared
+  abbrev pub standing_behind : Rc (Parent V) Global → Standing V
+  standing_behind parent = standing_of parent.value
+
+  -- an object whose fields are asked in selections
+  abbrev pub standing_at : Basis → List (Positioned Selection) → Spot V → Standing V
+  standing_at basis selections spot =
+      record { spot = spot; members = asked_in basis spot.object selections }
+
+  -- the tasks of an object
+  abbrev pub jobs_of_standing : Standing V → List (Job V)
+  jobs_of_standing standing = jobs_by standing.spot (values_of standing.members)

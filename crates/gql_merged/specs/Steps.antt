@@ -1,0 +1,15 @@
+-- Paths by their steps.
+use Rattle.std.specs.Prelude.{List, map}
+use Rattle.gql_base.specs.declared.path_segment.PathSegment.{PathSegment}
+use Rattle.gql_base.specs.declared.path_segment.PathSegment.TheVariants as segment
+use Rattle.gql_merged.specs.declared.step.Step.{Step}
+use Rattle.gql_merged.specs.declared.step.Step.TheVariants as step
+
+-- a step as it is told
+abbrev pub segment_of : Step → PathSegment
+segment_of (step.Key key) = segment.Field key.now
+segment_of (step.Index index) = segment.Index index
+
+-- the path of these steps
+abbrev pub path_of : List Step → List PathSegment
+path_of steps = map segment_of steps

@@ -1,0 +1,160 @@
+//! The places of tasks, put together from the one that was answered last to the first. So the
+//! places beneath a task stand behind all others when it is its turn, and are moved into its own.
+ghost use Rattle.std.specs.Prelude.{ℕ, ◌≡◌, ◌<◌, ◌≤◌, List, [], ◌∷◌, ◌++◌, Some, Option, None};
+ghost use Rattle.std.specs.Prelude.{drop, length, map, slice_get, take, IfOk, OnOk};
+ghost use Rattle.gql_merged.specs.Assembling.{AllHeld, IsRight, members_each, place_made};
+ghost use Rattle.gql_merged.specs.Entries.{laid};
+ghost use Rattle.gql_merged.specs.Fitting.{entries_in};
+ghost use Rattle.gql_merged.specs.Jobs.{Job};
+ghost use Rattle.gql_merged.specs.Parents.{standing_behind};
+ghost use Rattle.gql_merged.specs.Standing.{Paired, present, put_open};
+ghost use Rattle.gql_resolve.specs.Call.{Call};
+ghost use Rattle.gql_resolve.specs.declared.answer.Answer.{Answer};
+
+use crate::filling::fill;
+use crate::kept::{Filled, Kept};
+use crate::members::members_at;
+use crate::parent::Parent;
+use gql_base::{Made, Pairs};
+use gql_place::Place;
+use std::alloc::Global;
+use std::collections::VecDeque;
+use std::rc::Rc;
+
+/// The places of the first tasks, from what is kept of all.
+pub(crate) fn assemble<'a, V: Drop>(
+    alloc: Global,
+    kept: Vec<Kept<'a, V>>,
+    roots: usize,
+    count: usize,
+) -> Made<VecDeque<Place>>
+    requires { laid roots (entries_in kept.items) ≡ Some count }
+    ensures { (jobs : List (Job V)) (answer : Call V → Answer V) → length jobs ≡ count
+        → AllHeld answer jobs (entries_in kept.entry.items)
+        → IfOk result (λ places. Paired (IsRight answer) (take roots jobs) places.items) }
+{
+    let mut kept = kept;
+    let mut places = no_places(alloc, count)?;
+    'kept: while let Some(last) = kept.pop() {
+        put_place(alloc, last, &mut places)?;
+    }
+    all_present(alloc, places)
+}
+
+/// So many places that are open.
+#[tactic(auto, using(crate::proofs::GatheredLemmas::open_more))]
+fn no_places(alloc: Global, count: usize) -> Made<Vec<Option<Place>>>
+    ensures length { IfOk result (λ places. length places.items ≡ count) }
+    ensures open { IfOk result (λ places. (k : ℕ) (o : Option Place)
+        → slice_get places.items k ≡ Some o → o ≡ None) }
+{
+    let mut places = Vec::with_capacity(alloc, count)?;
+    for i in 0..count {
+        places.push(None)?;
+    }
+    Ok(places)
+}
+
+/// Puts the place of a task where it is open, of the places beneath it, which stand behind all
+/// others.
+fn put_place<'a, V: Drop>(
+    alloc: Global,
+    kept: Kept<'a, V>,
+    places: &mut Vec<Option<Place>>,
+) -> Made<()>
+    requires number { kept.number < kept.first }
+    requires first { kept.first ≤ length places.old.items }
+    ensures { OnOk result (places.new.items
+        ≡ put_open (place_made kept.entry.filled (present (drop kept.entry.first places.old.items)))
+        (take kept.entry.first places.old.items) kept.entry.number) }
+{
+    let Kept {
+        number,
+        first,
+        count: _,
+        filled,
+    } = kept;
+    let behind = places.split_off(first)?;
+    let mut own = all_present(alloc, behind)?;
+    let place = place_from(alloc, filled, &mut own)?;
+    put_if_open(places, number, place);
+    Ok(())
+}
+
+/// Puts a place where it is open.
+fn put_if_open(places: &mut Vec<Option<Place>>, number: usize, place: Place)
+    requires { number < length places.old.items }
+    ensures { places.new.items ≡ put_open place places.old.items number }
+{
+    if places[number].is_none() {
+        places[number] = Some(place);
+    }
+}
+
+/// The places that are there.
+#[tactic(auto, using(crate::proofs::GatheredLemmas::present_more))]
+fn all_present(alloc: Global, places: Vec<Option<Place>>) -> Made<VecDeque<Place>>
+    ensures { IfOk result (λ made. made.items ≡ present places.items) }
+{
+    let mut made = VecDeque::with_capacity(alloc, places.len())?;
+    for place in places {
+        add_present(&mut made, place)?;
+    }
+    Ok(made)
+}
+
+fn add_present(made: &mut VecDeque<Place>, place: Option<Place>) -> Made<()>
+    ensures { OnOk result (made.new.items ≡ made.old.items ++ present (place ∷ [])) }
+{
+    match place {
+        Some(place) => {
+            made.push_back(place)?;
+            Ok(())
+        }
+        None => Ok(()),
+    }
+}
+
+/// The place of what a task came to, of the places beneath it.
+fn place_from<'a, V: Drop>(
+    alloc: Global,
+    filled: Filled<'a, V>,
+    own: &mut VecDeque<Place>,
+) -> Made<Place>
+    ensures { IfOk result (λ place. place ≡ place_made filled.entry own.old.items) }
+{
+    let Filled {
+        pos,
+        non_null,
+        added,
+        headers,
+        shape,
+        parents,
+    } = filled;
+    let mut members = all_members(alloc, parents.as_slice(), own)?;
+    let tree = fill(alloc, shape, pos, &mut members)?;
+    Ok(Place {
+        pos,
+        non_null,
+        added,
+        headers,
+        tree,
+    })
+}
+
+/// The members of objects, of the places of their tasks.
+#[tactic(auto, using(crate::proofs::GatheredLemmas::members_more))]
+fn all_members<'a, V: Drop>(
+    alloc: Global,
+    parents: &[Rc<Parent<'a, V>>],
+    own: &mut VecDeque<Place>,
+) -> Made<VecDeque<Pairs<Place>>>
+    ensures { IfOk result (λ members. members.items
+        ≡ members_each (map standing_behind parents.entry.now) own.old.items) }
+{
+    let mut members = VecDeque::with_capacity(alloc, parents.len())?;
+    for parent in parents {
+        members.push_back(members_at(alloc, parent.level.as_ref(), own)?)?;
+    }
+    Ok(members)
+}

@@ -1,0 +1,138 @@
+//! What a task comes to with what it is given, and the tasks beneath it.
+ghost use Rattle.std.specs.Prelude.{◌≡◌, ◌++◌, true, map, IfOk, OnOk};
+ghost use Rattle.std.specs.List.{AllByRecursion};
+ghost use Rattle.gql_merged.specs.Asks.{is_call};
+ghost use Rattle.gql_merged.specs.Fitting.{IsFilled, IsFilledWith, made_beneath, put_shape};
+ghost use Rattle.gql_merged.specs.Jobs.{jobs_beneath};
+ghost use Rattle.gql_merged.specs.Parents.{spot_found};
+ghost use Rattle.gql_merged.specs.Stored.{bare, spots};
+ghost use Rattle.gql_merged.specs.Tasks.{IsDeep, job_of_task, jobs_in, job_with, path_with};
+
+use crate::completing::complete_result;
+use crate::kept::Filled;
+use crate::level::Node;
+use crate::parent::{Found, Held, Parent};
+use crate::paths::steps_with;
+use crate::standing::place_found;
+use crate::storing::store;
+use crate::task::Task;
+use gql_base::{Error, Items, Made, Name, Value};
+use gql_engine::Given;
+use gql_place::Shape;
+use gql_resolve::{Answer, FieldValue};
+use std::alloc::Global;
+
+/// What a task comes to with what it is given. The tasks beneath it are made behind the others.
+pub(crate) fn fill_given<'a, V: Drop>(
+    alloc: Global,
+    task: &Task<'a, V>,
+    given: Given<V>,
+    tasks: &mut Vec<Task<'a, V>>,
+) -> Made<Filled<'a, V>>
+    ensures filled { IfOk result (λ filled. IsFilledWith given (job_of_task task.entry.now)
+        filled) }
+    ensures tasks { OnOk result (jobs_in tasks.new.items ≡ jobs_in tasks.old.items
+        ++ made_beneath given (job_of_task task.entry.now)) }
+    ensures deep { OnOk result (AllByRecursion IsDeep
+        (made_beneath given (job_of_task task.entry.now))) }
+{
+    let parent = task.parent.as_ref();
+    let node = task.node.as_ref();
+    match given {
+        Given::Answered(answer) => fill_answer(alloc, parent, node, answer, tasks),
+        Given::Put(put) => Ok(fill_put(alloc, node, put)),
+    }
+}
+
+/// What a task comes to with its answer.
+fn fill_answer<'a, V: Drop>(
+    alloc: Global,
+    parent: &Parent<'a, V>,
+    node: &Node<'a>,
+    answer: Answer<V>,
+    tasks: &mut Vec<Task<'a, V>>,
+) -> Made<Filled<'a, V>>
+    requires { is_call node.now.asks ≡ true }
+    ensures filled { IfOk result (λ filled. IsFilled (job_with parent.entry.now node.entry.now)
+        answer filled) }
+    ensures tasks { OnOk result (jobs_in tasks.new.items ≡ jobs_in tasks.old.items
+        ++ jobs_beneath (job_with parent.entry.now node.entry.now) answer) }
+    ensures deep { OnOk result (AllByRecursion IsDeep
+        (jobs_beneath (job_with parent.entry.now node.entry.now) answer)) }
+{
+    let Answer {
+        result,
+        added,
+        headers,
+    } = answer;
+    let ty = node.asks.ty();
+    let whole = complete_result(alloc, node.basis.types, ty, result)?;
+    let mut found = Vec::new(alloc);
+    let shape = take_apart(alloc, &parent.held, node, whole, &mut found)?;
+    let parents = place_found(alloc, node, found, tasks)?;
+    Ok(Filled {
+        pos: node.group.first.pos,
+        non_null: !ty.is_nullable(),
+        added,
+        headers,
+        shape,
+        parents,
+    })
+}
+
+/// What is left of a completed answer without its objects, which are found at their paths.
+fn take_apart<'a, V: Drop>(
+    alloc: Global,
+    held: &Held<'a, V>,
+    node: &Node<'a>,
+    shape: Shape<Name, FieldValue<V>>,
+    found: &mut Vec<Found<'a, V>>,
+) -> Made<Shape<(), ()>>
+    ensures bare { IfOk result (λ left. left ≡ bare shape) }
+    ensures found { OnOk result (map spot_found found.new.items ≡ map spot_found found.old.items
+        ++ spots shape (path_with held.entry.now node.entry.now)) }
+{
+    match shape {
+        Shape::Absent => Ok(Shape::Absent),
+        Shape::Leaf(value) => Ok(Shape::Leaf(value)),
+        Shape::Fault(error) => Ok(Shape::Fault(error)),
+        Shape::Object(object, value) => {
+            let mut path = steps_with(alloc, held, node)?;
+            store(alloc, Shape::Object(object, value), &mut path, found)
+        }
+        Shape::List(non_null, items) => {
+            let mut path = steps_with(alloc, held, node)?;
+            store(alloc, Shape::List(non_null, items), &mut path, found)
+        }
+    }
+}
+
+/// What a task comes to with what a hook puts in the place of its answer.
+fn fill_put<'a, V>(
+    alloc: Global,
+    node: &Node<'a>,
+    put: Result<Option<Value>, Error>,
+) -> Filled<'a, V>
+    requires { is_call node.now.asks ≡ true }
+    ensures { result.shape ≡ put_shape put }
+{
+    Filled {
+        pos: node.group.first.pos,
+        non_null: !node.asks.ty().is_nullable(),
+        added: Items::new(alloc),
+        headers: Items::new(alloc),
+        shape: shape_put(put),
+        parents: Vec::new(alloc),
+    }
+}
+
+/// What a hook puts, as a shape.
+fn shape_put(put: Result<Option<Value>, Error>) -> Shape<(), ()>
+    ensures { result ≡ put_shape put }
+{
+    match put {
+        Ok(None) => Shape::Absent,
+        Ok(Some(value)) => Shape::Leaf(value),
+        Err(error) => Shape::Fault(error),
+    }
+}

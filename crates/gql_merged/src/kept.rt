@@ -1,0 +1,27 @@
+use crate::parent::Parent;
+use gql_base::{Error, Items, Pos};
+use gql_place::Shape;
+use gql_request::HeaderOp;
+use std::rc::Rc;
+
+/// What a task came to: its place, but for what is beneath its objects, and these objects in their
+/// order.
+#[derive(Drop)]
+pub struct Filled<'a, V> {
+    pub pos: Pos,
+    pub non_null: bool,
+    pub added: Items<Error>,
+    pub headers: Items<HeaderOp>,
+    pub shape: Shape<(), ()>,
+    pub parents: Vec<Rc<Parent<'a, V>>>,
+}
+
+/// What is kept of a task: its number, the number of the first task beneath it, their count, and
+/// what it came to.
+#[derive(Drop)]
+pub struct Kept<'a, V> {
+    pub number: usize,
+    pub first: usize,
+    pub count: usize,
+    pub filled: Filled<'a, V>,
+}

@@ -1,0 +1,87 @@
+//! The paths of tasks.
+ghost use Rattle.std.specs.Prelude.{◌≡◌, ◌<◌, length, IfOk, OnOk};
+ghost use Rattle.gql_merged.specs.Groups.{united};
+ghost use Rattle.gql_merged.specs.Parents.{steps_to, value_of};
+ghost use Rattle.gql_merged.specs.Steps.{path_of, segment_of};
+ghost use Rattle.gql_merged.specs.Tasks.{path_with};
+ghost use Rattle.gql_engine.specs.Path.{key_text};
+
+use crate::level::Node;
+use crate::parent::Held;
+use crate::step::Step;
+use crate::storing::copy_steps;
+use gql_base::{Made, PathSegment, Text};
+use gql_resolve::FieldValue;
+use std::alloc::Global;
+
+/// The value of which fields are asked.
+pub(crate) fn value_in<'c, 'a, V>(held: &'c Held<'a, V>) -> &'c FieldValue<V>
+    ensures { result.now ≡ value_of held.now }
+{
+    match held {
+        Held::Root(root) => *root,
+        Held::Found(found) => &found.value,
+    }
+}
+
+/// The steps to the object whose fields are asked.
+fn steps_in<'c, 'a, V>(held: &'c Held<'a, V>) -> &'c [Step<'a>]
+    ensures { result.now ≡ steps_to held.now }
+{
+    match held {
+        Held::Root(_) => &[],
+        Held::Found(found) => found.path.as_slice(),
+    }
+}
+
+/// The key of a field.
+#[tactic(auto, using(crate::proofs::UnitingLemmas::key_with_others))]
+fn key_at<'a>(node: &Node<'a>) -> &'a str
+    ensures { result.now ≡ key_text (united node.entry.now.group) }
+{
+    node.group.first.node.response_key().node.as_str()
+}
+
+/// The steps to a field of an object.
+pub(crate) fn steps_with<'a, V>(
+    alloc: Global,
+    held: &Held<'a, V>,
+    node: &Node<'a>,
+) -> Made<Vec<Step<'a>>>
+    ensures path { IfOk result (λ steps. path_of steps.items
+        ≡ path_with held.entry.now node.entry.now) }
+    ensures some { IfOk result (λ steps. 0 < length steps.items) }
+{
+    let mut steps = copy_steps(alloc, steps_in(held))?;
+    steps.push(Step::Key(key_at(node)))?;
+    Ok(steps)
+}
+
+/// Writes the path of a field of an object over what stands in the buffer.
+#[tactic(auto, using(crate::proofs::TaskLemmas::path_more))]
+pub(crate) fn write_path<V>(
+    alloc: Global,
+    held: &Held<'_, V>,
+    node: &Node<'_>,
+    path: &mut Vec<PathSegment>,
+) -> Made<()>
+    ensures { OnOk result (path.new.items ≡ path_with held.now node.now) }
+{
+    path.clear();
+    for step in steps_in(held) {
+        path.push(segment_at(alloc, *step)?)?;
+    }
+    let key = Text::new(alloc, key_at(node))?;
+    path.push(PathSegment::Field(key))?;
+    Ok(())
+}
+
+/// A step of a path, as it is told.
+fn segment_at(alloc: Global, step: Step<'_>) -> Made<PathSegment>
+    ensures { IfOk result (λ made. made ≡ segment_of step.entry) }
+{
+    match step {
+        Step::Key(key) => Ok(PathSegment::Field(Text::new(alloc, key)?)),
+        Step::Index(index) => Ok(PathSegment::Index(index)),
+    }
+}

@@ -1,0 +1,226 @@
+//! Merged execution of an operation that is no mutation (GraphQL, October 2021, section 6.2.1).
+ghost use Rattle.std.specs.Prelude.{ℕ, ◌≡◌, ◌<◌, ◌+◌, [], false, length, take, IfOk, IfErr, OnOk};
+ghost use Rattle.std.specs.Prelude.{OnErr};
+ghost use Rattle.gql_engine.specs.Parts.{due_by};
+ghost use Rattle.gql_engine.specs.Progress.{RunsWhole, RunStopped, seen};
+ghost use Rattle.gql_engine.specs.Rounds.{RoundsWhole, RoundsStopped};
+ghost use Rattle.gql_engine.specs.Steps.{IsCounted};
+ghost use Rattle.gql_meaning.specs.Responses.{root_place};
+ghost use Rattle.gql_resolve.specs.Call.{Call, is_mutation};
+ghost use Rattle.gql_resolve.specs.declared.answer.Answer.{Answer};
+ghost use Rattle.gql_merged.specs.Assembling.{AllHeld, IsAssembled};
+ghost use Rattle.gql_merged.specs.Fitting.{entries_in};
+ghost use Rattle.gql_merged.specs.Jobs.{asked_by_job};
+ghost use Rattle.gql_merged.specs.Levels.{asked_in, members_of};
+ghost use Rattle.gql_merged.specs.Parents.{jobs_of_standing, standing_at, standing_behind};
+ghost use Rattle.gql_merged.specs.Run.{basis_of, merged_response, merged_work, Nests, root_jobs};
+ghost use Rattle.gql_merged.specs.Run.{root_selections, root_spot};
+ghost use Rattle.gql_merged.specs.Tasks.{jobs_in};
+
+use crate::assembling::assemble;
+use crate::basis::Basis;
+use crate::fields_within::collect_fields;
+use crate::level::Level;
+use crate::levels::level_of;
+use crate::members::members_at;
+use crate::parent::{Held, Parent};
+use crate::task_making::make_tasks;
+use crate::tree_plan::TreePlan;
+use gql_base::{Items, Made, NoMemory, Pairs, Pos, Steps};
+use gql_engine::{Rounds, Scene, finish, fresh_arena};
+use gql_place::{Place, Tree};
+use gql_request::Hooks;
+use gql_resolve::{ResolverSet, Turns};
+use std::alloc::Global;
+use std::marker::Brand;
+use std::rc::Rc;
+use std::sync::ledger::{Blank, Ledger};
+
+/// The place of the whole response of a query: each key of a set is one task, and the tasks take
+/// the turns that are chosen for them.
+pub fn run_merged<R: ResolverSet, P: Turns>(
+    alloc: Global,
+    scene: &Scene<'_, R::Own>,
+    resolvers: &mut R,
+    hooks: &mut Hooks,
+    turns: &mut P,
+) -> Result<Place, NoMemory>
+    requires { is_mutation scene.now.env.now.operation.node.ty ≡ false }
+    ensures places { R.is_lawful resolvers.old → (n : ℕ) → Nests scene.now n
+        → IfOk result (λ place. place
+        ≡ merged_response scene.now (due_by R.ResolverSet resolvers.old) n) }
+    ensures rules { R.rules resolvers.new ≡ R.rules resolvers.old }
+    ensures lawful { R.is_lawful resolvers.old → R.is_lawful resolvers.new }
+    ensures world { R.is_lawful resolvers.old → R.world resolvers.new ≡ R.world resolvers.old }
+    ensures record { R.is_lawful resolvers.old → OnOk result
+        (RunsWhole R.ResolverSet P.Turns (merged_work scene.now)
+        (seen resolvers.old turns.old) (seen resolvers.new turns.new)) }
+    ensures stopped { R.is_lawful resolvers.old → OnErr result
+        (RunStopped R.ResolverSet P.Turns (merged_work scene.now)
+        (seen resolvers.old turns.old) (seen resolvers.new turns.new)) }
+    ensures roots { IfErr result (λ want. want.roots ≡ 0) }
+{
+    run_on_blank::<R, P, Brand>(alloc, scene, resolvers, hooks, turns, Blank::new(1))
+}
+
+/// The same with steps that nobody looks at.
+fn run_on_blank<R: ResolverSet, P: Turns, S: Ledger>(
+    alloc: Global,
+    scene: &Scene<'_, R::Own>,
+    resolvers: &mut R,
+    hooks: &mut Hooks,
+    turns: &mut P,
+    blank: Blank,
+) -> Result<Place, NoMemory>
+    requires query { is_mutation scene.now.env.now.operation.node.ty ≡ false }
+    requires name { blank.name ≡ S.name }
+    requires parts { blank.parts ≡ S.parts }
+    requires some { 0 < blank.parts }
+    ensures places { R.is_lawful resolvers.old → (n : ℕ) → Nests scene.now n
+        → IfOk result (λ place. place
+        ≡ merged_response scene.now (due_by R.ResolverSet resolvers.old) n) }
+    ensures rules { R.rules resolvers.new ≡ R.rules resolvers.old }
+    ensures lawful { R.is_lawful resolvers.old → R.is_lawful resolvers.new }
+    ensures world { R.is_lawful resolvers.old → R.world resolvers.new ≡ R.world resolvers.old }
+    ensures record { R.is_lawful resolvers.old → OnOk result
+        (RunsWhole R.ResolverSet P.Turns (merged_work scene.now)
+        (seen resolvers.old turns.old) (seen resolvers.new turns.new)) }
+    ensures stopped { R.is_lawful resolvers.old → OnErr result
+        (RunStopped R.ResolverSet P.Turns (merged_work scene.now)
+        (seen resolvers.old turns.old) (seen resolvers.new turns.new)) }
+    ensures roots { IfErr result (λ want. want.roots ≡ 0) }
+{
+    let mut steps: Steps<S> = Steps::new(blank);
+    run_merged_counted(alloc, scene, resolvers, hooks, turns, &mut steps)
+}
+
+/// The same with the rounds of any hooks, where each start of a resolver that answered is a step.
+/// The hooks of each task are entered once, before its resolver is started.
+pub fn run_merged_counted<R: ResolverSet, H: Rounds, P: Turns, S: Ledger>(
+    alloc: Global,
+    scene: &Scene<'_, R::Own>,
+    resolvers: &mut R,
+    hooks: &mut H,
+    turns: &mut P,
+    steps: &mut Steps<S>,
+) -> Result<Place, NoMemory>
+    requires { is_mutation scene.now.env.now.operation.node.ty ≡ false }
+    ensures places { R.is_lawful resolvers.old → H.are_quiet hooks.old → (n : ℕ)
+        → Nests scene.now n → IfOk result (λ place. place
+        ≡ merged_response scene.now (due_by R.ResolverSet resolvers.old) n) }
+    ensures rules { R.rules resolvers.new ≡ R.rules resolvers.old }
+    ensures lawful { R.is_lawful resolvers.old → R.is_lawful resolvers.new }
+    ensures world { R.is_lawful resolvers.old → R.world resolvers.new ≡ R.world resolvers.old }
+    ensures quiet { H.are_quiet hooks.old → H.are_quiet hooks.new }
+    ensures record { R.is_lawful resolvers.old → H.are_quiet hooks.old → OnOk result
+        (RunsWhole R.ResolverSet P.Turns (merged_work scene.now)
+        (seen resolvers.old turns.old) (seen resolvers.new turns.new)) }
+    ensures stopped { R.is_lawful resolvers.old → H.are_quiet hooks.old → OnErr result
+        (RunStopped R.ResolverSet P.Turns (merged_work scene.now)
+        (seen resolvers.old turns.old) (seen resolvers.new turns.new)) }
+    ensures roots { IfErr result (λ want. want.roots ≡ 0) }
+    ensures rounds { OnOk result (RoundsWhole asked_by_job H.Rounds
+        (root_jobs scene.now) hooks.old hooks.new) }
+    ensures unfinished { OnErr result (RoundsStopped asked_by_job H.Rounds
+        (root_jobs scene.now) hooks.old hooks.new) }
+    ensures counted { IsCounted (R.begun resolvers.old) (R.begun resolvers.new)
+        steps.old steps.new }
+{
+    let root = root_of(alloc, scene)?;
+    let mut plan = plan_of(alloc, &root)?;
+    let mut arena = fresh_arena(alloc, plan.tasks.len())?;
+    finish(alloc, &mut plan, &mut arena, resolvers, hooks, turns, steps)?;
+    Ok(place_of_root(alloc, scene.env.operation.pos, &root, plan)?)
+}
+
+/// The object at the root with its fields.
+fn root_of<'a, V: Drop>(alloc: Global, scene: &Scene<'a, V>) -> Made<Rc<Parent<'a, V>>>
+    requires { is_mutation scene.now.env.now.operation.node.ty ≡ false }
+    ensures { IfOk result (λ root. standing_behind root
+        ≡ standing_at (basis_of scene.entry.now) (root_selections scene.entry.now)
+        (root_spot scene.entry.now)) }
+{
+    let level = Rc::new(alloc, root_level(alloc, scene)?)?;
+    let root = Rc::new(
+        alloc,
+        Parent {
+            level,
+            held: Held::Root(scene.root),
+        },
+    )?;
+    Ok(root)
+}
+
+/// The fields of the root.
+fn root_level<'a, V>(alloc: Global, scene: &Scene<'a, V>) -> Made<Level<'a>>
+    requires { is_mutation scene.now.env.now.operation.node.ty ≡ false }
+    ensures object { IfOk result (λ level. level.object ≡ (root_spot scene.entry.now).object) }
+    ensures members { IfOk result (λ level. members_of level
+        ≡ asked_in (basis_of scene.entry.now) (root_spot scene.entry.now).object
+        (root_selections scene.entry.now)) }
+{
+    let basis = Basis {
+        env: scene.env,
+        types: scene.types,
+        query: scene.query,
+        entities: scene.entities,
+        layers: scene.layers,
+    };
+    let object = scene.object.type_name();
+    let selections = scene.env.operation.node.selection_set.node.items.as_slice();
+    let fields = collect_fields(alloc, &basis, object, selections)?;
+    level_of(alloc, &basis, object, fields)
+}
+
+/// The plan that begins with the tasks of the root.
+#[tactic(auto, using(crate::proofs::RunLemmas::none_deep))]
+fn plan_of<'a, V: Drop>(alloc: Global, root: &Rc<Parent<'a, V>>) -> Made<TreePlan<'a, V>>
+    ensures { IfOk result (λ plan. jobs_in plan.tasks.items
+        ≡ jobs_of_standing (standing_behind root.entry.now)) }
+{
+    let mut tasks = Vec::new(alloc);
+    make_tasks(root, &mut tasks)?;
+    let roots = tasks.len();
+    Ok(TreePlan {
+        tasks,
+        kept: Vec::new(alloc),
+        path: Vec::new(alloc),
+        roots,
+    })
+}
+
+/// The place of the root, of what is kept of all tasks.
+fn place_of_root<'a, V: Drop>(
+    alloc: Global,
+    pos: Pos,
+    root: &Rc<Parent<'a, V>>,
+    plan: TreePlan<'a, V>,
+) -> Made<Place>
+    ensures { (answer : Call V → Answer V)
+        → AllHeld answer (jobs_in plan.entry.tasks.items) (entries_in plan.entry.kept.items)
+        → IfOk result (IsAssembled answer pos (standing_behind root.entry.now)
+        (take plan.entry.roots (jobs_in plan.entry.tasks.items))) }
+{
+    let TreePlan {
+        tasks,
+        kept,
+        path: _,
+        roots,
+    } = plan;
+    let mut places = assemble(alloc, kept, roots, tasks.len())?;
+    let members = members_at(alloc, root.level.as_ref(), &mut places)?;
+    Ok(root_with(alloc, pos, members))
+}
+
+/// The place of the root with these members.
+fn root_with(alloc: Global, pos: Pos, members: Pairs<Place>) -> Place
+    ensures { result ≡ root_place pos members }
+{
+    Place {
+        pos,
+        non_null: false,
+        added: Items::new(alloc),
+        headers: Items::new(alloc),
+        tree: Tree::Object(members),
+    }
+}

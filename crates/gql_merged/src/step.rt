@@ -1,0 +1,6 @@
+/// One step of a path: the key of a field, or the place of an item in its list, counted from 0.
+#[derive(Clone, Copy, Debug)]
+pub enum Step<'a> {
+    Key(&'a str),
+    Index(usize),
+}

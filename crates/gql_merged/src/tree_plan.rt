@@ -1,0 +1,146 @@
+ghost use Rattle.std.specs.Prelude.{ℕ, ◌≡◌, ◌≤◌, Some, length, map, slice_get};
+ghost use Rattle.std.specs.Option.{option_copied};
+ghost use Rattle.gql_engine.specs.Plan.{alias_in};
+ghost use Rattle.gql_merged.specs.Entries.{laid};
+ghost use Rattle.gql_merged.specs.Fitting.{entries_in};
+ghost use Rattle.gql_merged.specs.Groups.{united};
+ghost use Rattle.gql_merged.specs.Tasks.{IsDeep, job_of_task};
+ghost use Rattle.gql_merged.specs.declared.task.Task.{Task as TaskOf};
+
+use crate::giving::fill_given;
+use crate::kept::Kept;
+use crate::level::Node;
+use crate::paths::{value_in, write_path};
+use crate::task::Task;
+use gql_base::{Made, PathSegment};
+use gql_doc::Field;
+use gql_engine::{Given, Plan};
+use gql_input::ObjectAccessor;
+use gql_request::{QueryPathNode, ResolveInfo};
+use gql_resolve::ResolverContext;
+use std::alloc::Global;
+
+/// The tasks of merged execution, what is kept of those that were given something, in that order,
+/// and the path of one of them. The first so many are those of the root.
+#[derive(Drop)]
+pub struct TreePlan<'a, V> {
+    pub tasks: Vec<Task<'a, V>>,
+    pub kept: Vec<Kept<'a, V>>,
+    pub path: Vec<PathSegment>,
+    pub roots: usize,
+    pub ghost laid: { laid roots (entries_in kept.items) ≡ Some (length tasks.items) },
+    pub ghost deep: { (k : ℕ) (task : TaskOf V) → roots ≤ k → slice_get tasks.items k ≡ Some task
+        → IsDeep (job_of_task task) },
+}
+
+impl<'a, V: Drop> Plan<V> for TreePlan<'a, V> {
+    ghost use Rattle.std.specs.Prelude.{ℕ, ◌<◌, false, Some, List, length, slice_get, IfOk, OnOk};
+    ghost use Rattle.gql_engine.specs.Given.{beneath_given};
+    ghost use Rattle.gql_engine.specs.Plan.{HasMade};
+    ghost use Rattle.gql_engine.specs.declared.given.Given.{Given as GivenTo};
+    ghost use Rattle.gql_merged.specs.Fitting.{entries_in, HoldsGiven};
+    ghost use Rattle.gql_merged.specs.Jobs.{asked_by_job, Job, jobs_beneath};
+    ghost use Rattle.gql_merged.specs.Tasks.{IsAimed, jobs_in};
+    ghost use Rattle.gql_merged.specs.NeverRoots.{none_is_root};
+
+    ghost Task = { Job V };
+
+    ghost tasks = { λ plan. jobs_in plan.tasks.items };
+
+    ghost asks = { λ task. asked_by_job task };
+
+    ghost beneath = { λ task answer. jobs_beneath task answer };
+
+    ghost holds = { λ plan number given.
+        HoldsGiven (jobs_in plan.tasks.items) (entries_in plan.kept.items) number given };
+
+    ghost aims = { λ plan number. IsAimed plan.tasks.items plan.path.items number };
+
+    ghost never_roots = { λ task answer place below is. none_is_root task answer place below is };
+
+    fn aim(&mut self, alloc: Global, number: usize) -> Made<()> {
+        let task = &self.tasks[number];
+        write_path(alloc, &task.parent.held, task.node.as_ref(), &mut self.path)
+    }
+
+    fn context<'c>(&'c self, number: usize) -> ResolverContext<'c, V> {
+        let task = &self.tasks[number];
+        let node = task.node.as_ref();
+        let args = ObjectAccessor::new(node.asks.arguments());
+        ResolverContext {
+            resolver: node.asks.resolver(),
+            task: number as u64,
+            args,
+            parent_value: value_in(&task.parent.held),
+            path_node: QueryPathNode {
+                segments: self.path.as_slice(),
+            },
+            item: item_at(node),
+            env: node.basis.env,
+            layers: node.basis.layers,
+        }
+    }
+
+    fn info<'c>(&'c self, number: usize) -> ResolveInfo<'c> {
+        let task = &self.tasks[number];
+        let node = task.node.as_ref();
+        let field = item_at(node);
+        ResolveInfo {
+            path_node: QueryPathNode {
+                segments: self.path.as_slice(),
+            },
+            parent_type: task.parent.level.object.as_str(),
+            return_type: node.asks.ty(),
+            name: field.name.node.as_str(),
+            alias: alias_of(field),
+            field,
+        }
+    }
+
+    fn complete(&mut self, alloc: Global, number: usize, given: Given<V>) -> Made<usize>
+        requires { number < length (jobs_in self.old.tasks.items) }
+        ensures made { (task : Job V)
+            → slice_get (jobs_in self.old.tasks.items) number ≡ Some task
+            → IfOk result (HasMade (jobs_in self.old.tasks.items) (jobs_in self.new.tasks.items)
+            (beneath_given jobs_beneath task given)) }
+        ensures holds { OnOk result (HoldsGiven (jobs_in self.new.tasks.items)
+            (entries_in self.new.kept.items) number given) }
+        ensures keeps { OnOk result ((other : ℕ) (g : GivenTo V) → (other ≡ number → ⊥)
+            → HoldsGiven (jobs_in self.old.tasks.items) (entries_in self.old.kept.items) other g
+            → HoldsGiven (jobs_in self.new.tasks.items) (entries_in self.new.kept.items) other g) }
+    {
+        let first = self.tasks.len();
+        let mut more = Vec::new(alloc);
+        let filled = fill_given(alloc, &self.tasks[number], given, &mut more)?;
+        let count = more.len();
+        self.kept.reserve(1)?;
+        self.tasks.append(&mut more)?;
+        self.kept.push_reserved(Kept {
+            number,
+            first,
+            count,
+            filled,
+        });
+        Ok(count)
+    }
+}
+
+/// The field that stands for all occurrences.
+fn item_at<'c, 'a>(node: &'c Node<'a>) -> &'c Field
+    ensures { result.now ≡ (united node.entry.now.group).node }
+{
+    match &node.item {
+        Some(item) => item,
+        None => &node.group.first.node,
+    }
+}
+
+/// The alias of a field, where it has one.
+fn alias_of(field: &Field) -> Option<&str>
+    ensures { option_copied result ≡ alias_in field.now }
+{
+    match &field.alias {
+        Some(alias) => Some(alias.node.as_str()),
+        None => None,
+    }
+}

@@ -1,0 +1,272 @@
+//! A table of types, and the response to a query over it, for tests.
+ghost use Rattle.std.specs.Prelude.{◌≡◌, false, None, IfOk, IsTrue};
+ghost use Rattle.gql_doc.specs.Depth.{deep_from};
+ghost use Rattle.gql_doc.specs.declared.document.ExecutableDocument.{ExecutableDocument as Document};
+ghost use Rattle.gql_doc.specs.declared.document.DocumentOperations.TheVariants.{Single};
+ghost use Rattle.gql_resolve.specs.Call.{is_mutation};
+ghost use Rattle.gql_schema.specs.Field.{field_name};
+
+use crate::answers::Answers;
+use gql_admit::check_depth;
+use gql_base::{Made, NoMemory, Pairs, Text, TypeRef, Value, Variables, json_of, push_errors};
+use gql_doc::{
+    DocumentOperations, ExecutableDocument, FragmentDefinition, OperationDefinition, OperationType,
+    Positioned, parse_query,
+};
+use gql_engine::Scene;
+use gql_merged::run_merged;
+use gql_place::{Place, faults, raise};
+use gql_request::{Data, Hooks, IntrospectionMode, QueryEnv};
+use gql_resolve::{FieldValue, Layers, Turns};
+use gql_schema::{Enum, Field, Interface, Object, Scalar, ScalarRule, SchemaType, Types, Union};
+use std::alloc::Global;
+
+/// How many levels beneath that of an operation the sets of a query may lie.
+const DEPTH: usize = 64;
+
+/// Adds a field with this resolver, unless there is one of its name.
+fn with(alloc: Global, object: Object, name: &str, ty: TypeRef, resolver: u32) -> Made<Object> {
+    let field = field(alloc, name, ty, resolver)?;
+    if object.has_field(name) {
+        return Ok(object);
+    }
+    object.field(alloc, field)
+}
+
+fn field(alloc: Global, name: &str, ty: TypeRef, resolver: u32) -> Made<Field>
+    ensures { IfOk result (λ field. field_name field ≡ name.now) }
+{
+    Field::new(alloc, name, ty, resolver)
+}
+
+/// Adds a field of a named type.
+fn with_named(alloc: Global, object: Object, name: &str, ty: &str, resolver: u32) -> Made<Object> {
+    let ty = TypeRef::named(alloc, ty)?;
+    with(alloc, object, name, ty, resolver)
+}
+
+fn with_lists(alloc: Global, object: Object) -> Made<Object> {
+    let rows = TypeRef::named_nn_list_nn(alloc, "Row")?;
+    let object = with(alloc, object, "rows", rows, 0)?;
+    let any = TypeRef::named_list(alloc, "Any")?;
+    let object = with(alloc, object, "any", any, 6)?;
+    let gap = TypeRef::named_nn_list(alloc, "Int")?;
+    let object = with(alloc, object, "gap", gap, 9)?;
+    let flat = TypeRef::named_list(alloc, "Int")?;
+    with(alloc, object, "flat", flat, 2)
+}
+
+fn with_objects(alloc: Global, object: Object) -> Made<Object> {
+    let object = with_named(alloc, object, "one", "Row", 5)?;
+    let object = with_named(alloc, object, "node", "Node", 7)?;
+    let object = with_named(alloc, object, "foreignNode", "Node", 12)?;
+    let object = with_named(alloc, object, "foreignAny", "Any", 12)?;
+    let object = with_named(alloc, object, "bareNode", "Node", 13)?;
+    with_named(alloc, object, "bareAny", "Any", 13)
+}
+
+fn with_leaves(alloc: Global, object: Object) -> Made<Object> {
+    let object = with_named(alloc, object, "red", "Color", 10)?;
+    let object = with_named(alloc, object, "blue", "Color", 11)?;
+    let object = with_named(alloc, object, "textual", "Int", 2)?;
+    let none = TypeRef::named_nn(alloc, "Int")?;
+    with(alloc, object, "none", none, 8)
+}
+
+/// The root of queries.
+pub fn query_object(alloc: Global) -> Made<Object> {
+    let object = Object::new(alloc, "Query")?;
+    let object = with_lists(alloc, object)?;
+    let object = with_objects(alloc, object)?;
+    with_leaves(alloc, object)
+}
+
+fn row_object(alloc: Global) -> Made<Object> {
+    let object = Object::new(alloc, "Row")?;
+    let object = with_named(alloc, object, "id", "Int", 1)?;
+    let object = with_named(alloc, object, "name", "String", 2)?;
+    let kids = TypeRef::named_list(alloc, "Row")?.non_null(alloc)?;
+    let object = with(alloc, object, "kids", kids.list(alloc)?, 3)?;
+    let fail = TypeRef::named_nn(alloc, "Int")?;
+    let object = with(alloc, object, "fail", fail, 4)?;
+    let next = TypeRef::named_nn(alloc, "Row")?;
+    with(alloc, object, "next", next, 5)?.implement(alloc, "Node")
+}
+
+fn other_object(alloc: Global) -> Made<Object> {
+    let object = Object::new(alloc, "Other")?;
+    with_named(alloc, object, "x", "Int", 1)
+}
+
+fn add_objects(alloc: Global, types: &mut Types) -> Made<()> {
+    types.register(alloc, SchemaType::Object(query_object(alloc)?))?;
+    types.register(alloc, SchemaType::Object(row_object(alloc)?))?;
+    types.register(alloc, SchemaType::Object(other_object(alloc)?))
+}
+
+fn add_abstract(alloc: Global, types: &mut Types) -> Made<()> {
+    let any = Union::new(alloc, "Any")?.possible_type(alloc, "Row")?;
+    let any = any.possible_type(alloc, "Other")?;
+    types.register(alloc, SchemaType::Union(any))?;
+    types.register(alloc, SchemaType::Interface(Interface::new(alloc, "Node")?))
+}
+
+fn add_scalar(alloc: Global, types: &mut Types, name: &str, rule: ScalarRule) -> Made<()> {
+    let scalar = Scalar::new(alloc, name)?.rule(rule);
+    types.register(alloc, SchemaType::Scalar(scalar))
+}
+
+fn add_leaves(alloc: Global, types: &mut Types) -> Made<()> {
+    add_scalar(alloc, types, "Int", ScalarRule::Int)?;
+    add_scalar(alloc, types, "String", ScalarRule::Text)?;
+    let color = Enum::new(alloc, "Color")?.item(alloc, "RED")?;
+    types.register(alloc, SchemaType::Enum(color))
+}
+
+fn table(alloc: Global) -> Made<Types> {
+    let mut types = Types::new(alloc);
+    add_objects(alloc, &mut types)?;
+    add_abstract(alloc, &mut types)?;
+    add_leaves(alloc, &mut types)?;
+    Ok(types)
+}
+
+/// What a scene stands on beside its request.
+#[derive(Drop)]
+struct Ground {
+    types: Types,
+    object: Object,
+    data: Data,
+    root: FieldValue<u64>,
+}
+
+impl Ground {
+    fn new(alloc: Global) -> Made<Ground> {
+        let object = query_object(alloc)?;
+        let types = table(alloc)?;
+        Ok(Ground {
+            types,
+            object,
+            data: Data::new(alloc),
+            root: FieldValue::NULL,
+        })
+    }
+
+    /// The scene of a request.
+    fn scene<'a>(&'a self, env: &'a QueryEnv) -> Scene<'a, u64>
+        ensures { result.env.now ≡ env.entry.now }
+    {
+        Scene {
+            env,
+            types: &self.types,
+            object: &self.object,
+            query: "Query",
+            entities: None,
+            root: &self.root,
+            layers: Layers {
+                execute: None,
+                query: &self.data,
+                session: &self.data,
+                schema: &self.data,
+            },
+            serial: false,
+        }
+    }
+}
+
+/// The data of a response, and its errors where there are some.
+fn response_text(alloc: Global, place: &Place) -> Made<String> {
+    let value = raise(alloc, place)?;
+    let data = json_of(alloc, &value)?;
+    let mut out = String::from_str(alloc, data.as_str())?;
+    push_faults(alloc, &mut out, place)?;
+    Ok(out)
+}
+
+fn push_faults(alloc: Global, out: &mut String, place: &Place) -> Made<()> {
+    let errors = faults(alloc, place)?;
+    if !errors.is_empty() {
+        push_errors(out, errors.as_slice())?;
+    }
+    Ok(())
+}
+
+/// The place of a query.
+fn place_of<P: Turns>(
+    alloc: Global,
+    ground: &Ground,
+    env: &QueryEnv,
+    set: &mut Answers,
+    turns: &mut P,
+) -> Result<Place, NoMemory>
+    requires { is_mutation env.now.operation.node.ty ≡ false }
+{
+    let scene = ground.scene(env);
+    let mut hooks = Hooks::none(alloc);
+    run_merged(alloc, &scene, set, &mut hooks, turns)
+}
+
+/// The response to a request that is a query.
+fn response_to<P: Turns>(
+    alloc: Global,
+    env: &QueryEnv,
+    set: &mut Answers,
+    turns: &mut P,
+) -> Result<String, NoMemory> {
+    match env.operation.node.ty {
+        OperationType::Query => {}
+        OperationType::Mutation => return Ok(String::from_str(alloc, "no query")?),
+        OperationType::Subscription => return Ok(String::from_str(alloc, "no query")?),
+    }
+    let ground = Ground::new(alloc)?;
+    let place = place_of(alloc, &ground, env, set, turns)?;
+    Ok(response_text(alloc, &place)?)
+}
+
+fn environment(
+    alloc: Global,
+    operation: Positioned<OperationDefinition>,
+    fragments: Pairs<Positioned<FragmentDefinition>>,
+) -> QueryEnv
+    requires { deep_from fragments 65 operation.node.selection_set ≡ None }
+{
+    QueryEnv::new(
+        Variables::from_value(alloc, Value::Null),
+        None,
+        operation,
+        fragments,
+        IntrospectionMode::default(),
+        DEPTH + 1,
+    )
+}
+
+/// The request of a document of one operation, if its sets don't lie too deep.
+fn request_of(alloc: Global, document: ExecutableDocument) -> Made<Option<QueryEnv>> {
+    if check_depth(alloc, &document, DEPTH)?.is_err() {
+        return Ok(None);
+    }
+    let ExecutableDocument {
+        operations,
+        fragments,
+    } = document;
+    match operations {
+        DocumentOperations::Single(operation) => Ok(Some(environment(alloc, operation, fragments))),
+        DocumentOperations::Multiple(_) => Ok(None),
+    }
+}
+
+/// The response to a query, its data before its errors.
+pub fn response_of<P: Turns>(
+    alloc: Global,
+    query: &str,
+    set: &mut Answers,
+    turns: &mut P,
+) -> Result<String, NoMemory> {
+    let Ok(document) = parse_query(alloc, query)? else {
+        return Ok(String::from_str(alloc, "no document")?);
+    };
+    match request_of(alloc, document)? {
+        Some(env) => response_to(alloc, &env, set, turns),
+        None => Ok(String::from_str(alloc, "no request")?),
+    }
+}

@@ -1,0 +1,181 @@
+//! Responses to queries, under turns that take the first task that waits and under such that take
+//! the last.
+use crate::answers::Answers;
+use crate::scenes::response_of;
+use gql_base::NoMemory;
+use gql_resolve::Turns;
+use std::alloc::Global;
+use std::test::Fail;
+
+/// Turns that take the last task that waits, or the first.
+#[derive(Drop)]
+struct Ends {
+    last: bool,
+}
+
+impl Turns for Ends {
+    ghost use Rattle.std.specs.Prelude.{Bool, None};
+
+    ghost State = { Bool };
+
+    ghost state = { λ turns. None };
+
+    ghost choice = { λ state n. 0 };
+
+    ghost after = { λ state n. state };
+
+    fn pick(&mut self, n: usize) -> usize {
+        if self.last { n - 1 } else { 0 }
+    }
+}
+
+/// Objects and lists, with fragments on them, each query with its response.
+const OBJECTS: [(&str, &str); 6] = [
+    (
+        "{ rows { id name } }",
+        "{\"rows\":[{\"id\":1,\"name\":\"n\"},{\"id\":2,\"name\":\"n\"}]}",
+    ),
+    (
+        "{ rows { k: kids { id } } }",
+        "{\"rows\":[{\"k\":[[{\"id\":10},{\"id\":11}],[]]},{\"k\":[[{\"id\":20},{\"id\":21}],[]]}]}",
+    ),
+    (
+        "{ any { __typename ... on Row { id ...F } ... on Other { x } } } fragment F on Node { __typename ... on Row { name } }",
+        "{\"any\":[{\"__typename\":\"Row\",\"id\":1,\"name\":\"n\"},{\"__typename\":\"Other\",\"x\":2},null]}",
+    ),
+    (
+        "{ node { ... on Row { id } ... on Other { x } } }",
+        "{\"node\":{\"id\":7}}",
+    ),
+    (
+        "{ rows { id } rows { id name } __typename }",
+        "{\"rows\":[{\"id\":1,\"name\":\"n\"},{\"id\":2,\"name\":\"n\"}],\"__typename\":\"Query\"}",
+    ),
+    (
+        "{ red lost gone: none }",
+        "null[{\"message\":\"internal: non-null types require a return value\",\"locations\":[{\"line\":1,\"column\":12}],\"path\":[\"gone\"]}]",
+    ),
+];
+
+/// Answers with errors beside them, and such that fail beneath lists and objects.
+const ERRORS: [(&str, &str); 3] = [
+    (
+        "{ one { id } one { next { id } } }",
+        "{\"one\":{\"id\":1,\"next\":{\"id\":2}}}[{\"message\":\"beside\",\"locations\":[{\"line\":1,\"column\":3}],\"path\":[\"one\"]},{\"message\":\"beside\",\"locations\":[{\"line\":1,\"column\":20}],\"path\":[\"one\",\"next\"]}]",
+    ),
+    (
+        "{ rows { kids { fail } } }",
+        "{\"rows\":[{\"kids\":[[null,null],[]]},{\"kids\":[[null,null],[]]}]}[{\"message\":\"boom\",\"locations\":[{\"line\":1,\"column\":17}],\"path\":[\"rows\",0,\"kids\",0,0,\"fail\"]},{\"message\":\"boom\",\"locations\":[{\"line\":1,\"column\":17}],\"path\":[\"rows\",0,\"kids\",0,1,\"fail\"]},{\"message\":\"boom\",\"locations\":[{\"line\":1,\"column\":17}],\"path\":[\"rows\",1,\"kids\",0,0,\"fail\"]},{\"message\":\"boom\",\"locations\":[{\"line\":1,\"column\":17}],\"path\":[\"rows\",1,\"kids\",0,1,\"fail\"]}]",
+    ),
+    (
+        "{ rows { id fail } }",
+        "null[{\"message\":\"boom\",\"locations\":[{\"line\":1,\"column\":13}],\"path\":[\"rows\",0,\"fail\"]},{\"message\":\"boom\",\"locations\":[{\"line\":1,\"column\":13}],\"path\":[\"rows\",1,\"fail\"]}]",
+    ),
+];
+
+/// Fields whose answer isn't of their type, each with the fault that it comes to.
+const FAULTS: [(&str, &str); 9] = [
+    ("none", "internal: non-null types require a return value"),
+    ("gap", "internal: non-null types require a return value"),
+    ("flat", "internal: expects an array"),
+    (
+        "textual",
+        "internal: invalid value for scalar \\\"Int\\\", expected \\\"FieldValue::Value\\\"",
+    ),
+    ("blue", "internal: invalid item for enum \\\"Color\\\""),
+    (
+        "foreignNode { __typename }",
+        "internal: object \\\"Query\\\" does not implement interface \\\"Node\\\"",
+    ),
+    (
+        "foreignAny { __typename }",
+        "internal: union \\\"Any\\\" does not contain object \\\"Query\\\"",
+    ),
+    (
+        "bareNode { __typename }",
+        "internal: invalid value for interface \\\"Node\\\", expected \\\"FieldValue::WithType\\\"",
+    ),
+    (
+        "bareAny { __typename }",
+        "internal: invalid value for union \\\"Any\\\", expected \\\"FieldValue::WithType\\\"",
+    ),
+];
+
+/// Whether a query has this response, under turns that take the first task or the last.
+fn has_response(alloc: Global, query: &str, wanted: &str, last: bool) -> Result<bool, NoMemory> {
+    let mut turns = Ends { last };
+    let mut set = Answers { asked: 0 };
+    let response = response_of(alloc, query, &mut set, &mut turns)?;
+    Ok(response.as_str() == wanted)
+}
+
+/// The first query whose response is another.
+fn first_wrong(
+    alloc: Global,
+    table: &[(&'static str, &'static str)],
+    last: bool,
+) -> Result<Option<&'static str>, NoMemory> {
+    for (query, wanted) in table {
+        if !has_response(alloc, query, wanted, last)? {
+            return Ok(Some(*query));
+        }
+    }
+    Ok(None)
+}
+
+/// Whether the response to a query for one field tells this fault.
+fn has_fault(alloc: Global, field: &str, message: &str) -> Result<bool, NoMemory> {
+    let mut turns = Ends { last: true };
+    let mut set = Answers { asked: 0 };
+    let query = format!(in alloc; "{{ {field} }}")?;
+    let start = format!(in alloc; "[{{\"message\":\"{message}\",\"locations\"")?;
+    let response = response_of(alloc, query.as_str(), &mut set, &mut turns)?;
+    Ok(response.as_str().contains(start.as_str()))
+}
+
+fn first_without_fault(
+    alloc: Global,
+    table: &[(&'static str, &'static str)],
+) -> Result<Option<&'static str>, NoMemory> {
+    for (field, message) in table {
+        if !has_fault(alloc, field, message)? {
+            return Ok(Some(*field));
+        }
+    }
+    Ok(None)
+}
+
+/// How many resolvers a query starts.
+fn starts_of(alloc: Global, query: &str) -> Result<u64, NoMemory> {
+    let mut turns = Ends { last: false };
+    let mut set = Answers { asked: 0 };
+    let _response = response_of(alloc, query, &mut set, &mut turns)?;
+    Ok(set.asked)
+}
+
+#[test]
+fn objects_and_lists_have_their_members(rt: HostRuntime) -> Result<(), Fail> {
+    assert_eq!(rt; first_wrong(rt.alloc(), &OBJECTS, false)?, None);
+    assert_eq!(rt; first_wrong(rt.alloc(), &OBJECTS, true)?, None);
+    Ok(())
+}
+
+#[test]
+fn errors_have_their_paths(rt: HostRuntime) -> Result<(), Fail> {
+    assert_eq!(rt; first_wrong(rt.alloc(), &ERRORS, false)?, None);
+    assert_eq!(rt; first_wrong(rt.alloc(), &ERRORS, true)?, None);
+    Ok(())
+}
+
+#[test]
+fn answers_of_other_types_are_faults(rt: HostRuntime) -> Result<(), Fail> {
+    assert_eq!(rt; first_without_fault(rt.alloc(), &FAULTS)?, None);
+    Ok(())
+}
+
+#[test]
+fn a_doubled_key_is_asked_once(rt: HostRuntime) -> Result<(), Fail> {
+    assert_eq!(rt; starts_of(rt.alloc(), "{ one { id } one { id name } }")?, 3);
+    assert_eq!(rt; starts_of(rt.alloc(), "{ rows { id } x: rows { id } }")?, 6);
+    Ok(())
+}
