@@ -45,7 +45,7 @@ module _ (known : List ℕ → Value) where
   keeping_ended all left now keeping ended =
       sym (append-nil left) ∙ ap (λ xs. left ++ kept known xs) (sym ended) ∙ sym keeping.whole
 
-  set_items : (set : SelectionSet) → (out-SelectionSet (kept_set known set)).items ≡ kept known (out-SelectionSet set).items
+  pub set_items : (set : SelectionSet) → (out-SelectionSet (kept_set known set)).items ≡ kept known (out-SelectionSet set).items
   set_items set = search (rules, the_lemmas, filter_map_of_map)
 
   pub rolled_set : (set : SelectionSet) → roll-SelectionSet (record { items = kept known (out-SelectionSet set).items }) ≡ kept_set known set
@@ -69,24 +69,24 @@ module _ (known : List ℕ → Value) where
       ≡ other_inline known (kept_inline known fragment)
   rolled_inline fragment = search (rules, the_lemmas)
 
-  field_directives : (field : Field) → (out-Field (kept_field known field)).directives ≡ (out-Field field).directives
+  pub field_directives : (field : Field) → (out-Field (kept_field known field)).directives ≡ (out-Field field).directives
   field_directives field = search (rules, the_lemmas)
 
-  inline_directives : (fragment : InlineFragment)
+  pub inline_directives : (fragment : InlineFragment)
       → (out-InlineFragment (kept_inline known fragment)).directives ≡ (out-InlineFragment fragment).directives
   inline_directives fragment = search (rules, the_lemmas)
 
-  selection-Field : (field : Positioned Field)
+  pub selection-Field : (field : Positioned Field)
       → kept_selection known (selection.Field field)
       ≡ kept_if known (out-Field (kept_field known field.node)).directives (selection.Field (left_field known field))
   selection-Field field = search (rules, the_lemmas)
 
-  selection-Spread : (spread : Positioned FragmentSpread)
+  pub selection-Spread : (spread : Positioned FragmentSpread)
       → kept_selection known (selection.FragmentSpread spread)
       ≡ kept_if known spread.node.directives (selection.FragmentSpread (left_spread spread))
   selection-Spread spread = search (rules, the_lemmas)
 
-  selection-Inline : (fragment : Positioned InlineFragment)
+  pub selection-Inline : (fragment : Positioned InlineFragment)
       → kept_selection known (selection.InlineFragment fragment)
       ≡ kept_if known (out-InlineFragment (kept_inline known fragment.node)).directives (selection.InlineFragment (left_inline known fragment))
   selection-Inline fragment = search (rules, the_lemmas)

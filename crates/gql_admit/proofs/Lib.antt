@@ -6,9 +6,11 @@ pub mod CircularLemmas
 pub mod CrowdedLemmas
 pub mod DepthLemmas
 pub mod FirstLemmas
+pub mod FragmentLemmas
 pub mod KeepLemmas
 pub mod LiteralLemmas
 pub mod MarkLemmas
+pub mod NestingLemmas
 pub mod OrderLemmas
 pub mod ReachLemmas
 pub mod RefusalLemmas

@@ -15,6 +15,7 @@ pub mod Left
 pub mod Limits
 pub mod Literals
 pub mod Places
+pub mod Prepared
 pub mod Refusal
 pub mod RulesChecked
 pub mod Spreads

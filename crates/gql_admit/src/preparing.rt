@@ -1,0 +1,289 @@
+//! The preparation of a request: its document, its limits, the rules and its operation (section
+//! 6.1).
+ghost use Rattle.std.specs.Prelude.{◌≡◌, ◌<◌, ◌+◌, [], ◌∷◌, suc, map, take, IfOk, OnOk, None};
+ghost use Rattle.std.specs.Option.{option_copied};
+ghost use Rattle.gql_doc.specs.Depth.{deep, deep_from};
+ghost use Rattle.gql_request.specs.Request.{GivesParsed, set_document};
+ghost use Rattle.gql_select.specs.Constants.{variable_value};
+ghost use Rattle.gql_select.specs.Kept.{kept_fragment, kept_fragments};
+ghost use Rattle.gql_admit.specs.Limits.{IsWithinDepth};
+ghost use Rattle.gql_admit.specs.Prepared.{Admits, IsLimited, IsLooked, IsPrepared, IsSettled};
+ghost use Rattle.gql_admit.specs.Prepared.{directives_limited};
+ghost use Rattle.gql_admit.specs.Prepared.{fault_error as error_of_fault, kept_operation};
+ghost use Rattle.gql_admit.specs.Prepared.{limits_checked};
+ghost use Rattle.gql_admit.specs.Choice.{choice};
+
+use crate::chosen::Chosen;
+use crate::depth::check_depth;
+use crate::directives::check_directives;
+use crate::keeping::keep;
+use crate::operation::choose_operation;
+use crate::refusals::refuse;
+use crate::rules::check_rules;
+use crate::site::Site;
+use gql_base::{Copied, Items, Made, Pairs, ServerError, Variables};
+use gql_doc::{
+    ExecutableDocument, FragmentDefinition, OperationDefinition, ParseFault, Positioned,
+    VariableDefinition, parse_query,
+};
+use gql_request::{QueryEnv, Request};
+use std::alloc::Global;
+
+/// What an execution knows of a request, or the errors of the first stage that the request breaks:
+/// its document is read, unless one is set, lies within the limits and breaks no rule, and the
+/// operation that is asked for is there.
+pub fn prepare(
+    alloc: Global,
+    site: &Site<'_>,
+    request: &Request,
+) -> Made<Result<QueryEnv, Items<ServerError>>>
+    requires { site.now.depth < usize.MAX }
+    ensures { IfOk result (λ prepared. IsPrepared site.now request.now prepared) }
+{
+    match document_of(alloc, request)? {
+        Ok(document) => prepare_document(alloc, site, request, document),
+        Err(fault) => {
+            let error = fault_error(alloc, fault)?;
+            Ok(Err(alone(alloc, error)?))
+        }
+    }
+}
+
+/// The document that is set, or else the one that the query is the text of.
+fn document_of(alloc: Global, request: &Request) -> Made<Result<ExecutableDocument, ParseFault>>
+    ensures { IfOk result (λ read. GivesParsed (set_document request.now) request.now.query read) }
+{
+    if request.has_document() {
+        copied_document(alloc, request)
+    } else {
+        parse_query(alloc, request.query.as_str())
+    }
+}
+
+fn copied_document(alloc: Global, request: &Request) -> Made<Result<ExecutableDocument, ParseFault>>
+    ensures { IfOk result (λ read. GivesParsed (set_document request.now) request.now.query read) }
+{
+    let mut copy = request.try_clone(alloc)?;
+    match copy.parsed_query(alloc)? {
+        Ok(document) => Ok(Ok(document.try_clone(alloc)?)),
+        Err(fault) => Ok(Err(fault)),
+    }
+}
+
+fn fault_error(alloc: Global, fault: ParseFault) -> Made<ServerError>
+    ensures { IfOk result (λ error. error ≡ error_of_fault fault) }
+{
+    refuse(alloc, fault.message(), Some(fault.pos))
+}
+
+fn alone(alloc: Global, error: ServerError) -> Made<Items<ServerError>>
+    ensures { IfOk result (λ errors. errors ≡ error ∷ []) }
+{
+    let mut errors = Items::new(alloc);
+    errors.push(error)?;
+    Ok(errors)
+}
+
+fn prepare_document(
+    alloc: Global,
+    site: &Site<'_>,
+    request: &Request,
+    document: ExecutableDocument,
+) -> Made<Result<QueryEnv, Items<ServerError>>>
+    requires { site.now.depth < usize.MAX }
+    ensures { IfOk result (λ prepared. IsLimited site.now request.now document
+        (limits_checked site.now document) prepared) }
+{
+    match check_limits(alloc, site, &document)? {
+        Ok(()) => prepare_limited(alloc, site, request, document),
+        Err(error) => Ok(Err(alone(alloc, error)?)),
+    }
+}
+
+/// The limits on the depth and on directives.
+fn check_limits(
+    alloc: Global,
+    site: &Site<'_>,
+    document: &ExecutableDocument,
+) -> Made<Result<(), ServerError>>
+    requires { site.now.depth < usize.MAX }
+    ensures checked { IfOk result (λ checked. checked ≡ limits_checked site.now document.now) }
+    ensures within { IfOk result (λ checked. OnOk checked (deep document.now site.now.depth ≡ None)) }
+{
+    match check_depth(alloc, document, site.depth)? {
+        Err(error) => Ok(Err(error)),
+        Ok(()) => check_site_directives(alloc, site, document),
+    }
+}
+
+fn check_site_directives(
+    alloc: Global,
+    site: &Site<'_>,
+    document: &ExecutableDocument,
+) -> Made<Result<(), ServerError>>
+    requires within { IsWithinDepth document.now }
+    requires deep { deep document.now site.now.depth ≡ None }
+    ensures { IfOk result (λ checked. checked
+        ≡ directives_limited document.now site.now.depth site.now.directives) }
+{
+    match site.directives {
+        None => Ok(Ok(())),
+        Some(limit) => check_directives(alloc, document, limit),
+    }
+}
+
+/// The rules of a document within its limits, and its operation.
+fn prepare_limited(
+    alloc: Global,
+    site: &Site<'_>,
+    request: &Request,
+    document: ExecutableDocument,
+) -> Made<Result<QueryEnv, Items<ServerError>>>
+    requires depth { site.now.depth < usize.MAX }
+    requires deep { deep document site.now.depth ≡ None }
+    ensures { IfOk result (λ prepared. IsLooked site.now request.now document prepared) }
+{
+    match check_rules(alloc, site, &document)? {
+        Ok(()) => prepare_ruled(alloc, site, request, document),
+        Err(errors) => Ok(Err(errors)),
+    }
+}
+
+fn prepare_ruled(
+    alloc: Global,
+    site: &Site<'_>,
+    request: &Request,
+    document: ExecutableDocument,
+) -> Made<Result<QueryEnv, Items<ServerError>>>
+    requires depth { site.now.depth < usize.MAX }
+    requires deep { deep document site.now.depth ≡ None }
+    ensures { IfOk result (λ prepared. IsSettled site.now request.now
+        (choice document request.now.operation_name) prepared) }
+{
+    match choose_operation(alloc, document, asked_name(request))? {
+        Ok(chosen) => prepare_chosen(alloc, site, request, chosen),
+        Err(error) => Ok(Err(alone(alloc, error)?)),
+    }
+}
+
+/// The name of the operation that is asked for.
+fn asked_name(request: &Request) -> Option<&str>
+    ensures { option_copied result ≡ request.now.operation_name }
+{
+    match &request.operation_name {
+        None => None,
+        Some(name) => Some(name.as_str()),
+    }
+}
+
+/// What an execution knows of a request whose operation is chosen.
+fn prepare_chosen(
+    alloc: Global,
+    site: &Site<'_>,
+    request: &Request,
+    chosen: Chosen,
+) -> Made<Result<QueryEnv, Items<ServerError>>>
+    requires depth { site.now.depth < usize.MAX }
+    requires deep { deep_from chosen.fragments (suc site.now.depth) chosen.operation.node.selection_set
+        ≡ None }
+    ensures { IfOk result (λ prepared. Admits site.now request.now chosen prepared) }
+{
+    let Chosen {
+        operation_name,
+        operation,
+        fragments,
+    } = chosen;
+    let variables = request.variables.try_clone(alloc)?;
+    let definitions = operation.node.variable_definitions.as_slice();
+    let fragments = keep_fragments(alloc, &fragments, definitions, &variables)?;
+    let operation = keep_operation(alloc, operation, &variables)?;
+    Ok(Ok(QueryEnv::new(
+        variables,
+        operation_name,
+        operation,
+        fragments,
+        request.introspection_mode,
+        site.depth + 1,
+    )))
+}
+
+/// An operation of which the set is kept.
+fn keep_operation(
+    alloc: Global,
+    operation: Positioned<OperationDefinition>,
+    variables: &Variables,
+) -> Made<Positioned<OperationDefinition>>
+    ensures { IfOk result (λ kept. kept ≡ kept_operation
+        (variable_value variables.now operation.node.variable_definitions) operation) }
+{
+    let Positioned { pos, node } = operation;
+    let OperationDefinition {
+        ty,
+        variable_definitions,
+        directives,
+        selection_set,
+    } = node;
+    let definitions = variable_definitions.as_slice();
+    let selection_set = Positioned {
+        pos: selection_set.pos,
+        node: keep(alloc, selection_set.node, definitions, variables)?,
+    };
+    Ok(Positioned {
+        pos,
+        node: OperationDefinition {
+            ty,
+            variable_definitions,
+            directives,
+            selection_set,
+        },
+    })
+}
+
+/// The fragments of which the sets are kept.
+fn keep_fragments(
+    alloc: Global,
+    fragments: &Pairs<Positioned<FragmentDefinition>>,
+    definitions: &[Positioned<VariableDefinition>],
+    variables: &Variables,
+) -> Made<Pairs<Positioned<FragmentDefinition>>>
+    ensures { IfOk result (λ kept. kept
+        ≡ kept_fragments (variable_value variables.now definitions.now) fragments.now) }
+{
+    let mut kept = Vec::with_capacity(alloc, fragments.len())?;
+    for place in 0..fragments.len() {
+        let (_, fragment) = fragments.at(place);
+        let copy = fragment.try_clone(alloc)?;
+        kept.push(keep_fragment(alloc, copy, definitions, variables)?)?;
+    }
+    fragments.with_values(alloc, kept)
+}
+
+/// A fragment of which the set is kept.
+fn keep_fragment(
+    alloc: Global,
+    fragment: Positioned<FragmentDefinition>,
+    definitions: &[Positioned<VariableDefinition>],
+    variables: &Variables,
+) -> Made<Positioned<FragmentDefinition>>
+    ensures { IfOk result (λ kept. kept
+        ≡ kept_fragment (variable_value variables.now definitions.now) fragment) }
+{
+    let Positioned { pos, node } = fragment;
+    let FragmentDefinition {
+        type_condition,
+        directives,
+        selection_set,
+    } = node;
+    let selection_set = Positioned {
+        pos: selection_set.pos,
+        node: keep(alloc, selection_set.node, definitions, variables)?,
+    };
+    Ok(Positioned {
+        pos,
+        node: FragmentDefinition {
+            type_condition,
+            directives,
+            selection_set,
+        },
+    })
+}
