@@ -108,7 +108,8 @@ fn check_limits(
 ) -> Made<Result<(), ServerError>>
     requires { site.now.depth < usize.MAX }
     ensures checked { IfOk result (λ checked. checked ≡ limits_checked site.now document.now) }
-    ensures within { IfOk result (λ checked. OnOk checked (deep document.now site.now.depth ≡ None)) }
+    ensures within { IfOk result
+        (λ checked. OnOk checked (deep document.now site.now.depth ≡ None)) }
 {
     match check_depth(alloc, document, site.depth)? {
         Err(error) => Ok(Err(error)),
@@ -184,8 +185,8 @@ fn prepare_chosen(
     chosen: Chosen,
 ) -> Made<Result<QueryEnv, Items<ServerError>>>
     requires depth { site.now.depth < usize.MAX }
-    requires deep { deep_from chosen.fragments (suc site.now.depth) chosen.operation.node.selection_set
-        ≡ None }
+    requires deep { deep_from chosen.fragments (suc site.now.depth)
+        chosen.operation.node.selection_set ≡ None }
     ensures { IfOk result (λ prepared. Admits site.now request.now chosen prepared) }
 {
     let Chosen {

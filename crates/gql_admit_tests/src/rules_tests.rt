@@ -109,7 +109,7 @@ fn union_type(alloc: Global) -> Made<SchemaType> {
 }
 
 /// The types, without the scalars that are of no field.
-fn types(alloc: Global) -> Made<Types> {
+pub fn types(alloc: Global) -> Made<Types> {
     let mut types = Types::new(alloc);
     let int = Scalar::new(alloc, "Int")?.rule(ScalarRule::Int);
     types.register(alloc, SchemaType::Scalar(int))?;
@@ -123,7 +123,7 @@ fn types(alloc: Global) -> Made<Types> {
 }
 
 /// Each error's text and place.
-fn errors_text(alloc: Global, errors: &Items<ServerError>) -> Made<String> {
+pub fn errors_text(alloc: Global, errors: &Items<ServerError>) -> Made<String> {
     let mut out = String::new(alloc);
     for error in errors.as_slice() {
         out.push_str(error_text(alloc, error)?.as_str())?;

@@ -206,7 +206,7 @@ fn operations_are_chosen(rt: HostRuntime) -> Result<(), Fail> {
 }
 
 /// The variables `$on`, which is true, and `$no`, which is 1.
-fn variables(alloc: Global) -> Made<Variables> {
+pub fn variables(alloc: Global) -> Made<Variables> {
     let mut members = Pairs::new(alloc);
     members.add(Name::new(alloc, "on")?, Value::Boolean(true))?;
     members.add(Name::new(alloc, "no")?, Value::Number(Number::from_i64(1)))?;
