@@ -84,19 +84,13 @@ fn merged_data_are_equal_pair_by_pair(rt: HostRuntime) -> Result<(), Fail> {
 }
 
 /// The path `hero.friends.1.name`.
-fn path(alloc: Global) -> Made<Items<PathSegment>> {
-    let mut path = Items::new(alloc);
-    for key in ["hero", "friends", "1", "name"] {
-        path.push(segment(alloc, key)?)?;
-    }
-    Ok(path)
-}
-
-fn segment(alloc: Global, key: &str) -> Made<PathSegment> {
-    match key {
-        "1" => Ok(PathSegment::Index(1)),
-        _ => Ok(PathSegment::Field(Text::new(alloc, key)?)),
-    }
+fn path(alloc: Global) -> Made<[PathSegment; 4]> {
+    Ok([
+        PathSegment::Field(Text::new(alloc, "hero")?),
+        PathSegment::Field(Text::new(alloc, "friends")?),
+        PathSegment::Index(1),
+        PathSegment::Field(Text::new(alloc, "name")?),
+    ])
 }
 
 /// Whether a place has this text.
@@ -138,7 +132,7 @@ fn has_three_parents(alloc: Global, node: QueryPathNode<'_>) -> Made<bool> {
 fn paths_and_their_parents(rt: HostRuntime) -> Result<(), Fail> {
     let segments = path(rt.alloc())?;
     let node = QueryPathNode {
-        segments: segments.as_slice(),
+        segments: &segments,
     };
     assert!(rt; has_text(rt.alloc(), node, "hero.friends.1.name")?);
     assert!(rt; has_four_texts(rt.alloc(), node)?);
