@@ -1,4 +1,6 @@
 //! Requests over the table of types of the rules' tests, and what their preparation answers.
+ghost use Rattle.std.specs.Prelude.{◌≡◌};
+
 use crate::rules_tests::{errors_text, types};
 use crate::short_form::set_text;
 use crate::tests::variables;
@@ -67,7 +69,9 @@ const REQUESTS: [Asked; 12] = [
     ),
 ];
 
-fn site<'a>(types: &'a Types) -> Site<'a> {
+fn site<'a>(types: &'a Types) -> Site<'a>
+    ensures { result.depth ≡ 2 }
+{
     Site {
         types,
         query: "Query",
