@@ -10,21 +10,21 @@ use Rattle.gql_admit.specs.BreachOrder.{Lists}
 use Rattle.gql_admit.specs.BuiltIn.{built_in}
 use Rattle.gql_admit.specs.Places.{document_places}
 use Rattle.gql_admit.specs.RulesChecked.{IsBreach, at_place, circular, error_of, refused_with}
-use Rattle.gql_admit.specs.Walking.{tells}
+use Rattle.gql_admit.specs.Walking.{tells, terms_in}
 use Rattle.gql_admit.specs.declared.breach.Breach.{Breach}
 use Rattle.gql_admit.specs.declared.walk.Against.{Against}
 
-none_in : {A : Type 0} (x : A) (G : Type 0) → Contains [] x → G
+pub none_in : {A : Type 0} (x : A) (G : Type 0) → Contains [] x → G
 none_in x G (k, within, at) = absurd (omega arith)
 
-one_in : {A : Type 0} (x y : A) → Contains (x ∷ []) y → x ≡ y
+pub one_in : {A : Type 0} (x y : A) → Contains (x ∷ []) y → x ≡ y
 one_in x y (zero, within, at) = at
 one_in x y (suc k, within, at) = absurd (omega arith)
 
-first_in : {A : Type 0} (x : A) (xs : List A) → Contains (x ∷ xs) x
+pub first_in : {A : Type 0} (x : A) (xs : List A) → Contains (x ∷ xs) x
 first_in x xs = (0, omega arith, refl)
 
-later_in : {A : Type 0} (y x : A) (xs : List A) → Contains xs x → Contains (y ∷ xs) x
+pub later_in : {A : Type 0} (y x : A) (xs : List A) → Contains xs x → Contains (y ∷ xs) x
 later_in y x xs at = Contains-append_right (y ∷ []) xs x at
 
 module _ {A B : Type 0} (f : A → List B) where
@@ -54,19 +54,19 @@ module _ {A B : Type 0} (f : A → List B) where
 
 -- what is told of all places and of circular fragments, listed
 pub all_listed : (against : Against) (document : ExecutableDocument) (told_first found list : List Breach) → Lists (Contains found) list
-    → told_first ≡ [] ++ tells against (document_places against.site.now document) → against.fragments.now ≡ document.fragments
-    → against.built.now ≡ built_in → Adds (IsCircular document.fragments) told_first found → Lists (IsBreach against.site.now document) list
+    → told_first ≡ [] ++ tells against (document_places (terms_in against) document) → against.fragments.now ≡ document.fragments
+    → against.built.now ≡ built_in → Adds (IsCircular document.fragments) told_first found → Lists (IsBreach (terms_in against) document) list
 all_listed against document told_first found list lists is fragments built adds =
-    let site = against.site.now in
-    let places = document_places site document in
-    let first : told_first ≡ told built_in site document.fragments places = is ∙ (λ i. told (built i) site (fragments i) places) in
+    let terms = terms_in against in
+    let places = document_places terms document in
+    let first : told_first ≡ told built_in terms document.fragments places = is ∙ (λ i. told (built i) terms (fragments i) places) in
     record {
       in_order = lists.in_order;
       exact = λ e. (
         λ h.
             elim (adds.only e ((lists.exact e).0 h)) [
               | inl at ↦
-                  let from = given_from (told_at built_in site document.fragments) places e (subst (λ xs. Contains xs e) first at) in
+                  let from = given_from (told_at built_in terms document.fragments) places e (subst (λ xs. Contains xs e) first at) in
                   at_place from.item from.there from.gives
               | inr is_circular ↦ circular is_circular
             ],
@@ -74,11 +74,11 @@ all_listed against document told_first found list lists is fragments built adds 
       );
     }
   where
-    among : (e : Breach) → IsBreach against.site.now document e → Contains found e
+    among : (e : Breach) → IsBreach (terms_in against) document e → Contains found e
     among e (at_place place stands breaks) =
         adds.kept e
-        (subst (λ xs. Contains xs e) (sym (is ∙ (λ i. told (built i) against.site.now (fragments i) (document_places against.site.now document))))
-        (given_at (told_at built_in against.site.now document.fragments) (document_places against.site.now document) place e stands breaks))
+        (subst (λ xs. Contains xs e) (sym (is ∙ (λ i. told (built i) (terms_in against) (fragments i) (document_places (terms_in against) document))))
+        (given_at (told_at built_in (terms_in against) document.fragments) (document_places (terms_in against) document) place e stands breaks))
     among e (circular is_circular) = adds.has e is_circular
 
 -- a list that isn't empty is refused with the errors of all

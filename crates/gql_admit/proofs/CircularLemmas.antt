@@ -168,3 +168,6 @@ module _ (fragments : Fragments) where
     only = λ found among.
         elim (adds.only found among) [ inl h ↦ inl h | inr before ↦ inr (record { place = before.place; there = before.there }) ];
   }
+
+-- what stands of fragments before a place
+pub ruleset each_before = (none_before, before_more, all_before)

@@ -8,10 +8,12 @@ pub mod DepthLemmas
 pub mod FirstLemmas
 pub mod FragmentLemmas
 pub mod KeepLemmas
+pub mod ListedLemmas
 pub mod LiteralLemmas
 pub mod MarkLemmas
 pub mod NestingLemmas
 pub mod OrderLemmas
+pub mod PreparedLemmas
 pub mod ReachLemmas
 pub mod RefusalLemmas
 pub mod Rows

@@ -47,3 +47,6 @@ pub other_length : {A : Type 0} (xs : List A) (long : ℕ) → long ≡ length x
 other_length [] long is other = refl
 other_length (x ∷ []) long is other = absurd (other is)
 other_length (x ∷ (y ∷ xs)) long is other = refl
+
+-- whether a length is one
+pub ruleset one_or_other_length = (single_length, other_length)

@@ -78,3 +78,6 @@ led_is graph place got read inside is same = same ∙ get_or_read graph place go
 pub place_read : (list reached : List ℕ) (next : ℕ) → list ≡ reached → next < length reached → slice_get reached next ≡ Some (get_or list next 0)
 place_read list reached next same inside =
     slice_get-get_or reached next 0 inside ∙ ap (λ xs. Some (get_or xs next 0)) (sym same)
+
+-- what a mark says, and one more
+pub ruleset marking = (known_number, fresh_number, marked_more)

@@ -8,9 +8,9 @@ use Rattle.gql_doc.specs.declared.document.SelectionSet.{SelectionSet, out-Selec
 use Rattle.gql_schema.specs.declared.schema_type.SchemaType.{SchemaType}
 use Rattle.gql_admit.specs.Breaches.{told}
 use Rattle.gql_admit.specs.Places.{Place, selection_places, set_places}
+use Rattle.gql_admit.specs.Terms.{Terms}
 use Rattle.gql_admit.specs.declared.breach.Breach.{Breach}
 use Rattle.gql_admit.specs.declared.built_in.BuiltIn.{BuiltIn}
-use Rattle.gql_admit.specs.declared.site.Site.{Site}
 
 module _ {A B : Type 0} (f : A → List B) where
   pub flat_more : (xs : List A) (i : ℕ) (x : A) → slice_get xs i ≡ Some x → flat_map f (take (suc i) xs) ≡ flat_map f (take i xs) ++ f x
@@ -31,25 +31,25 @@ flat_of_map : {A B C : Type 0} (f : B → List C) (g : A → B) (xs : List A) �
 flat_of_map f g [] = refl
 flat_of_map f g (x ∷ xs) = ap (λ cs. f (g x) ++ cs) (flat_of_map f g xs)
 
-module _ (built : BuiltIn) (site : Site) (fragments : Fragments) where
-  pub told_both : (one other : List Place) → told built site fragments (one ++ other) ≡ told built site fragments one ++ told built site fragments other
+module _ (built : BuiltIn) (terms : Terms) (fragments : Fragments) where
+  pub told_both : (one other : List Place) → told built terms fragments (one ++ other) ≡ told built terms fragments one ++ told built terms fragments other
   told_both one other = flat_map-append _ one other
 
   -- the places of one more
   pub told_more : {A : Type 0} (f : A → List Place) (xs : List A) (i : ℕ) (x : A) → slice_get xs i ≡ Some x
-      → told built site fragments (flat_map f (take (suc i) xs)) ≡ told built site fragments (flat_map f (take i xs)) ++ told built site fragments (f x)
-  told_more f xs i x at = ap (told built site fragments) (flat_more f xs i x at) ∙ told_both (flat_map f (take i xs)) (f x)
+      → told built terms fragments (flat_map f (take (suc i) xs)) ≡ told built terms fragments (flat_map f (take i xs)) ++ told built terms fragments (f x)
+  told_more f xs i x at = ap (told built terms fragments) (flat_more f xs i x at) ∙ told_both (flat_map f (take i xs)) (f x)
 
   -- what was told, and what is told of one more
   pub told_step : {A : Type 0} (f : A → List Place) (xs : List A) (i : ℕ) (x : A) (start now more : List Breach) → slice_get xs i ≡ Some x
-      → now ≡ start ++ told built site fragments (flat_map f (take i xs)) → more ≡ now ++ told built site fragments (f x)
-      → more ≡ start ++ told built site fragments (flat_map f (take (i + 1) xs))
+      → now ≡ start ++ told built terms fragments (flat_map f (take i xs)) → more ≡ now ++ told built terms fragments (f x)
+      → more ≡ start ++ told built terms fragments (flat_map f (take (i + 1) xs))
   told_step f xs i x start now more at before added =
-      added ∙ ap (λ bs. bs ++ told built site fragments (f x)) before
-      ∙ append_assoc start (told built site fragments (flat_map f (take i xs))) (told built site fragments (f x))
-      ∙ ap (λ bs. start ++ bs) (sym (told_more f xs i x at)) ∙ ap (λ n. start ++ told built site fragments (flat_map f (take n xs))) (sym (add-one i))
+      added ∙ ap (λ bs. bs ++ told built terms fragments (f x)) before
+      ∙ append_assoc start (told built terms fragments (flat_map f (take i xs))) (told built terms fragments (f x))
+      ∙ ap (λ bs. start ++ bs) (sym (told_more f xs i x at)) ∙ ap (λ n. start ++ told built terms fragments (flat_map f (take n xs))) (sym (add-one i))
 
 -- a set's places are those of its selections
-pub places_in_set : (site : Site) (set : SelectionSet) (ty : SchemaType)
-    → set_places site set ty ≡ flat_map (λ selection. selection_places site selection.node ty) (out-SelectionSet set).items
-places_in_set site set ty = search (rules, the_lemmas, flat_of_map)
+pub places_in_set : (terms : Terms) (set : SelectionSet) (ty : SchemaType)
+    → set_places terms set ty ≡ flat_map (λ selection. selection_places terms selection.node ty) (out-SelectionSet set).items
+places_in_set terms set ty = search (rules, the_lemmas, flat_of_map)

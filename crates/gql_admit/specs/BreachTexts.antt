@@ -20,7 +20,8 @@ leaf_text name ty =
 -- another type without one
 unfoldable pub composite_text : List ℕ → List ℕ → List ℕ
 composite_text name ty =
-    codes "Field \"" ++ (name ++ (codes "\" of type \"" ++ (ty ++ codes "\" must have a selection.")))
+    codes "Field \""
+    ++ (name ++ (codes "\" of type \"" ++ (ty ++ codes "\" must have a selection.")))
 
 -- a spread of a fragment that isn't there
 unfoldable pub unknown_fragment_text : List ℕ → List ℕ

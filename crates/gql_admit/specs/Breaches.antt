@@ -19,12 +19,12 @@ use Rattle.gql_admit.specs.Breach.{breach, unless}
 use Rattle.gql_admit.specs.BreachTexts.{composite_text, condition_text, leaf_text}
 use Rattle.gql_admit.specs.BreachTexts.{unknown_directive_text, unknown_field_text}
 use Rattle.gql_admit.specs.BreachTexts.{unknown_fragment_text}
-use Rattle.gql_admit.specs.FieldTypes.{is_composite, is_leaf, known_field, table_of}
+use Rattle.gql_admit.specs.FieldTypes.{is_composite, is_leaf, known_field}
 use Rattle.gql_admit.specs.Places.{FieldPlace, Place, OnCondition, OnDirective, OnField, OnSpread}
+use Rattle.gql_admit.specs.Terms.{Terms}
 use Rattle.gql_admit.specs.declared.breach.Breach.{Breach}
 use Rattle.gql_admit.specs.declared.breach.BreachKind.TheVariants as kinds
 use Rattle.gql_admit.specs.declared.built_in.BuiltIn.{BuiltIn}
-use Rattle.gql_admit.specs.declared.site.Site.{Site}
 
 -- whether a type that was looked for is there and passes a test
 abbrev pub passes : (SchemaType → Bool) → Option SchemaType → Bool
@@ -33,11 +33,11 @@ passes test (Some ty) = test ty
 
 -- whether the name is that of a type whose fields have no sets, and of an object, an interface or a
 -- union
-abbrev pub is_leaf_named : Site → List ℕ → Bool
-is_leaf_named site name = passes is_leaf (under name (table_of site))
+abbrev pub is_leaf_named : Terms → List ℕ → Bool
+is_leaf_named terms name = passes is_leaf (under name terms.table)
 
-abbrev pub is_composite_named : Site → List ℕ → Bool
-is_composite_named site name = passes is_composite (under name (table_of site))
+abbrev pub is_composite_named : Terms → List ℕ → Bool
+is_composite_named terms name = passes is_composite (under name terms.table)
 
 abbrev pub unknown_field : FieldPlace → Breach
 unknown_field field =
@@ -71,8 +71,9 @@ told_of_spread pos name None = unknown_fragment pos name ∷ []
 told_of_spread pos name (Some fragment) = []
 
 -- a condition names an object, an interface or a union
-abbrev pub told_of_condition : Site → Pos → List ℕ → List Breach
-told_of_condition site pos name = unless (is_composite_named site name) (unknown_condition pos name)
+abbrev pub told_of_condition : Terms → Pos → List ℕ → List Breach
+told_of_condition terms pos name =
+    unless (is_composite_named terms name) (unknown_condition pos name)
 
 abbrev pub unknown_directive : Positioned Directive → Breach
 unknown_directive directive =
@@ -99,31 +100,31 @@ directive_bearing built directive = record {
 }
 
 -- a known field has a set or has none, and its arguments
-abbrev pub told_of_known : Site → FieldPlace → Declared → List Breach
-told_of_known site field declared =
-    told_of_set field declared.ty (is_leaf_named site (innermost declared.ty)) field.has_set
-    ++ told_of_arguments (table_of site) (field_bearing field declared) field.arguments
+abbrev pub told_of_known : Terms → FieldPlace → Declared → List Breach
+told_of_known terms field declared =
+    told_of_set field declared.ty (is_leaf_named terms (innermost declared.ty)) field.has_set
+    ++ told_of_arguments terms.table (field_bearing field declared) field.arguments
 
-module _ (built : BuiltIn) (site : Site) where
+module _ (built : BuiltIn) (terms : Terms) where
   -- a field is one of its type's
   abbrev pub told_of_field : FieldPlace → Option Declared → List Breach
   told_of_field field None = unknown_field field ∷ []
-  told_of_field field (Some declared) = told_of_known site field declared
+  told_of_field field (Some declared) = told_of_known terms field declared
 
   -- a directive is known where it stands, and has its arguments
   abbrev pub told_of_directive : (selects : Bool) → Positioned Directive → List Breach
   told_of_directive selects directive =
       if selects && is_condition directive.node
-      then told_of_arguments (table_of site) (directive_bearing built directive)
+      then told_of_arguments terms.table (directive_bearing built directive)
       directive.node.arguments
       else (unknown_directive directive ∷ [])
 
   module _ (fragments : Fragments) where
     -- the rules that are broken at a place
     abbrev pub told_at : Place → List Breach
-    told_at (OnField field) = told_of_field field (known_field built site field.parent field.name)
+    told_at (OnField field) = told_of_field field (known_field built terms field.parent field.name)
     told_at (OnSpread pos name) = told_of_spread pos name (under name fragments)
-    told_at (OnCondition pos name) = told_of_condition site pos name
+    told_at (OnCondition pos name) = told_of_condition terms pos name
     told_at (OnDirective selects directive) = told_of_directive selects directive
 
     -- those that are broken at some places

@@ -5,17 +5,12 @@ use Rattle.std.specs.Prelude.{option_map, if◌then◌else◌}
 use Rattle.std.specs.Str.{bytes_eq}
 use Rattle.gql_base.specs.declared.type_ref.TypeRef.{TypeRef}
 use Rattle.gql_base.specs.declared.type_ref.TypeRef.TheVariants as ref
-use Rattle.gql_schema.specs.Table.{types_of}
-use Rattle.gql_schema.specs.TableReading.{Declared, TypeTable, declared_in}
+use Rattle.gql_schema.specs.TableReading.{Declared, declared_in}
 use Rattle.gql_schema.specs.Types.{type_name}
 use Rattle.gql_schema.specs.declared.schema_type.SchemaType.{SchemaType}
 use Rattle.gql_schema.specs.declared.schema_type.SchemaType.TheVariants as types
+use Rattle.gql_admit.specs.Terms.{Terms}
 use Rattle.gql_admit.specs.declared.built_in.BuiltIn.{BuiltIn}
-use Rattle.gql_admit.specs.declared.site.Site.{Site}
-
--- the types that a document is checked against
-abbrev pub table_of : Site → TypeTable
-table_of site = types_of site.types.now
 
 -- whether it is the type of a subscription's root
 abbrev pub is_subscription : SchemaType → Bool
@@ -48,19 +43,19 @@ abbrev pub has_typename : SchemaType → List ℕ → Bool
 has_typename ty name = bytes_eq name (codes "__typename") && not (is_subscription ty)
 
 -- `_entities` is known on the type of the query root, where entities are on
-abbrev pub has_entities : Site → SchemaType → List ℕ → Bool
-has_entities site ty name =
-    site.entities && (bytes_eq name (codes "_entities") && bytes_eq (type_name ty) site.query.now)
+abbrev pub has_entities : Terms → SchemaType → List ℕ → Bool
+has_entities terms ty name =
+    terms.entities && (bytes_eq name (codes "_entities") && bytes_eq (type_name ty) terms.query)
 
 -- the type of a field as it is declared
 abbrev pub type_declared : Declared → TypeRef
 type_declared declared = declared.ty
 
 -- the type of the field of this name, where the type has it
-abbrev pub field_type : Site → SchemaType → List ℕ → Option TypeRef
-field_type site ty name =
+abbrev pub field_type : Terms → SchemaType → List ℕ → Option TypeRef
+field_type terms ty name =
     if has_typename ty name then Some typename_type else
-    (if has_entities site ty name
+    (if has_entities terms ty name
     then Some entities_type else option_map type_declared (declared_in name ty))
 
 -- the fields that no type declares, with their arguments
@@ -71,7 +66,7 @@ abbrev pub entities_field : BuiltIn → Declared
 entities_field built = record { ty = entities_type; number = None; arguments = built.entities }
 
 -- the field of this name, where the type has it
-abbrev pub known_field : BuiltIn → Site → SchemaType → List ℕ → Option Declared
-known_field built site ty name =
+abbrev pub known_field : BuiltIn → Terms → SchemaType → List ℕ → Option Declared
+known_field built terms ty name =
     if has_typename ty name then Some (typename_field built) else
-    (if has_entities site ty name then Some (entities_field built) else declared_in name ty)
+    (if has_entities terms ty name then Some (entities_field built) else declared_in name ty)

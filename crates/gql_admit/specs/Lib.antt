@@ -19,5 +19,6 @@ pub mod Prepared
 pub mod Refusal
 pub mod RulesChecked
 pub mod Spreads
+pub mod Terms
 pub mod Walked
 pub mod Walking

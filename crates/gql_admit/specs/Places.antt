@@ -4,7 +4,6 @@
 use Rattle.std.specs.Prelude.{ℕ, Bool, true, false, not, List, [], ◌∷◌, ◌++◌, Option, Some, None}
 use Rattle.std.specs.Prelude.{option_and_then}
 use Rattle.std.specs.List.{flat_map}
-use Rattle.std.specs.Option.{option_copied}
 use Rattle.gql_base.specs.Pairs.{under, values_of}
 use Rattle.gql_base.specs.TypeRef.{innermost}
 use Rattle.gql_base.specs.declared.pos.Pos.{Pos}
@@ -29,8 +28,8 @@ use Rattle.gql_doc.specs.declared.document.SelectionSet.{SelectionSet}
 use Rattle.gql_doc.specs.declared.document.VariableDefinition.{VariableDefinition}
 use Rattle.gql_schema.specs.declared.schema_type.SchemaType.{SchemaType}
 use Rattle.gql_schema.specs.declared.schema_type.SchemaType.TheVariants as types
-use Rattle.gql_admit.specs.FieldTypes.{field_type, table_of}
-use Rattle.gql_admit.specs.declared.site.Site.{Site}
+use Rattle.gql_admit.specs.FieldTypes.{field_type}
+use Rattle.gql_admit.specs.Terms.{Terms}
 
 -- a field without what is beneath it
 pub record FieldPlace : Type 0 where
@@ -110,10 +109,10 @@ abbrev pub as_subscription : Option SchemaType → Option SchemaType
 as_subscription (Some (types.Subscription subscription)) = Some (types.Subscription subscription)
 as_subscription _ = None
 
-module _ (site : Site) where
+module _ (terms : Terms) where
   -- the places on the type of this name
   abbrev pub on_named : List ℕ → Places → List Place
-  on_named name places = on_composite (under name (table_of site)) places
+  on_named name places = on_composite (under name terms.table) places
 
   -- the places of the set of a field of this type, where the field is known
   abbrev pub beneath_field : Option TypeRef → Places → List Place
@@ -137,7 +136,7 @@ module _ (site : Site) where
         has_set = not field.selection_set.node.is_empty;
       })
       ∷ (directive_places true field.directives
-      ++ beneath_field (field_type site ty field.name.node) field.selection_set.node.on)
+      ++ beneath_field (field_type terms ty field.name.node) field.selection_set.node.on)
 
   abbrev pub inline_step : InlineFragment-F Places (Pos → Places) Places SetPlaces → Places
   inline_step fragment ty =
@@ -151,12 +150,13 @@ module _ (site : Site) where
 
   abbrev pub field_places : Field → Pos → Places
   field_places =
-      fold-Field Places (Pos → Places) Places SetPlaces selection_step field_step inline_step set_step
+      fold-Field Places (Pos → Places) Places SetPlaces selection_step field_step inline_step
+      set_step
 
   abbrev pub inline_places : InlineFragment → Places
   inline_places =
-      fold-InlineFragment Places (Pos → Places) Places SetPlaces selection_step field_step inline_step
-      set_step
+      fold-InlineFragment Places (Pos → Places) Places SetPlaces selection_step field_step
+      inline_step set_step
 
   abbrev pub places_of_set : SelectionSet → SetPlaces
   places_of_set =
@@ -169,13 +169,13 @@ module _ (site : Site) where
 
   -- the type of a name, if there is one
   abbrev pub type_named : Option (List ℕ) → Option SchemaType
-  type_named name = option_and_then (λ n. under n (table_of site)) name
+  type_named name = option_and_then (λ n. under n terms.table) name
 
   -- the root of a kind of operation, where there is one (section 3.3.1)
   abbrev pub root_of : OperationType → Option SchemaType
-  root_of Query = as_object (under site.query.now (table_of site))
-  root_of Mutation = as_object (type_named (option_copied site.mutation))
-  root_of Subscription = as_subscription (type_named (option_copied site.subscription))
+  root_of Query = as_object (under terms.query terms.table)
+  root_of Mutation = as_object (type_named terms.mutation)
+  root_of Subscription = as_subscription (type_named terms.subscription)
 
   -- the places of an operation on the type of its root
   abbrev pub rooted_places : Positioned OperationDefinition → Places

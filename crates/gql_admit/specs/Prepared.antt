@@ -20,8 +20,8 @@ use Rattle.gql_admit.specs.Left.{left_set}
 use Rattle.gql_admit.specs.Limits.{depth_checked, directives_checked}
 use Rattle.gql_admit.specs.Refusal.{refusal}
 use Rattle.gql_admit.specs.RulesChecked.{IsChecked}
+use Rattle.gql_admit.specs.Terms.{Terms}
 use Rattle.gql_admit.specs.declared.chosen.Chosen.{Chosen}
-use Rattle.gql_admit.specs.declared.site.Site.{Site}
 
 -- what a request is answered before its execution
 abbrev pub Prepared : Type 0
@@ -46,38 +46,38 @@ known_of request chosen =
 
 -- what an execution knows: the chosen operation and the fragments, without what `@skip` and
 -- `@include` leave out
-pub record IsReady (site : Site) (request : Request) (chosen : Chosen) (env : QueryEnv) : Type 0
+pub record IsReady (terms : Terms) (request : Request) (chosen : Chosen) (env : QueryEnv) : Type 0
   where
     pub variables : env.variables ≡ request.variables
     pub operation_name : env.operation_name ≡ chosen.operation_name
     pub operation : env.operation ≡ kept_operation (known_of request chosen) chosen.operation
     pub fragments : env.fragments ≡ kept_fragments (known_of request chosen) chosen.fragments
     pub introspection_mode : env.introspection_mode ≡ request.introspection_mode
-    pub levels : levels_of env ≡ suc site.depth
+    pub levels : levels_of env ≡ suc terms.depth
 
 -- that a request is admitted with what an execution knows of it
-abbrev pub Admits : Site → Request → Chosen → Prepared → Type 0
-Admits site request chosen (Ok env) = IsReady site request chosen env
-Admits site request chosen (Err errors) = ⊥
+abbrev pub Admits : Terms → Request → Chosen → Prepared → Type 0
+Admits terms request chosen (Ok env) = IsReady terms request chosen env
+Admits terms request chosen (Err errors) = ⊥
 
 -- the answer once the operation was looked for
-abbrev pub IsSettled : Site → Request → Result Chosen ServerError → Prepared → Type 0
-IsSettled site request (Ok chosen) prepared = Admits site request chosen prepared
-IsSettled site request (Err error) prepared = prepared ≡ Err (error ∷ [])
+abbrev pub IsSettled : Terms → Request → Result Chosen ServerError → Prepared → Type 0
+IsSettled terms request (Ok chosen) prepared = Admits terms request chosen prepared
+IsSettled terms request (Err error) prepared = prepared ≡ Err (error ∷ [])
 
 -- the answer once the rules were checked
-abbrev pub IsRuled : Site → Request → ExecutableDocument → Result (Unit {0}) (List ServerError)
+abbrev pub IsRuled : Terms → Request → ExecutableDocument → Result (Unit {0}) (List ServerError)
     → Prepared → Type 0
-IsRuled site request document (Ok passed) prepared =
-    IsSettled site request (choice document request.operation_name) prepared
-IsRuled site request document (Err errors) prepared = prepared ≡ Err errors
+IsRuled terms request document (Ok passed) prepared =
+    IsSettled terms request (choice document request.operation_name) prepared
+IsRuled terms request document (Err errors) prepared = prepared ≡ Err errors
 
 -- the answer to a document within its limits
-pub record IsLooked (site : Site) (request : Request) (document : ExecutableDocument)
+pub record IsLooked (terms : Terms) (request : Request) (document : ExecutableDocument)
     (prepared : Prepared) : Type 0 where
   pub checked : Result (Unit {0}) (List ServerError)
-  pub rules : IsChecked site document checked
-  pub answer : IsRuled site request document checked prepared
+  pub rules : IsChecked terms document checked
+  pub answer : IsRuled terms request document checked prepared
 
 -- the limit on directives, where there is one
 abbrev pub directives_limited : ExecutableDocument → ℕ → Option ℕ → Result (Unit {0}) ServerError
@@ -91,25 +91,25 @@ both_pass (Ok passed) second = second
 both_pass (Err error) second = Err error
 
 -- the limits of a document: first its depth
-abbrev pub limits_checked : Site → ExecutableDocument → Result (Unit {0}) ServerError
-limits_checked site document =
-    both_pass (depth_checked document site.depth)
-    (directives_limited document site.depth site.directives)
+abbrev pub limits_checked : Terms → ExecutableDocument → Result (Unit {0}) ServerError
+limits_checked terms document =
+    both_pass (depth_checked document terms.depth)
+    (directives_limited document terms.depth terms.directives)
 
 -- the answer once the limits were checked
-abbrev pub IsLimited : Site → Request → ExecutableDocument → Result (Unit {0}) ServerError
+abbrev pub IsLimited : Terms → Request → ExecutableDocument → Result (Unit {0}) ServerError
     → Prepared → Type 0
-IsLimited site request document (Ok passed) prepared = IsLooked site request document prepared
-IsLimited site request document (Err error) prepared = prepared ≡ Err (error ∷ [])
+IsLimited terms request document (Ok passed) prepared = IsLooked terms request document prepared
+IsLimited terms request document (Err error) prepared = prepared ≡ Err (error ∷ [])
 
 -- the answer once the document was read
-abbrev pub IsRead : Site → Request → Result ExecutableDocument ParseFault → Prepared → Type 0
-IsRead site request (Ok document) prepared =
-    IsLimited site request document (limits_checked site document) prepared
-IsRead site request (Err fault) prepared = prepared ≡ Err (fault_error fault ∷ [])
+abbrev pub IsRead : Terms → Request → Result ExecutableDocument ParseFault → Prepared → Type 0
+IsRead terms request (Ok document) prepared =
+    IsLimited terms request document (limits_checked terms document) prepared
+IsRead terms request (Err fault) prepared = prepared ≡ Err (fault_error fault ∷ [])
 
 -- the answer to a request
-pub record IsPrepared (site : Site) (request : Request) (prepared : Prepared) : Type 0 where
+pub record IsPrepared (terms : Terms) (request : Request) (prepared : Prepared) : Type 0 where
   pub read : Result ExecutableDocument ParseFault
   pub reads : GivesParsed (set_document request) request.query read
-  pub answer : IsRead site request read prepared
+  pub answer : IsRead terms request read prepared

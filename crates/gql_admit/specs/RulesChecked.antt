@@ -9,15 +9,15 @@ use Rattle.gql_admit.specs.BuiltIn.{built_in}
 use Rattle.gql_admit.specs.Circular.{IsCircular}
 use Rattle.gql_admit.specs.Places.{Place, document_places}
 use Rattle.gql_admit.specs.Refusal.{refusal}
+use Rattle.gql_admit.specs.Terms.{Terms}
 use Rattle.gql_admit.specs.declared.breach.Breach.{Breach}
-use Rattle.gql_admit.specs.declared.site.Site.{Site}
 
 -- a rule that a document breaks: at one of its places, or by a fragment that reaches itself
-pub data IsBreach (site : Site) (document : ExecutableDocument) (found : Breach) : Type 0 where
-  at_place : (place : Place) → Contains (document_places site document) place
-      → Contains (told_at built_in site document.fragments place) found
-      → IsBreach site document found
-  circular : IsCircular document.fragments found → IsBreach site document found
+pub data IsBreach (terms : Terms) (document : ExecutableDocument) (found : Breach) : Type 0 where
+  at_place : (place : Place) → Contains (document_places terms document) place
+      → Contains (told_at built_in terms document.fragments place) found
+      → IsBreach terms document found
+  circular : IsCircular document.fragments found → IsBreach terms document found
 
 -- the error of a breach: its text, at its place
 abbrev pub error_of : Breach → ServerError
@@ -29,8 +29,8 @@ refused_with [] = Ok tt
 refused_with (found ∷ others) = Err (error_of found ∷ map error_of others)
 
 -- the check's answer is what comes of the list of all breaches, in their order, each once
-pub record IsChecked (site : Site) (document : ExecutableDocument)
+pub record IsChecked (terms : Terms) (document : ExecutableDocument)
     (checked : Result (Unit {0}) (List ServerError)) : Type 0 where
   pub breaches : List Breach
-  pub all : Lists (IsBreach site document) breaches
+  pub all : Lists (IsBreach terms document) breaches
   pub answer : checked ≡ refused_with breaches

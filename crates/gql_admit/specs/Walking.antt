@@ -10,13 +10,17 @@ use Rattle.gql_schema.specs.declared.schema_type.SchemaType.{SchemaType}
 use Rattle.gql_admit.specs.Breaches.{told, told_of_field}
 use Rattle.gql_admit.specs.Places.{FieldPlace, OnSpread, Place, directive_places, is_nil, on_named}
 use Rattle.gql_admit.specs.Places.{set_places}
+use Rattle.gql_admit.specs.Terms.{Terms, terms_of}
 use Rattle.gql_admit.specs.declared.breach.Breach.{Breach}
-use Rattle.gql_admit.specs.declared.site.Site.{Site}
 use Rattle.gql_admit.specs.declared.walk.Against.{Against}
+
+-- the terms that a walk goes by
+abbrev pub terms_in : Against → Terms
+terms_in against = terms_of against.site.now
 
 -- the rules that are broken at some places
 abbrev pub tells : Against → List Place → List Breach
-tells against places = told against.built.now against.site.now against.fragments.now places
+tells against places = told against.built.now (terms_in against) against.fragments.now places
 
 -- the place of a field on a type
 abbrev pub field_place : SchemaType → Positioned Field → FieldPlace
@@ -31,16 +35,17 @@ field_place ty field = record {
 -- what is told of a field on a type
 abbrev pub tells_field : Against → SchemaType → Positioned Field → Option Declared → List Breach
 tells_field against ty field known =
-    told_of_field against.built.now against.site.now (field_place ty field) known
+    told_of_field against.built.now (terms_in against) (field_place ty field) known
 
 -- the places of a spread
 abbrev pub spread_places : Positioned FragmentSpread → List Place
 spread_places spread =
-    OnSpread spread.pos spread.node.fragment_name.node ∷ directive_places true spread.node.directives
+    OnSpread spread.pos spread.node.fragment_name.node
+    ∷ directive_places true spread.node.directives
 
 -- the places of a fragment behind its condition
-abbrev pub inner_places : Site → Positioned FragmentDefinition → List Place
-inner_places site fragment =
+abbrev pub inner_places : Terms → Positioned FragmentDefinition → List Place
+inner_places terms fragment =
     directive_places false fragment.node.directives
-    ++ on_named site fragment.node.type_condition.node
-    (set_places site (fragment_set fragment).node)
+    ++ on_named terms fragment.node.type_condition.node
+    (set_places terms (fragment_set fragment).node)

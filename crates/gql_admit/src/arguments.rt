@@ -82,7 +82,8 @@ fn tell_argument(
     found: &mut Items<Breach>,
 ) -> Made<()>
     ensures found { OnOk result (found.new ≡ found.old
-        ++ told_of_argument (types_of types.now) (bearing_behind bearing.now) given.old argument.now) }
+        ++ told_of_argument (types_of types.now) (bearing_behind bearing.now) given.old
+        argument.now) }
     ensures given { OnOk result (given.new ≡ with_name given.old (argument_name argument.now)) }
 {
     tell_doubled(alloc, argument, given, found)?;
@@ -179,7 +180,8 @@ fn tell_missing(
     found: &mut Items<Breach>,
 ) -> Made<()>
     ensures { OnOk result (found.new ≡ found.old
-        ++ flat_map (told_of_missing (bearing_behind bearing.now) given.now) bearing.now.declared.now) }
+        ++ flat_map (told_of_missing (bearing_behind bearing.now) given.now)
+        bearing.now.declared.now) }
 {
     for place in 0..bearing.declared.len() {
         let (name, input) = bearing.declared.at(place);

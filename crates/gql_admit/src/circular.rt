@@ -23,7 +23,7 @@ pub fn tell_circular(
     tell_each(alloc, fragments, graph.as_slice(), found)
 }
 
-#[tactic(auto, using(crate::proofs::CircularLemmas::none_before, crate::proofs::CircularLemmas::before_more, crate::proofs::CircularLemmas::all_before))]
+#[tactic(auto, using(crate::proofs::CircularLemmas::each_before))]
 fn tell_each(
     alloc: Global,
     fragments: &Pairs<Positioned<FragmentDefinition>>,

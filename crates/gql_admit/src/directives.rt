@@ -102,7 +102,8 @@ fn crowded_operations<'a>(
     levels: usize,
     clean: &mut [bool],
 ) -> Option<&'a Positioned<Field>>
-    requires nests { first_in (λ operation. deep_from fragments.now levels (operation_set operation))
+    requires nests { first_in
+        (λ operation. deep_from fragments.now levels (operation_set operation))
         (values_of operations.now) ≡ None }
     requires clean { IsClean fragments.now limit clean.old }
     ensures { option_copied result ≡ first_in
@@ -157,7 +158,8 @@ fn crowded_selections<'a>(
     requires clean { IsClean fragments.now limit clean.old }
     ensures found { option_copied result ≡ first_in
         (λ selection. option_or (crowded_here limit (out-Selection selection.node))
-        (option_and_then (crowded_from fragments.now limit left) (set_beneath fragments.now selection)))
+        (option_and_then (crowded_from fragments.now limit left)
+        (set_beneath fragments.now selection)))
         selections.now }
     ensures clean { IsClean fragments.now limit clean.new }
 {
@@ -181,7 +183,8 @@ fn crowded_selection<'a>(
     requires nests { option_and_then (deep_from fragments.now left)
         (set_under fragments.now (out-Selection selection.now)) ≡ None }
     requires clean { IsClean fragments.now limit clean.old }
-    ensures found { option_copied result ≡ option_or (crowded_here limit (out-Selection selection.now))
+    ensures found { option_copied result
+        ≡ option_or (crowded_here limit (out-Selection selection.now))
         (option_and_then (crowded_from fragments.now limit left)
         (set_under fragments.now (out-Selection selection.now))) }
     ensures clean { IsClean fragments.now limit clean.new }

@@ -5,6 +5,7 @@ ghost use Rattle.gql_admit.specs.FieldTypes.{field_type, has_entities, has_typen
 ghost use Rattle.gql_admit.specs.FieldTypes.{is_leaf, is_subscription};
 ghost use Rattle.gql_admit.specs.FieldTypes.{known_field};
 ghost use Rattle.gql_admit.specs.FieldTypeViews.{known_behind, type_behind};
+ghost use Rattle.gql_admit.specs.Terms.{terms_of};
 ghost use Rattle.gql_admit.specs.declared.built_in.BuiltIn.{BuiltIn as BuiltInArguments};
 
 use crate::built_in::BuiltIn;
@@ -59,9 +60,10 @@ impl<'a> FieldType<'a> {
 impl<'a> Site<'a> {
     /// The field of this name, where the type has it.
     pub fn field_type(&self, ty: &'a SchemaType, name: &str) -> Option<FieldType<'a>>
-        ensures ty { option_map type_behind result ≡ field_type self.now ty.now name.now }
+        ensures ty { option_map type_behind result
+            ≡ field_type (terms_of self.now) ty.now name.now }
         ensures known { (built : BuiltInArguments) → option_map (known_behind built) result
-            ≡ known_field built self.now ty.now name.now }
+            ≡ known_field built (terms_of self.now) ty.now name.now }
     {
         if has_typename(ty, name) {
             return Some(FieldType::Typename);
@@ -74,7 +76,7 @@ impl<'a> Site<'a> {
     }
 
     fn has_entities(&self, ty: &SchemaType, name: &str) -> bool
-        ensures { result ≡ has_entities self.now ty.now name.now }
+        ensures { result ≡ has_entities (terms_of self.now) ty.now name.now }
     {
         self.entities && name == "_entities" && ty.name() == self.query
     }

@@ -1,6 +1,11 @@
-//! The admission of a request, before anything is executed: its limits, the choice of its
-//! operation, and what `@skip` and `@include` leave of it (GraphQL, October 2021, sections 3.13, 5
-//! and 6.1).
+//! The admission of a request, before anything is executed: its limits, the rules of the
+//! specification, the choice of its operation, and what `@skip` and `@include` leave of it
+//! (GraphQL, October 2021, sections 3.13, 5 and 6.1).
+//!
+//! Ten of thirteen rules are checked: on the types of conditions, unknown fields, sets of leaves
+//! and of other types, directives, arguments that are unknown, wanting or doubled, the literals
+//! that they are given, unknown fragments, and fragments that reach themselves. Those on the use of
+//! variables, on their definitions, and on fields that conflict under one key aren't yet.
 #![tactic(auto)]
 
 mod argument_texts;
@@ -19,6 +24,7 @@ mod directives;
 mod field_type;
 mod input_types;
 mod keeping;
+mod laws;
 mod literals;
 mod operation;
 mod preparing;
@@ -35,6 +41,7 @@ pub use chosen::Chosen;
 pub use depth::check_depth;
 pub use directives::check_directives;
 pub use keeping::keep;
+pub use laws::one_preparation_of_a_request;
 pub use operation::choose_operation;
 pub use preparing::prepare;
 pub use rules::check_rules;

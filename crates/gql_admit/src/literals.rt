@@ -273,7 +273,7 @@ pub fn is_other_than_one(value: &DocValue) -> bool
     }
 }
 
-#[tactic(auto, using(crate::proofs::LiteralLemmas::single_length, crate::proofs::LiteralLemmas::other_length))]
+#[tactic(auto, using(crate::proofs::LiteralLemmas::one_or_other_length))]
 fn has_one(members: &Pairs<DocValue>) -> bool
     ensures { result ≡ is_single members.now }
 {

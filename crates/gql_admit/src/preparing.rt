@@ -12,6 +12,7 @@ ghost use Rattle.gql_admit.specs.Prepared.{directives_limited};
 ghost use Rattle.gql_admit.specs.Prepared.{fault_error as error_of_fault, kept_operation};
 ghost use Rattle.gql_admit.specs.Prepared.{limits_checked};
 ghost use Rattle.gql_admit.specs.Choice.{choice};
+ghost use Rattle.gql_admit.specs.Terms.{terms_of};
 
 use crate::chosen::Chosen;
 use crate::depth::check_depth;
@@ -38,7 +39,7 @@ pub fn prepare(
     request: &Request,
 ) -> Made<Result<QueryEnv, Items<ServerError>>>
     requires { site.now.depth < usize.MAX }
-    ensures { IfOk result (λ prepared. IsPrepared site.now request.now prepared) }
+    ensures { IfOk result (λ prepared. IsPrepared (terms_of site.now) request.now prepared) }
 {
     match document_of(alloc, request)? {
         Ok(document) => prepare_document(alloc, site, request, document),
@@ -91,8 +92,8 @@ fn prepare_document(
     document: ExecutableDocument,
 ) -> Made<Result<QueryEnv, Items<ServerError>>>
     requires { site.now.depth < usize.MAX }
-    ensures { IfOk result (λ prepared. IsLimited site.now request.now document
-        (limits_checked site.now document) prepared) }
+    ensures { IfOk result (λ prepared. IsLimited (terms_of site.now) request.now document
+        (limits_checked (terms_of site.now) document) prepared) }
 {
     match check_limits(alloc, site, &document)? {
         Ok(()) => prepare_limited(alloc, site, request, document),
@@ -107,7 +108,8 @@ fn check_limits(
     document: &ExecutableDocument,
 ) -> Made<Result<(), ServerError>>
     requires { site.now.depth < usize.MAX }
-    ensures checked { IfOk result (λ checked. checked ≡ limits_checked site.now document.now) }
+    ensures checked { IfOk result
+        (λ checked. checked ≡ limits_checked (terms_of site.now) document.now) }
     ensures within { IfOk result
         (λ checked. OnOk checked (deep document.now site.now.depth ≡ None)) }
 {
@@ -142,7 +144,7 @@ fn prepare_limited(
 ) -> Made<Result<QueryEnv, Items<ServerError>>>
     requires depth { site.now.depth < usize.MAX }
     requires deep { deep document site.now.depth ≡ None }
-    ensures { IfOk result (λ prepared. IsLooked site.now request.now document prepared) }
+    ensures { IfOk result (λ prepared. IsLooked (terms_of site.now) request.now document prepared) }
 {
     match check_rules(alloc, site, &document)? {
         Ok(()) => prepare_ruled(alloc, site, request, document),
@@ -158,7 +160,7 @@ fn prepare_ruled(
 ) -> Made<Result<QueryEnv, Items<ServerError>>>
     requires depth { site.now.depth < usize.MAX }
     requires deep { deep document site.now.depth ≡ None }
-    ensures { IfOk result (λ prepared. IsSettled site.now request.now
+    ensures { IfOk result (λ prepared. IsSettled (terms_of site.now) request.now
         (choice document request.now.operation_name) prepared) }
 {
     match choose_operation(alloc, document, asked_name(request))? {
@@ -187,7 +189,7 @@ fn prepare_chosen(
     requires depth { site.now.depth < usize.MAX }
     requires deep { deep_from chosen.fragments (suc site.now.depth)
         chosen.operation.node.selection_set ≡ None }
-    ensures { IfOk result (λ prepared. Admits site.now request.now chosen prepared) }
+    ensures { IfOk result (λ prepared. Admits (terms_of site.now) request.now chosen prepared) }
 {
     let Chosen {
         operation_name,

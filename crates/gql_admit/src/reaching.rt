@@ -49,7 +49,7 @@ fn add_all(places: &[usize], marks: &mut [bool], reached: &mut Items<usize>) -> 
     Ok(())
 }
 
-#[tactic(auto, using(crate::proofs::MarkLemmas::known_number, crate::proofs::MarkLemmas::fresh_number, crate::proofs::MarkLemmas::marked_more))]
+#[tactic(auto, using(crate::proofs::MarkLemmas::marking))]
 fn add_one(place: usize, marks: &mut [bool], reached: &mut Items<usize>) -> Made<()>
     requires within { place < length marks.old }
     requires marks { Marks marks.old reached.old }

@@ -3,6 +3,8 @@ ghost use Rattle.std.specs.Prelude.{◌≡◌, IfOk, map};
 ghost use Rattle.gql_admit.specs.BreachOrder.{Lists};
 ghost use Rattle.gql_admit.specs.BuiltIn.{built_in as the_built_in};
 ghost use Rattle.gql_admit.specs.RulesChecked.{IsBreach, IsChecked, error_of, refused_with};
+ghost use Rattle.gql_admit.specs.Terms.{terms_of};
+ghost use Rattle.gql_admit.specs.Walking.{terms_in};
 
 use crate::breach::Breach;
 use crate::breach_order::sorted_once;
@@ -26,7 +28,7 @@ pub fn check_rules(
     site: &Site<'_>,
     doc: &ExecutableDocument,
 ) -> Made<Result<(), Items<ServerError>>>
-    ensures { IfOk result (λ checked. IsChecked site.now doc.now checked) }
+    ensures { IfOk result (λ checked. IsChecked (terms_of site.now) doc.now checked) }
 {
     let built = built_in(alloc)?;
     let breaches = breaches_of(alloc, against(site, doc, &built), doc)?;
@@ -50,7 +52,8 @@ fn against<'a>(site: &'a Site<'a>, doc: &'a ExecutableDocument, built: &'a Built
 fn breaches_of(alloc: Global, against: Against<'_>, doc: &ExecutableDocument) -> Made<Items<Breach>>
     requires fragments { against.fragments.now ≡ doc.now.fragments }
     requires built { against.built.now ≡ the_built_in }
-    ensures { IfOk result (λ breaches. Lists (IsBreach against.entry.site.now doc.now) breaches) }
+    ensures { IfOk result
+        (λ breaches. Lists (IsBreach (terms_in against.entry) doc.now) breaches) }
 {
     let mut found = Items::new(alloc);
     walk_document(alloc, doc, &against, &mut found)?;

@@ -36,7 +36,8 @@ fn spread_in_fragment(
     fragment: &Positioned<FragmentDefinition>,
     fragments: &Pairs<Positioned<FragmentDefinition>>,
 ) -> Made<Items<usize>>
-    ensures places { IfOk result (λ places. places ≡ spread_in (names_of fragments.now) fragment.now) }
+    ensures places { IfOk result
+        (λ places. places ≡ spread_in (names_of fragments.now) fragment.now) }
     ensures below { IfOk result (λ places. AreBelow (length fragments.now) places) }
 {
     let mut places = Items::new(alloc);

@@ -7,10 +7,9 @@ ghost use Rattle.gql_admit.specs.Breaches.{directive_bearing, field_bearing, is_
 ghost use Rattle.gql_admit.specs.Breaches.{told_of_directive, told_of_known};
 ghost use Rattle.gql_admit.specs.Arguments.{told_of_arguments};
 ghost use Rattle.gql_admit.specs.Breaches.{told_of_set, told_of_spread};
-ghost use Rattle.gql_admit.specs.FieldTypes.{known_field, table_of};
 ghost use Rattle.gql_admit.specs.FieldTypeViews.{known_behind, type_behind};
 ghost use Rattle.gql_admit.specs.Places.{directive_places};
-ghost use Rattle.gql_admit.specs.Walking.{field_place, tells, tells_field};
+ghost use Rattle.gql_admit.specs.Walking.{field_place, tells, tells_field, terms_in};
 
 use crate::argument_texts::unknown_directive;
 use crate::arguments::{Bearing, Owner, tell_arguments};
@@ -53,7 +52,7 @@ fn tell_known(
     against: &Against<'_>,
     found: &mut Items<Breach>,
 ) -> Made<()>
-    ensures { OnOk result (found.new ≡ found.old ++ told_of_known against.now.site.now
+    ensures { OnOk result (found.new ≡ found.old ++ told_of_known (terms_in against.now)
         (field_place ty.now field.now) (known_behind against.now.built.now known.now)) }
 {
     tell_set(alloc, field, ty, known, against, found)?;
@@ -69,8 +68,9 @@ fn tell_field_arguments(
     found: &mut Items<Breach>,
 ) -> Made<()>
     ensures { OnOk result (found.new ≡ found.old
-        ++ told_of_arguments (table_of against.now.site.now)
-        (field_bearing (field_place ty.now field.now) (known_behind against.now.built.now known.now))
+        ++ told_of_arguments (terms_in against.now).table
+        (field_bearing (field_place ty.now field.now)
+        (known_behind against.now.built.now known.now))
         (field_place ty.now field.now).arguments) }
 {
     let bearing = Bearing {
@@ -93,7 +93,8 @@ fn tell_set(
 ) -> Made<()>
     ensures { OnOk result (found.new ≡ found.old
         ++ told_of_set (field_place ty.now field.now) (type_behind known.now)
-        (is_leaf_named against.now.site.now (innermost (type_behind known.now))) (field_place ty.now field.now).has_set) }
+        (is_leaf_named (terms_in against.now) (innermost (type_behind known.now)))
+        (field_place ty.now field.now).has_set) }
 {
     let name = field.node.name.node.as_str();
     let is_leaf = is_leaf_name(against, known.inner_name());
@@ -111,7 +112,7 @@ fn tell_set(
 
 /// True exactly where the name is that of a type whose fields have no sets.
 fn is_leaf_name(against: &Against<'_>, name: &str) -> bool
-    ensures { result ≡ is_leaf_named against.now.site.now name.now }
+    ensures { result ≡ is_leaf_named (terms_in against.now) name.now }
 {
     match against.site.types.get(name) {
         None => false,
@@ -145,7 +146,7 @@ fn tell_directive(
     found: &mut Items<Breach>,
 ) -> Made<()>
     ensures { OnOk result (found.new ≡ found.old ++ told_of_directive against.now.built.now
-        against.now.site.now selects directive.now) }
+        (terms_in against.now) selects directive.now) }
 {
     if selects && is_condition(&directive.node) {
         tell_directive_arguments(alloc, directive, against, found)
@@ -162,7 +163,7 @@ fn tell_directive_arguments(
     found: &mut Items<Breach>,
 ) -> Made<()>
     ensures { OnOk result (found.new ≡ found.old
-        ++ told_of_arguments (table_of against.now.site.now)
+        ++ told_of_arguments (terms_in against.now).table
         (directive_bearing against.now.built.now directive.now) directive.now.node.arguments) }
 {
     let bearing = Bearing {

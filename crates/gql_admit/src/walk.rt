@@ -8,7 +8,7 @@ ghost use Rattle.gql_admit.specs.FieldTypeViews.{type_behind};
 ghost use Rattle.gql_admit.specs.Places.{beneath_field, directive_places, field_places};
 ghost use Rattle.gql_admit.specs.Places.{inline_places, on_named};
 ghost use Rattle.gql_admit.specs.Places.{selection_places, set_places, under_condition};
-ghost use Rattle.gql_admit.specs.Walking.{spread_places, tells};
+ghost use Rattle.gql_admit.specs.Walking.{spread_places, tells, terms_in};
 
 use crate::breach::Breach;
 use crate::breach_texts::unknown_condition;
@@ -41,7 +41,7 @@ pub fn walk_set(
     found: &mut Items<Breach>,
 ) -> Made<()>
     ensures { OnOk result (found.new ≡ found.old
-        ++ tells against.now (set_places against.now.site.now set.now ty.now)) }
+        ++ tells against.now (set_places (terms_in against.now) set.now ty.now)) }
 {
     walk_selections(alloc, set.items.as_slice(), ty, against, found)
 }
@@ -55,7 +55,7 @@ fn walk_selections(
     found: &mut Items<Breach>,
 ) -> Made<()>
     ensures { OnOk result (found.new ≡ found.old ++ tells against.now
-        (flat_map (λ selection. selection_places against.now.site.now selection.node ty.now)
+        (flat_map (λ selection. selection_places (terms_in against.now) selection.node ty.now)
         selections.now)) }
 {
     for selection in selections {
@@ -73,7 +73,7 @@ fn walk_selection(
     found: &mut Items<Breach>,
 ) -> Made<()>
     ensures { OnOk result (found.new ≡ found.old
-        ++ tells against.now (selection_places against.now.site.now selection.now ty.now)) }
+        ++ tells against.now (selection_places (terms_in against.now) selection.now ty.now)) }
 {
     match selection {
         Selection::Field(field) => walk_field(alloc, field, ty, against, found),
@@ -92,7 +92,8 @@ fn walk_field(
     found: &mut Items<Breach>,
 ) -> Made<()>
     ensures { OnOk result (found.new ≡ found.old
-        ++ tells against.now (field_places against.now.site.now field.now.node field.now.pos ty.now)) }
+        ++ tells against.now
+        (field_places (terms_in against.now) field.now.node field.now.pos ty.now)) }
 {
     let known = against.site.field_type(ty, field.node.name.node.as_str());
     tell_field(alloc, field, ty, &known, against, found)?;
@@ -122,7 +123,8 @@ fn walk_beneath(
     found: &mut Items<Breach>,
 ) -> Made<()>
     ensures { OnOk result (found.new ≡ found.old ++ tells against.now
-        (beneath_field against.now.site.now (option_map type_behind known.now) (set_places against.now.site.now set.now))) }
+        (beneath_field (terms_in against.now) (option_map type_behind known.now)
+        (set_places (terms_in against.now) set.now))) }
 {
     match known {
         None => Ok(()),
@@ -140,7 +142,7 @@ fn walk_inline(
     found: &mut Items<Breach>,
 ) -> Made<()>
     ensures { OnOk result (found.new ≡ found.old
-        ++ tells against.now (inline_places against.now.site.now inline.now ty.now)) }
+        ++ tells against.now (inline_places (terms_in against.now) inline.now ty.now)) }
 {
     tell_directives(alloc, inline.directives.as_slice(), true, against, found)?;
     walk_under(
@@ -164,7 +166,8 @@ fn walk_under(
     found: &mut Items<Breach>,
 ) -> Made<()>
     ensures { OnOk result (found.new ≡ found.old ++ tells against.now
-        (under_condition against.now.site.now condition.now (set_places against.now.site.now set.now) ty.now)) }
+        (under_condition (terms_in against.now) condition.now
+        (set_places (terms_in against.now) set.now) ty.now)) }
 {
     match condition {
         None => walk_set(alloc, set, ty, against, found),
@@ -185,7 +188,7 @@ pub fn walk_named(
     found: &mut Items<Breach>,
 ) -> Made<()>
     ensures { OnOk result (found.new ≡ found.old ++ tells against.now
-        (on_named against.now.site.now name.now (set_places against.now.site.now set.now))) }
+        (on_named (terms_in against.now) name.now (set_places (terms_in against.now) set.now))) }
 {
     match against.site.types.get(name) {
         None => Ok(()),
@@ -207,7 +210,7 @@ pub fn tell_condition(
     found: &mut Items<Breach>,
 ) -> Made<()>
     ensures { OnOk result (found.new ≡ found.old
-        ++ told_of_condition against.now.site.now condition.now.pos condition.now.node) }
+        ++ told_of_condition (terms_in against.now) condition.now.pos condition.now.node) }
 {
     let name = condition.node.as_str();
     if is_composite_name(against, name) {
@@ -219,7 +222,7 @@ pub fn tell_condition(
 
 /// True exactly where the name is that of an object, an interface or a union.
 fn is_composite_name(against: &Against<'_>, name: &str) -> bool
-    ensures { result ≡ is_composite_named against.now.site.now name.now }
+    ensures { result ≡ is_composite_named (terms_in against.now) name.now }
 {
     match against.site.types.get(name) {
         None => false,

@@ -6,7 +6,8 @@ ghost use Rattle.gql_base.specs.Pairs.{values_of};
 ghost use Rattle.gql_admit.specs.Places.{as_object, as_subscription, document_places};
 ghost use Rattle.gql_admit.specs.Places.{fragment_places, operation_places, root_of, rooted_places};
 ghost use Rattle.gql_admit.specs.Places.{type_named, variable_places};
-ghost use Rattle.gql_admit.specs.Walking.{inner_places, tells};
+ghost use Rattle.gql_admit.specs.Terms.{terms_of};
+ghost use Rattle.gql_admit.specs.Walking.{inner_places, tells, terms_in};
 
 use crate::breach::Breach;
 use crate::site::Site;
@@ -29,7 +30,7 @@ pub fn walk_document(
     found: &mut Items<Breach>,
 ) -> Made<()>
     ensures { OnOk result (found.new ≡ found.old
-        ++ tells against.now (document_places against.now.site.now doc.now)) }
+        ++ tells against.now (document_places (terms_in against.now) doc.now)) }
 {
     match &doc.operations {
         DocumentOperations::Single(operation) => walk_operation(alloc, operation, against, found)?,
@@ -47,7 +48,7 @@ fn walk_operations(
     found: &mut Items<Breach>,
 ) -> Made<()>
     ensures { OnOk result (found.new ≡ found.old ++ tells against.now
-        (flat_map (operation_places against.now.site.now) (values_of operations.now))) }
+        (flat_map (operation_places (terms_in against.now)) (values_of operations.now))) }
 {
     for place in 0..operations.len() {
         let (_, operation) = operations.at(place);
@@ -63,7 +64,7 @@ fn walk_operation(
     found: &mut Items<Breach>,
 ) -> Made<()>
     ensures { OnOk result (found.new ≡ found.old
-        ++ tells against.now (operation_places against.now.site.now operation.now)) }
+        ++ tells against.now (operation_places (terms_in against.now) operation.now)) }
 {
     match against.site.root(operation.node.ty) {
         None => Ok(()),
@@ -81,7 +82,7 @@ fn walk_rooted(
     found: &mut Items<Breach>,
 ) -> Made<()>
     ensures { OnOk result (found.new ≡ found.old
-        ++ tells against.now (rooted_places against.now.site.now operation.now ty.now)) }
+        ++ tells against.now (rooted_places (terms_in against.now) operation.now ty.now)) }
 {
     let variables = operation.node.variable_definitions.as_slice();
     tell_on_variables(alloc, variables, against, found)?;
@@ -130,7 +131,7 @@ fn walk_fragments(
     found: &mut Items<Breach>,
 ) -> Made<()>
     ensures { OnOk result (found.new ≡ found.old ++ tells against.now
-        (flat_map (fragment_places against.now.site.now) (values_of fragments.now))) }
+        (flat_map (fragment_places (terms_in against.now)) (values_of fragments.now))) }
 {
     for place in 0..fragments.len() {
         let (_, fragment) = fragments.at(place);
@@ -146,7 +147,7 @@ fn walk_fragment(
     found: &mut Items<Breach>,
 ) -> Made<()>
     ensures { OnOk result (found.new ≡ found.old
-        ++ tells against.now (fragment_places against.now.site.now fragment.now)) }
+        ++ tells against.now (fragment_places (terms_in against.now) fragment.now)) }
 {
     tell_condition(alloc, &fragment.node.type_condition, against, found)?;
     walk_inner(alloc, fragment, against, found)
@@ -161,7 +162,7 @@ fn walk_inner(
     found: &mut Items<Breach>,
 ) -> Made<()>
     ensures { OnOk result (found.new ≡ found.old
-        ++ tells against.now (inner_places against.now.site.now fragment.now)) }
+        ++ tells against.now (inner_places (terms_in against.now) fragment.now)) }
 {
     tell_directives(
         alloc,
@@ -182,7 +183,7 @@ fn walk_inner(
 impl<'a> Site<'a> {
     /// The type at the root of a kind of operation, where there is one.
     fn root(&self, kind: OperationType) -> Option<&'a SchemaType>
-        ensures { option_copied result ≡ root_of self.now kind }
+        ensures { option_copied result ≡ root_of (terms_of self.now) kind }
     {
         match kind {
             OperationType::Query => object_of(self.types.get(self.query)),
@@ -193,7 +194,7 @@ impl<'a> Site<'a> {
 
     /// The type of a name, where there is one.
     fn named(&self, name: Option<&str>) -> Option<&'a SchemaType>
-        ensures { option_copied result ≡ type_named self.now (option_copied name.entry) }
+        ensures { option_copied result ≡ type_named (terms_of self.now) (option_copied name.entry) }
     {
         match name {
             None => None,

@@ -1,6 +1,6 @@
 use Rattle.std.proofs.Common.{◌++◌, ap, ◌∙◌}
 use Rattle.gql_admit.specs.Places.{document_places}
-use Rattle.gql_admit.specs.Walking.{tells}
+use Rattle.gql_admit.specs.Walking.{tells, terms_in}
 use Rattle.gql_admit.proofs.BreachLemmas.{all_listed}
 use Rattle.gql_admit.proofs.rules.breaches_of.Goals as goal
 
@@ -8,5 +8,5 @@ pub returns : goal.returns
 returns c =
     all_listed c.args.against c.args.doc.now c.walk_document.new.found c.tell_circular.new.found c.sorted_once.result c.sorted_once.ensures
     (c.in_ok-walk_document.ensures
-    ∙ ap (λ xs. xs ++ tells c.args.against (document_places c.args.against.site.now c.args.doc.now)) c.new-found.ensures)
+    ∙ ap (λ xs. xs ++ tells c.args.against (document_places (terms_in c.args.against) c.args.doc.now)) c.new-found.ensures)
     c.requires.fragments c.requires.built c.in_ok-tell_circular.ensures

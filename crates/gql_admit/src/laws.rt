@@ -1,0 +1,11 @@
+//! Laws of what contracts say, as contracts of functions without parameters.
+ghost use Rattle.std.specs.Prelude.{◌≡◌};
+ghost use Rattle.gql_admit.specs.Prepared.{IsPrepared, Prepared};
+ghost use Rattle.gql_admit.specs.Terms.{Terms};
+ghost use Rattle.gql_request.specs.declared.request.Request.{Request as OneRequest};
+
+/// A request has one preparation, whatever site it is admitted at.
+pub fn one_preparation_of_a_request()
+    ensures { (terms : Terms) (request : OneRequest) (one other : Prepared)
+        → IsPrepared terms request one → IsPrepared terms request other → one ≡ other }
+{}
