@@ -1,7 +1,3 @@
-pub mod FirstLemmas
-pub mod FoundLemmas
 mod FreshLemmas
 mod RecordTextLemmas
-pub mod RefusalLemmas
-pub mod RootLemmas
-pub mod TablesLemmas
+mod SumLemmas

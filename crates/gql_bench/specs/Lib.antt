@@ -1,11 +1,16 @@
+pub mod Answer
 pub mod Bench
+pub mod Built
 pub mod FieldTable
-pub mod FirstBench
 pub mod Found
+pub mod Given
 pub mod ListTurns
+pub mod Outcome
 pub mod RecordText
 pub mod Rule
 pub mod SchemaTable
+pub mod Settings
+pub mod Sum
 pub mod Table
 pub mod TableMaker
 pub mod TypeTable

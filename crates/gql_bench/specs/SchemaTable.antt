@@ -1,11 +1,9 @@
 -- The table of the types of a bench.
-use Rattle.std.specs.Prelude.{ℕ, ◌+◌, Bool, ◌||◌, List, [], ◌∷◌, length, if◌then◌else◌}
+use Rattle.std.specs.Prelude.{ℕ, ◌+◌, List, [], ◌∷◌, length}
 use Rattle.gql_form.specs.declared.schema_form.SchemaForm.{SchemaForm}
 use Rattle.gql_form.specs.declared.type_form.TypeForm.{TypeForm}
 use Rattle.gql_form.specs.declared.type_form.TypeForm.TheVariants as forms
 use Rattle.gql_base.specs.Pairs.{put}
-use Rattle.gql_schema.specs.Entities.{has_entities, with_entities}
-use Rattle.gql_schema.specs.Sound.{with_built_in}
 use Rattle.gql_schema.specs.TableReading.{TypeTable}
 use Rattle.gql_schema.specs.Types.{type_name}
 use Rattle.gql_bench.specs.declared.numbers.Numbers.{Numbers}
@@ -18,6 +16,11 @@ after numbers (forms.Object form) =
 after numbers (forms.Subscription form) =
     record numbers { source = numbers.source + length form.fields }
 after numbers _ = numbers
+
+-- the next numbers behind types
+abbrev pub after_all : Numbers → List TypeForm → Numbers
+after_all numbers [] = numbers
+after_all numbers (form ∷ forms) = after_all (after numbers form) forms
 
 -- the numbers of the first resolver and of the first source
 abbrev pub first_numbers : Numbers
@@ -34,16 +37,3 @@ registered table numbers (form ∷ forms) =
 -- the types that a schema declares
 abbrev pub declared_table : SchemaForm → TypeTable
 declared_table schema = registered [] first_numbers schema.types
-
--- the table with the two types of federation, where that is on or an object has a key
-abbrev pub federated_table : Bool → TypeTable → TypeTable
-federated_table federation table =
-    if federation || has_entities table then with_entities table else table
-
--- the types that a schema declares, and those of federation
-abbrev pub full_table : SchemaForm → TypeTable
-full_table schema = federated_table schema.settings.federation (declared_table schema)
-
--- the table that is checked: these, and the scalars of every schema
-abbrev pub whole_table : SchemaForm → TypeTable
-whole_table schema = with_built_in (full_table schema)

@@ -1,96 +1,156 @@
-//! The tables of a bench: its types, and the rules of its resolvers.
-ghost use Rattle.std.specs.Prelude.{◌≡◌, map, IfOk};
-ghost use Rattle.gql_bench.specs.Bench.{IsMadeOf};
-ghost use Rattle.gql_bench.specs.Rule.{rule_of};
+//! A bench with all its members.
+ghost use Rattle.std.specs.Prelude.{◌≡◌, IfOk};
+ghost use Rattle.gql_bench.specs.Bench.{requests_in, session_in, IsBenchOf};
+ghost use Rattle.gql_bench.specs.Built.{is_built, is_logged};
+ghost use Rattle.gql_bench.specs.Given.{given_of};
+ghost use Rattle.gql_bench.specs.Rule.{rules_of, sources_of};
 
-use crate::first_bench::{FirstBench, FirstField};
-use crate::rule::{Rule, RuleKind};
-use gql_base::{Items, Made, Name, Text, Value};
-use gql_schema::{Object, SchemaType, Types};
+use crate::built::{is_built_but_rules, is_built_with, is_logged};
+use crate::given::given_from;
+use crate::rule::Rule;
+use crate::rule_table::RuleTable;
+use crate::schema_table::builder_of;
+use gql_base::{Items, Made};
+use gql_exec::SchemaBuilder;
+use gql_form::{BenchForm, EventForm, SchemaForm, SessionForm, SetupForm, TypeForm, WorkForm};
+use gql_request::BatchRequest;
+use gql_resolve::FieldValue;
 use std::alloc::Global;
 
-/// A bench: the types of its schema, the name of the query root, the rules of its resolvers by
-/// their numbers, the cells of its world, its turns, and the query of its request.
+/// A bench: what a command runs over, and the requests that it answers.
 #[derive(Debug, Drop)]
 pub struct Bench {
-    pub types: Types,
-    pub query: Name,
+    /// The builder of the schema, with the bench's types and settings. Fields of objects have their
+    /// resolvers, and fields of subscriptions their sources, by their numbers in the order of the
+    /// bench.
+    pub builder: SchemaBuilder,
+    /// The rules of the resolvers by their numbers.
     pub rules: Items<Rule>,
+    /// The events of the sources by their numbers.
+    pub sources: Items<Items<EventForm>>,
+    /// The cells of the world.
     pub cells: Items<i64>,
+    /// The value of the object at the root.
+    pub root: FieldValue<i64>,
+    /// The numbers by which the turns go.
     pub turns: Items<u64>,
-    pub request: Text,
+    /// Whether hooks log each stage.
+    pub log: bool,
+    /// The requests: of a session there are none.
+    pub requests: BatchRequest,
+    /// The session with a WebSocket client, where there is one.
+    pub ws: Option<SessionForm>,
+    /// Whether the bench was read without a form that isn't built.
+    built: bool,
 }
 
 impl Bench {
-    ghost use Rattle.std.specs.Prelude.{◌≡◌, Some};
-    ghost use Rattle.std.specs.Option.{option_copied};
-    ghost use Rattle.gql_bench.specs.Bench.{bench_answers, bench_object, IsSuited};
+    ghost use Rattle.std.specs.Prelude.{◌≡◌};
+    ghost use Rattle.gql_bench.specs.Built.{is_built};
 
-    /// The constant that the query root's field of this name answers, or none where there is no
-    /// such field.
-    pub fn constant(&self, name: &str) -> Option<&Value>
-        ensures { option_copied result ≡ bench_answers self.now name.now }
+    /// True exactly where the bench was read without a form that isn't built.
+    pub fn is_built(&self) -> bool
+        ensures { result ≡ is_built self.now }
     {
-        let SchemaType::Object(object) = self.types.get(self.query.as_str())? else {
-            return None;
-        };
-        let field = object.get(name)?;
-        let number = field.resolver();
-        let rule = self.rules.get(number as usize)?;
-        let RuleKind::Const(value) = &rule.kind;
-        Some(value)
-    }
-
-    /// The query root.
-    pub fn root(&self) -> &Object
-        requires { IsSuited self.now }
-        ensures { bench_object self.now ≡ Some result.now }
-    {
-        match self.types.get(self.query.as_str()) {
-            Some(SchemaType::Object(object)) => object,
-            _ => unreachable!(),
-        }
+        self.built
     }
 }
 
-/// The bench of a first bench over these types.
-pub(crate) fn bench_of_first(alloc: Global, first: FirstBench, types: Types) -> Made<Bench>
-    ensures { IfOk result (IsMadeOf first types) }
+/// What a bench has beside its schema, its requests and its session.
+#[derive(Drop)]
+struct Contents {
+    rules: Items<Rule>,
+    sources: Items<Items<EventForm>>,
+    cells: Items<i64>,
+    root: FieldValue<i64>,
+    turns: Items<u64>,
+    log: bool,
+}
+
+/// The bench that was read as this form. What was read is moved.
+pub(crate) fn bench_over(alloc: Global, form: BenchForm) -> Made<Bench>
+    ensures { IfOk result (IsBenchOf form) }
 {
-    let FirstBench {
-        root,
-        fields,
-        query,
-        turns,
-    } = first;
-    let rules = rules_of(alloc, fields)?;
-    Ok(Bench {
-        types,
-        query: root,
+    let builder = builder_of(alloc, &form.setup.schema)?;
+    let so_far = is_built_but_rules(&form);
+    let BenchForm { setup, work } = form;
+    let Contents {
         rules,
-        cells: Items::new(alloc),
+        sources,
+        cells,
+        root,
         turns,
-        request: query,
+        log,
+    } = contents_of(alloc, setup)?;
+    let built = is_built_with(so_far, rules.as_slice());
+    let (requests, ws) = work_of(alloc, work);
+    Ok(Bench {
+        builder,
+        rules,
+        sources,
+        cells,
+        root,
+        turns,
+        log,
+        requests,
+        ws,
+        built,
     })
 }
 
-/// The rules of fields' resolvers, in order.
-fn rules_of(alloc: Global, fields: Items<FirstField>) -> Made<Items<Rule>>
-    ensures { IfOk result (λ rules. rules ≡ map rule_of fields) }
+/// What a setup has beside its schema.
+fn contents_of(alloc: Global, setup: SetupForm) -> Made<Contents>
+    ensures rules { IfOk result (λ contents. contents.rules ≡ rules_of setup.schema.types) }
+    ensures sources { IfOk result (λ contents. contents.sources ≡ sources_of setup.schema.types) }
+    ensures cells { IfOk result (λ contents. contents.cells ≡ setup.cells) }
+    ensures root { IfOk result (λ contents. contents.root ≡ given_of setup.root) }
+    ensures turns { IfOk result (λ contents. contents.turns ≡ setup.turns) }
+    ensures log { IfOk result (λ contents. contents.log ≡ is_logged setup.hooks) }
 {
-    let mut rules = Items::new(alloc);
-    for field in fields.into_vec() {
-        rules.push(rule_for(field))?;
-    }
-    Ok(rules)
+    let SetupForm {
+        schema,
+        cells,
+        root,
+        turns,
+        hooks,
+    } = setup;
+    let root = given_from(alloc, root)?;
+    let RuleTable { rules, sources } = RuleTable::of(alloc, types_of(schema))?;
+    Ok(Contents {
+        rules,
+        sources,
+        cells,
+        root,
+        turns,
+        log: is_logged(hooks),
+    })
 }
 
-/// The rule of a field's resolver.
-fn rule_for(field: FirstField) -> Rule
-    ensures { result ≡ rule_of field }
+/// The types of a schema. The rest of it is let go of.
+fn types_of(schema: SchemaForm) -> Items<TypeForm>
+    ensures { result ≡ schema.types }
 {
-    Rule {
-        delay: field.delay,
-        kind: RuleKind::Const(field.constant),
+    let SchemaForm {
+        query,
+        mutation,
+        subscription,
+        types,
+        settings: _,
+    } = schema;
+    drop(query);
+    drop(mutation);
+    drop(subscription);
+    types
+}
+
+/// The requests and the session that a command has.
+fn work_of(alloc: Global, work: WorkForm) -> (BatchRequest, Option<SessionForm>)
+    ensures requests { result.0 ≡ requests_in work }
+    ensures session { result.1 ≡ session_in work }
+{
+    match work {
+        WorkForm::One(request) => (BatchRequest::Single(request), None),
+        WorkForm::Batch(requests) => (requests, None),
+        WorkForm::Session(session) => (BatchRequest::Batch(Items::new(alloc)), Some(session)),
     }
 }

@@ -1,48 +1,37 @@
-//! The table of the types of a bench.
-ghost use Rattle.std.specs.Prelude.{◌≡◌, [], IfOk};
-ghost use Rattle.gql_schema.specs.Finished.{IsFinished, KeepsTypes};
-ghost use Rattle.gql_schema.specs.Table.{types_of};
-ghost use Rattle.gql_bench.specs.SchemaTable.{federated_table, first_numbers, full_table};
-ghost use Rattle.gql_bench.specs.SchemaTable.{registered, whole_table};
+//! The builder of the schema of a bench, with its types.
+ghost use Rattle.std.specs.Prelude.{◌≡◌, IfOk};
+ghost use Rattle.gql_exec.specs.Builder.{settings_of, table_of};
+ghost use Rattle.gql_bench.specs.SchemaTable.{declared_table, first_numbers, registered};
+ghost use Rattle.gql_bench.specs.Settings.{settings_in};
 
 use crate::numbers::Numbers;
+use crate::settings::builder_with_settings;
 use crate::type_table::type_of;
 use gql_base::Made;
+use gql_exec::SchemaBuilder;
 use gql_form::{SchemaForm, TypeForm};
-use gql_schema::{SchemaError, Types};
 use std::alloc::Global;
 
-/// The finished table of the types of a schema, where no rule is broken in it, and else the first
-/// refusal.
-pub fn schema_types(alloc: Global, schema: &SchemaForm) -> Made<Result<Types, SchemaError>>
-    ensures finished { IfOk result (λ finished. IsFinished (whole_table schema.now) finished) }
-    ensures kept { IfOk result (λ finished. KeepsTypes (full_table schema.now) finished) }
+/// The builder of a schema, with its types and its settings.
+pub(crate) fn builder_of(alloc: Global, schema: &SchemaForm) -> Made<SchemaBuilder>
+    ensures table { IfOk result (λ builder. table_of builder ≡ declared_table schema.now) }
+    ensures settings { IfOk result (λ builder. settings_of builder ≡ settings_in schema.now) }
 {
-    let declared = declared_types(alloc, schema.types.as_slice())?;
-    let types = federated(alloc, declared, schema.settings.federation)?;
-    types.finish(alloc)
+    let builder = builder_with_settings(alloc, schema)?;
+    with_types(alloc, builder, schema.types.as_slice())
 }
 
-/// The table of these types, each under its name.
-fn declared_types(alloc: Global, forms: &[TypeForm]) -> Made<Types>
-    ensures { IfOk result (λ types. types_of types ≡ registered [] first_numbers forms.now) }
+/// This builder with these types, each under its name. Their resolvers and sources are numbered
+/// from the first ones on.
+fn with_types(alloc: Global, mut builder: SchemaBuilder, forms: &[TypeForm]) -> Made<SchemaBuilder>
+    ensures table { IfOk result (λ made. table_of made
+        ≡ registered (table_of builder) first_numbers forms.now) }
+    ensures settings { IfOk result (λ made. settings_of made ≡ settings_of builder) }
 {
-    let mut types = Types::new(alloc);
     let mut numbers = Numbers::first();
     for form in forms {
-        types.register(alloc, type_of(alloc, numbers, form)?)?;
+        builder = builder.register(alloc, type_of(alloc, numbers, form)?)?;
         numbers = numbers.after(form)?;
     }
-    Ok(types)
-}
-
-/// The table with the two types of federation, where that is on or an object has a key.
-fn federated(alloc: Global, types: Types, federation: bool) -> Made<Types>
-    ensures { IfOk result (λ whole. types_of whole ≡ federated_table federation (types_of types)) }
-{
-    if federation || types.has_entities() {
-        types.with_entities(alloc)
-    } else {
-        Ok(types)
-    }
+    Ok(builder)
 }

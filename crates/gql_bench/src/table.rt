@@ -1,6 +1,10 @@
 //! The program's resolver set: the rules of a bench, over its cells.
+ghost use Rattle.std.specs.Prelude.{◌≡◌, IfSome};
+ghost use Rattle.gql_resolve.specs.Lawful.{plain_answer};
+
+use crate::answering::answer_of;
 use crate::bench::Bench;
-use crate::rule::{Rule, RuleKind};
+use crate::rule::Rule;
 use gql_base::{Copied, Items, Made};
 use gql_resolve::{
     Answer, FieldFuture, FieldValue, Polled, RecordEntry, ResolverContext, ResolverSet,
@@ -26,10 +30,13 @@ pub struct TableFuture {
 }
 
 impl Table {
-    ghost use Rattle.std.specs.Prelude.{◌≡◌, ◌++◌, ◌∷◌, [], Some, IfOk, OnOk, OnErr, slice_get};
+    ghost use Rattle.std.specs.Prelude.{◌≡◌, ◌++◌, ◌∷◌, [], Some, IfOk, IfSome, OnOk, OnErr};
+    ghost use Rattle.std.specs.Prelude.{slice_get};
     ghost use Rattle.gql_resolve.specs.Lawful.{plain_answer};
+    ghost use Rattle.gql_resolve.specs.Call.{call_of};
     ghost use Rattle.gql_resolve.specs.Record.{entry_of};
-    ghost use Rattle.gql_bench.specs.Rule.{rule_answer, rule_delay};
+    ghost use Rattle.gql_bench.specs.Rule.{rule_delay};
+    ghost use Rattle.gql_bench.specs.Table.{table_answer};
 
     /// The resolver set of a bench, which has begun nothing.
     pub fn of(alloc: Global, bench: &Bench) -> Made<Table>
@@ -65,17 +72,35 @@ impl Table {
         }
     }
 
-    /// The value that a resolver answers, if any.
-    fn value_of(&self, alloc: Global, resolver: u32) -> Made<Option<FieldValue<i64>>>
-        ensures { IfOk result (λ value. plain_answer value
-            ≡ rule_answer (slice_get self.now.rules resolver)) }
+    /// The answer of a resolver to a call.
+    fn answer_to(&self, alloc: Global, call: &ResolverContext<'_, i64>) -> Made<Answer<i64>>
+        ensures { IfOk result
+            (λ answer. answer ≡ table_answer self.now.rules (call_of call.now) self.now.cells) }
     {
-        let Some(rule) = self.rules.get(resolver as usize) else {
-            return Ok(None);
-        };
-        match &rule.kind {
-            RuleKind::Const(value) => Ok(Some(FieldValue::Value(value.try_clone(alloc)?))),
+        match self.rules.get(call.resolver as usize) {
+            Some(rule) => answer_of(alloc, rule, call, self.cells.as_slice()),
+            None => Ok(Answer {
+                result: Ok(None),
+                added: Items::new(alloc),
+                headers: Items::new(alloc),
+            }),
         }
+    }
+
+    /// The value of a resolver with this delay, if any, where it answers at once and nothing else.
+    fn value_at_once(
+        &self,
+        alloc: Global,
+        call: &ResolverContext<'_, i64>,
+        delay: u64,
+    ) -> Made<Option<Option<FieldValue<i64>>>>
+        ensures { IfOk result (λ found. IfSome found (λ value. (delay ≡ 0) × (plain_answer value
+            ≡ table_answer self.now.rules (call_of call.now) self.now.cells))) }
+    {
+        if delay > 0 {
+            return Ok(None);
+        }
+        Ok(value_alone(self.answer_to(alloc, call)?))
     }
 
     /// Adds an entry to the record.
@@ -86,6 +111,21 @@ impl Table {
     {
         self.told.push(RecordEntry::of(alloc, call, ready)?)
     }
+}
+
+/// The value of an answer, if any, where the answer is nothing else.
+fn value_alone(answer: Answer<i64>) -> Option<Option<FieldValue<i64>>>
+    ensures { IfSome result (λ value. plain_answer value ≡ answer) }
+{
+    let Answer {
+        result,
+        added,
+        headers,
+    } = answer;
+    if !added.is_empty() || !headers.is_empty() {
+        return None;
+    }
+    result.ok()
 }
 
 impl ResolverSet for Table {
@@ -129,18 +169,21 @@ impl ResolverSet for Table {
         call: &ResolverContext<'_, i64>,
     ) -> Made<FieldFuture<i64, TableFuture>> {
         let delay = self.delay_of(call.resolver);
-        if delay > 0 {
-            self.begun.push(call.task)?;
-            return Ok(FieldFuture::Future(TableFuture {
-                resolver: call.resolver,
-                left: delay,
-            }));
+        match self.value_at_once(alloc, call, delay)? {
+            Some(value) => {
+                self.begun.reserve(1)?;
+                self.tell(alloc, call, true)?;
+                self.begun.push_reserved(call.task);
+                Ok(FieldFuture::Value(value))
+            }
+            None => {
+                self.begun.push(call.task)?;
+                Ok(FieldFuture::Future(TableFuture {
+                    resolver: call.resolver,
+                    left: delay,
+                }))
+            }
         }
-        let value = self.value_of(alloc, call.resolver)?;
-        self.begun.reserve(1)?;
-        self.tell(alloc, call, true)?;
-        self.begun.push_reserved(call.task);
-        Ok(FieldFuture::Value(value))
     }
 
     fn poll(
@@ -154,13 +197,9 @@ impl ResolverSet for Table {
             future.left -= 1;
             return Ok(Polled::Pending);
         }
-        let value = self.value_of(alloc, call.resolver)?;
+        let answer = self.answer_to(alloc, call)?;
         self.tell(alloc, call, true)?;
-        Ok(Polled::Ready(Answer {
-            result: Ok(value),
-            added: Items::new(alloc),
-            headers: Items::new(alloc),
-        }))
+        Ok(Polled::Ready(answer))
     }
 
     fn poll_root(

@@ -1,210 +1,304 @@
--- What the bytes of a bench give is one thing, with one record.
-use Rattle.std.proofs.Common.{◌≡◌, ℕ, List, [], ◌∷◌, ◌++◌, Option, Some, None, Result, Ok, Err, inl, inr, refl, ap, sym, ◌∙◌, subst}
-use Rattle.std.specs.Str.{chars}
+-- The bytes of a bench give one thing to a command.
+use Rattle.std.proofs.Common.{◌≡◌, ◌⊎◌, ℕ, ℤ, Bool, true, false, ◌&&◌, List, [], ◌∷◌, ◌++◌, Option, Some, None, Result, Ok, Err, inl, inr, refl, ap, sym, ◌∙◌, subst}
 use Rattle.serde_json.specs.Data.{Data}
-use Rattle.gql_base.specs.declared.value.Value.{Value}
-use Rattle.gql_doc.specs.declared.document.ExecutableDocument.{ExecutableDocument}
+use Rattle.gql_admit.specs.Prepared.{Prepared}
+use Rattle.gql_bench.specs.Bench.{IsBenchOf, requests_in}
+use Rattle.gql_bench.specs.Built.{is_built, is_built_form, is_request}
+use Rattle.gql_bench.specs.Found.{HasTables, IsBadAt, IsReadAs}
+use Rattle.gql_bench.specs.ListTurns.{list_turns}
+use Rattle.gql_bench.specs.Table.{table_delay}
+use Rattle.gql_bench.specs.declared.bench.Bench.{Bench}
+use Rattle.gql_cli.proofs.RecordLaws.{IsWhole, one-record}
+use Rattle.gql_cli.proofs.RefusalLemmas.{never-sound, one-refusal}
+use Rattle.gql_cli.specs.Answer.{Asked, IsLaterBench, IsRefusedTable, IsResponseTo}
+use Rattle.gql_cli.specs.Command.{form_command}
+use Rattle.gql_cli.specs.Execution.{ComesOf, GoesOn, IsExecuted, IsRecord, story}
+use Rattle.gql_cli.specs.Gives.{BenchGives, Gives, IfResponse, IsAnswer, IsBadShape, IsUnbuilt, IsUnsound, JsonGives, json_of, outcome_for, response_text, schema_line, shape_line}
+use Rattle.gql_cli.specs.Request.{IsLater, IsRequestOf, single}
+use Rattle.gql_cli.specs.declared.command.Command.{Command}
+use Rattle.gql_cli.specs.declared.outcome.Outcome.{Outcome}
+use Rattle.gql_cli.specs.declared.outcome.Outcome.TheVariants.{Answered, BadSchema, BadShape, HasErrors, NotBuilt, NotJson, ReadFault, TooLong, Usage}
+use Rattle.gql_engine.specs.declared.scene.Scene.{Scene}
+use Rattle.gql_exec.proofs.ReadyLemmas.{one_ready}
+use Rattle.gql_exec.specs.Builder.{IsSchemaOf, settings_of, table_of, whole_table}
+use Rattle.gql_exec.specs.Execution.{Ask, asks}
+use Rattle.gql_exec.specs.Root.{root_for}
+use Rattle.gql_exec.specs.Scene.{scene_for}
+use Rattle.gql_exec.specs.Schema.{settings_of as schema_settings, types_in}
+use Rattle.gql_exec.specs.declared.builder.SchemaBuilder.{SchemaBuilder}
+use Rattle.gql_exec.specs.declared.dynamic_request.DynamicRequest.{DynamicRequest}
+use Rattle.gql_exec.specs.declared.schema.Schema.{Schema}
 use Rattle.gql_form.specs.BenchForm.{form_in}
 use Rattle.gql_form.specs.declared.bench_form.BenchForm.{BenchForm}
-use Rattle.gql_doc.proofs.ParseLaws.{one_document, one_document_fault, never_both}
+use Rattle.gql_form.specs.declared.work_form.WorkForm.{WorkForm}
+use Rattle.gql_form.specs.declared.work_form.WorkForm.TheVariants as work
+use Rattle.gql_merged.specs.Jobs.{Job}
+use Rattle.gql_merged.specs.Run.{root_jobs}
+use Rattle.gql_request.specs.declared.query_env.QueryEnv.{QueryEnv}
+use Rattle.gql_request.specs.declared.request.Request.{Request}
+use Rattle.gql_request.specs.declared.response.Response.{Response}
 use Rattle.gql_resolve.specs.declared.record_entry.RecordEntry.{RecordEntry}
-use Rattle.gql_cli.specs.Answer.{Chooses, IsAnswerOf, IsRefusalOf, IsResponse, error_of, data_response, refusal, response_line}
-use Rattle.gql_cli.specs.Written.{BenchGives, Gives, IfResponse, IsAnswered, JsonGives, SoundGives, first_request, json_of, lines_for, schema_line, IsBadShape, shape_line}
-use Rattle.gql_cli.specs.BenchRecord.{AreAsked, BenchTask, IsDocumentRecord, IsQueryRecord, IsRecord}
+use Rattle.gql_schema.specs.Table.{types_of}
+use Rattle.gql_schema.specs.declared.object.Object.{Object}
 use Rattle.gql_schema.specs.declared.schema_error.SchemaError.{SchemaError}
-use Rattle.gql_bench.specs.SchemaTable.{whole_table}
-use Rattle.gql_bench.proofs.RefusalLemmas.{never-sound, one-refusal}
-use Rattle.gql_bench.specs.Found.{IsReadAs}
-use Rattle.gql_cli.specs.Command.{form_command}
-use Rattle.gql_cli.specs.declared.command.Command.{Command}
-use Rattle.gql_cli.specs.declared.written.Written.{Written}
-use Rattle.gql_cli.specs.declared.written.Written.TheVariants.{Answered, Refused, NotJson, BadShape, BadSchema, NotBuilt}
-use Rattle.gql_bench.specs.declared.first_bench.FirstBench.{FirstBench}
-use Rattle.gql_cli.proofs.BenchLemmas.{first-same, some-same}
-use Rattle.gql_cli.proofs.QueryLemmas.{asks-same}
-use Rattle.gql_cli.proofs.RecordLemmas.{one-record}
 
-module _ (task_of : List ℕ → Option BenchTask) where
-  asked-same : (names : List (List ℕ)) (ts us : List BenchTask) → AreAsked task_of names ts → AreAsked task_of names us → ts ≡ us
-  asked-same [] [] [] h k = refl
-  asked-same [] [] (u ∷ us) h k = absurd k
-  asked-same [] (t ∷ ts) us h k = absurd h
-  asked-same (n ∷ ns) [] us h k = absurd h
-  asked-same (n ∷ ns) (t ∷ ts) [] h k = absurd k
-  asked-same (n ∷ ns) (t ∷ ts) (u ∷ us) (here, h) (there, k) = λ i. some-same (sym here ∙ there) i ∷ asked-same ns ts us h k i
+module _ (bench : Bench) where
+  abbrev delay : Job ℤ → ℕ
+  delay job = table_delay bench.rules job.asking.call.resolver
 
-  document-record : (turns : List ℕ) (document : ExecutableDocument) (one other : List RecordEntry) → IsDocumentRecord task_of turns document one
-      → IsDocumentRecord task_of turns document other → one ≡ other
-  document-record turns document one other a b =
-      let names = asks-same document a.names b.names a.selects.0 b.selects.0 in
-      let tasks = asked-same b.names a.tasks b.tasks (subst (λ ns. AreAsked task_of ns a.tasks) names a.asked) b.asked in
-      one-record turns b.tasks one other (subst (λ ts. IsRecord turns ts one) tasks a.is) b.is
+  module _ (scene : Scene ℤ) where
+    whole-record : (told : List RecordEntry) → IsRecord bench scene told → IsWhole list_turns (story bench) delay (bench.turns, 0) (root_jobs scene) told
+    whole-record told is = record { turned = is.turned; whole = is.whole; paced = is.paced }
 
-  -- a query has one record
-  pub query-record : (turns query : List ℕ) (one other : List RecordEntry) → IsQueryRecord task_of turns query one
-      → IsQueryRecord task_of turns query other → one ≡ other
-  query-record turns query one other (d, spelled, is) (e, spelled', is') =
-      let same = one_document (chars query) d e spelled spelled' in
-      document-record turns e one other (subst (λ document. IsDocumentRecord task_of turns document one) same is) is'
+    -- a scene has one record
+    pub scene-record : (one other : List RecordEntry) → IsRecord bench scene one → IsRecord bench scene other → one ≡ other
+    scene-record one other a b =
+        one-record list_turns (story bench) delay (bench.turns, 0) (root_jobs scene) one other (whole-record one a) (whole-record other b)
 
-module _ (answers : List ℕ → Option Value) where
-  chosen-same : (names : List (List ℕ)) (ps qs : List (List ℕ × Value)) → Chooses answers names ps → Chooses answers names qs → ps ≡ qs
-  chosen-same [] [] [] h k = refl
-  chosen-same [] [] (q ∷ qs) h k = absurd k
-  chosen-same [] (p ∷ ps) qs h k = absurd h
-  chosen-same (n ∷ ns) [] qs h k = absurd h
-  chosen-same (n ∷ ns) (p ∷ ps) [] h k = absurd k
-  chosen-same (n ∷ ns) (p ∷ ps) (q ∷ qs) (here, h) (there, k) =
-      λ i. ((here.0 ∙ sym there.0) i, some-same (sym here.1 ∙ there.1) i) ∷ chosen-same ns ps qs h k i
+  -- two responses are one, with their records
+  abbrev AreOne : Response → Response → List RecordEntry → List RecordEntry → Type 0
+  AreOne r s es fs = (r ≡ s) × (es ≡ fs)
 
-  response-same : (document : ExecutableDocument) (s t : List ℕ) → IsResponse answers document s → IsResponse answers document t → s ≡ t
-  response-same document s t a b =
-      let names = asks-same document a.names b.names a.selects.0 b.selects.0 in
-      let chosen = chosen-same b.names a.chosen b.chosen (subst (λ ns. Chooses answers ns a.chosen) names a.chooses) b.chooses in
-      a.is ∙ ap (λ pairs. response_line (data_response pairs)) chosen ∙ sym b.is
+  module _ (ask : Ask ℤ) (r s : Response) (es fs : List RecordEntry) where
+    goes-same : (env : QueryEnv) (root : Result Object (List ℕ)) → GoesOn bench ask r es env root → GoesOn bench ask s fs env root → AreOne r s es fs
+    goes-same env (Ok object) (a, m) (b, n) = (a ∙ sym b, scene-record (scene_for ask.schema ask.request env object) es fs m n)
+    goes-same env (Err text) (a, m) (b, n) = (a ∙ sym b, m ∙ sym n)
 
-  answer-same : (query s t : List ℕ) → IsAnswerOf answers query s → IsAnswerOf answers query t → s ≡ t
-  answer-same query s t (d, spelled, is) (e, spelled', is') =
-      let same = one_document (chars query) d e spelled spelled' in
-      response-same e s t (subst (λ document. IsResponse answers document s) same is) is'
+    comes-same : (outcome : Prepared) → ComesOf bench ask r es outcome → ComesOf bench ask s fs outcome → AreOne r s es fs
+    comes-same (Ok env) a b = goes-same env (root_for ask.schema env.operation.node.ty) a b
+    comes-same (Err errors) (a, m) (b, n) = (a ∙ sym b, m ∙ sym n)
 
-  never-answered : (query s t : List ℕ) → IsAnswerOf answers query s → IsRefusalOf query t → ⊥
-  never-answered query s t (d, spelled, is) (fault, faulty, line) = never_both (chars query) d fault spelled faulty
+    -- a request over a schema has one response and one record
+    pub executed-same : IsExecuted bench ask r es → IsExecuted bench ask s fs → AreOne r s es fs
+    executed-same a b =
+        let same = one_ready ask.schema ask.request.inner a.outcome b.outcome a.ready b.ready in
+        comes-same b.outcome (subst (λ outcome. ComesOf bench ask r es outcome) same a.comes) b.comes
 
-refusal-same : (query s t : List ℕ) → IsRefusalOf query s → IsRefusalOf query t → s ≡ t
-refusal-same query s t (f, faulty, is) (g, faulty', is') =
-    is ∙ ap (λ fault. response_line (refusal (error_of fault ∷ []))) (one_document_fault (chars query) f g faulty faulty') ∙ sym is'
-
--- two results are one, and where that is a response, so are their records
-abbrev AreOne : Written → Written → List RecordEntry → List RecordEntry → Type 0
-AreOne one other entries others = (one ≡ other) × IfResponse one (entries ≡ others)
-
-module _ (command : Command) where
-  answered-same : (first : FirstBench) (s t : List ℕ) (entries others : List RecordEntry) → IsAnswered command (first_request first) s entries
-      → IsAnswered command (first_request first) t others → AreOne (Answered s) (Answered t) entries others
-  answered-same first s t entries others a b =
-      let request = first_request first in
-      let told = query-record request.task_of request.turns request.query entries others a.recorded b.recorded in
-      let response = answer-same request.answers request.query a.response b.response a.answers b.answers in
-      (ap Answered (a.is ∙ (λ i. lines_for command (told i) ++ response i) ∙ sym b.is), told)
-
-  -- what a bench with sound types gives
-  sound-same : (form : BenchForm) (one other : Written) (entries others : List RecordEntry) → SoundGives command form one entries
-      → SoundGives command form other others → AreOne one other entries others
-  sound-same form (Answered s) (Answered t) entries others (f, shaped, a) (g, shaped', b) =
-      let same = first-same form f g shaped shaped' in
-      answered-same g s t entries others (subst (λ first. IsAnswered command (first_request first) s entries) same a) b
-  sound-same form (Answered s) (Refused t) entries others (f, shaped, a) ((g, shaped', refusal), none) =
-      let same = first-same form g f shaped' shaped in
-      let request = first_request f in
-      absurd (never-answered request.answers f.query a.response t a.answers (subst (λ (first : FirstBench). IsRefusalOf first.query t) same refusal))
-  sound-same form (Answered s) NotBuilt entries others (f, shaped, a) none = absurd (none.0 a.response (f, shaped, a.answers))
-  sound-same form (Answered s) NotJson entries others a b = absurd b
-  sound-same form (Refused s) (Answered t) entries others ((g, shaped', refusal), none) (f, shaped, a) =
-      let same = first-same form g f shaped' shaped in
-      let request = first_request f in
-      absurd (never-answered request.answers f.query a.response s a.answers (subst (λ (first : FirstBench). IsRefusalOf first.query s) same refusal))
-  sound-same form (Refused s) (Refused t) entries others ((f, shaped, a), none) ((g, shaped', b), none') =
-      let same = first-same form f g shaped shaped' in
-      (ap Refused (refusal-same g.query s t (subst (λ (first : FirstBench). IsRefusalOf first.query s) same a) b), none ∙ sym none')
-  sound-same form (Refused s) NotBuilt entries others (refusal, empty) none = absurd (none.1 s refusal)
-  sound-same form (Refused s) NotJson entries others a b = absurd b
-  sound-same form NotBuilt (Answered t) entries others none (f, shaped, b) = absurd (none.0 b.response (f, shaped, b.answers))
-  sound-same form NotBuilt (Refused t) entries others none (refusal, empty) = absurd (none.1 t refusal)
-  sound-same form NotBuilt NotBuilt entries others a b = (refl, tt)
-  sound-same form NotBuilt NotJson entries others a b = absurd b
-  sound-same form (Answered s) (BadShape t) entries others a b = absurd b
-  sound-same form (Refused s) (BadShape t) entries others a b = absurd b
-  sound-same form NotBuilt (BadShape t) entries others a b = absurd b
-  sound-same form NotJson other entries others a b = absurd a
-  sound-same form (BadShape s) other entries others a b = absurd a
-  sound-same form (Answered s) (BadSchema t) entries others a b = absurd b
-  sound-same form (Refused s) (BadSchema t) entries others a b = absurd b
-  sound-same form NotBuilt (BadSchema t) entries others a b = absurd b
-  sound-same form (BadSchema s) other entries others a b = absurd a
-
-  -- what a bench gives
-  bench-same : (form : BenchForm) (one other : Written) (entries others : List RecordEntry) → BenchGives command form one entries
-      → BenchGives command form other others → AreOne one other entries others
-  bench-same form one other entries others (inl (s, (e, refusal, is), line)) (inl (t, (f, refusal', is'), line')) =
-      let texts = is ∙ ap (λ (error : SchemaError). error.text) (one-refusal (whole_table form.setup.schema) e f refusal refusal') ∙ sym is' in
-      (line ∙ ap (λ text. BadSchema (schema_line text)) texts ∙ sym line', subst (λ written. IfResponse written (entries ≡ others)) (sym line) tt)
-  bench-same form one other entries others (inl (s, (e, refusal, is), line)) (inr (sound, gives)) =
-      absurd (never-sound (whole_table form.setup.schema) e refusal sound)
-  bench-same form one other entries others (inr (sound, gives)) (inl (t, (f, refusal, is), line)) =
-      absurd (never-sound (whole_table form.setup.schema) f refusal sound)
-  bench-same form one other entries others (inr (sound, a)) (inr (sound', b)) = sound-same form one other entries others a b
-
-  never-both : (json : Data) (s : List ℕ) → IsBadShape command json s → (form : BenchForm) → IsReadAs (form_command command) json form → ⊥
-  never-both json s (place, bad, is) form read = let wrong : Err place ≡ Ok form = sym bad ∙ read in cc
-
-  read-same : (json : Data) (form other : BenchForm) → IsReadAs (form_command command) json form → IsReadAs (form_command command) json other → form ≡ other
-  read-same json form other one two = let both : Ok form ≡ Ok other = sym one ∙ two in cc
-
-  -- what a JSON value gives as a bench, where it is read as one
-  read-gives : (json : Data) (form : BenchForm) → IsReadAs (form_command command) json form → (written : Written) (entries : List RecordEntry)
-      → JsonGives command json written entries → BenchGives command form written entries
-  read-gives json form read (BadShape s) entries bad = absurd (never-both json s bad form read)
-  read-gives json form read (Answered s) entries (other, also, gives) =
-      subst (λ f. BenchGives command f (Answered s) entries) (read-same json other form also read) gives
-  read-gives json form read (Refused s) entries (other, also, gives) =
-      subst (λ f. BenchGives command f (Refused s) entries) (read-same json other form also read) gives
-  read-gives json form read NotBuilt entries (other, also, gives) =
-      subst (λ f. BenchGives command f NotBuilt entries) (read-same json other form also read) gives
-  read-gives json form read (BadSchema s) entries (other, also, gives) =
-      subst (λ f. BenchGives command f (BadSchema s) entries) (read-same json other form also read) gives
-  read-gives json form read NotJson entries (other, also, gives) =
-      subst (λ f. BenchGives command f NotJson entries) (read-same json other form also read) gives
-
-  -- what a JSON value gives
-  json-same : (json : Data) (one other : Written) (entries others : List RecordEntry) → JsonGives command json one entries
-      → JsonGives command json other others → AreOne one other entries others
-  json-same json one other entries others a b = by (form_in (form_command command) json) refl
+  -- a bench has one schema and one request at most
+  asked-same : (one other : Asked bench) → (one.schema ≡ other.schema) × (one.request ≡ other.request)
+  asked-same one other =
+      let inner : Some one.request.inner ≡ Some other.request.inner = sym one.asked.0 ∙ other.asked.0 in
+      let request : one.request.inner ≡ other.request.inner = cc in
+      let root = one.asked.1 ∙ sym other.asked.1 in
+      (schema-same, λ i. record { inner = request i; root_value = root i })
     where
-      bad : (place : List ℕ) → form_in (form_command command) json ≡ Err place → (written : Written) (told : List RecordEntry)
-          → JsonGives command json written told → written ≡ BadShape (shape_line place)
-      bad place none (BadShape s) told (p, here, is) =
-          let places : Err p ≡ Err place = sym here ∙ none in
-          let same : p ≡ place = cc in
-          ap BadShape (is ∙ ap shape_line same)
-      bad place none (Answered s) told (form, read, gives) = let wrong : Err place ≡ Ok form = sym none ∙ read in cc
-      bad place none (Refused s) told (form, read, gives) = let wrong : Err place ≡ Ok form = sym none ∙ read in cc
-      bad place none NotBuilt told (form, read, gives) = let wrong : Err place ≡ Ok form = sym none ∙ read in cc
-      bad place none (BadSchema s) told (form, read, gives) = let wrong : Err place ≡ Ok form = sym none ∙ read in cc
-      bad place none NotJson told (form, read, gives) = let wrong : Err place ≡ Ok form = sym none ∙ read in cc
+      table : types_of (types_in one.schema) ≡ types_of (types_in other.schema)
+      table = one.is.table ∙ sym other.is.table
 
-      by : (read : Result BenchForm (List ℕ)) → form_in (form_command command) json ≡ read → AreOne one other entries others
-      by (Ok form) is = bench-same form one other entries others (read-gives json form is one entries a) (read-gives json form is other others b)
-      by (Err place) is =
-          let first = bad place is one entries a in
-          (first ∙ sym (bad place is other others b), subst (λ written. IfResponse written (entries ≡ others)) (sym first) tt)
+      settings : schema_settings one.schema ≡ schema_settings other.schema
+      settings = one.is.settings ∙ sym other.is.settings
 
-  -- what bytes give, their JSON gives, where they have one
-  given-json : (bytes : List ℕ) (json : Data) → json_of bytes ≡ Some json → (written : Written) (entries : List RecordEntry)
-      → Gives command bytes written entries → JsonGives command json written entries
-  given-json bytes json is (Answered s) entries (j, is', gives) = subst (λ d. JsonGives command d (Answered s) entries) (some-same (sym is' ∙ is)) gives
-  given-json bytes json is (Refused s) entries (j, is', gives) = subst (λ d. JsonGives command d (Refused s) entries) (some-same (sym is' ∙ is)) gives
-  given-json bytes json is NotBuilt entries (j, is', gives) = subst (λ d. JsonGives command d NotBuilt entries) (some-same (sym is' ∙ is)) gives
-  given-json bytes json is (BadShape s) entries (j, is', gives) = subst (λ d. JsonGives command d (BadShape s) entries) (some-same (sym is' ∙ is)) gives
-  given-json bytes json is (BadSchema s) entries (j, is', gives) = subst (λ d. JsonGives command d (BadSchema s) entries) (some-same (sym is' ∙ is)) gives
-  given-json bytes json is NotJson entries none = let wrong : None ≡ Some json = sym none ∙ is in cc
+      schema-same : one.schema ≡ other.schema
+      schema-same = cc
 
-  given-nothing : (bytes : List ℕ) → json_of bytes ≡ None → (written : Written) (entries : List RecordEntry)
-      → Gives command bytes written entries → written ≡ NotJson
-  given-nothing bytes none (Answered s) entries (j, is, gives) = let wrong : None ≡ Some j = sym none ∙ is in cc
-  given-nothing bytes none (Refused s) entries (j, is, gives) = let wrong : None ≡ Some j = sym none ∙ is in cc
-  given-nothing bytes none NotBuilt entries (j, is, gives) = let wrong : None ≡ Some j = sym none ∙ is in cc
-  given-nothing bytes none (BadShape s) entries (j, is, gives) = let wrong : None ≡ Some j = sym none ∙ is in cc
-  given-nothing bytes none (BadSchema s) entries (j, is, gives) = let wrong : None ≡ Some j = sym none ∙ is in cc
-  given-nothing bytes none NotJson entries is = refl
+  response-same : (told said : Option (List RecordEntry)) (r s : Response) → (a : IsResponseTo bench told r) → (b : IsResponseTo bench said s)
+      → AreOne r s a.entries b.entries
+  response-same told said r s a b =
+      let (schema, request) = asked-same a.asks_for b.asks_for in
+      let same : asks a.asks_for.schema a.asks_for.request ≡ asks b.asks_for.schema b.asks_for.request = λ i. asks (schema i) (request i) in
+      executed-same (asks b.asks_for.schema b.asks_for.request) r s a.entries b.entries
+      (subst (λ ask. IsExecuted bench ask r a.entries) same a.executed) b.executed
+
+  later-same : (one other : Asked bench) → IsLater one.schema one.request.inner → IsLater other.schema other.request.inner
+  later-same one other later =
+      let (schema, request) = asked-same one other in
+      subst (λ (p : Schema × DynamicRequest ℤ). IsLater p.0 p.1.inner) (λ i. (schema i, request i)) later
+
+  -- a table that is refused has no schema
+  never-schema : (text : List ℕ) → IsRefusedTable bench text → (schema : Schema) → IsSchemaOf bench.builder schema → ⊥
+  never-schema text (error, refused, is) schema made = never-sound (whole_table bench.builder) error refused made.sound
+
+if-response : (outcome : Outcome) (P : Type 0) → P → IfResponse outcome P
+if-response (Answered text) P p = p
+if-response (HasErrors text) P p = p
+if-response Usage P p = tt
+if-response ReadFault P p = tt
+if-response TooLong P p = tt
+if-response NotJson P p = tt
+if-response (BadShape text) P p = tt
+if-response NotBuilt P p = tt
+if-response (BadSchema text) P p = tt
+
+-- two things that are given are one, and where that is a response, so are their records
+abbrev Same : Outcome → Outcome → List RecordEntry → List RecordEntry → Type 0
+Same one other entries others = (one ≡ other) × IfResponse one (entries ≡ others)
+
+-- where one is none with a record
+same-plain : (one other plain : Outcome) (entries others : List RecordEntry) → one ≡ plain → other ≡ plain
+    → IfResponse plain (entries ≡ others) → Same one other entries others
+same-plain one other plain entries others a b none = (a ∙ sym b, subst (λ o. IfResponse o (entries ≡ others)) (sym a) none)
+
+module _ (command : Command) (bench : Bench) where
+  -- what a bench gives, by its three ways
+  data Way (outcome : Outcome) (entries : List RecordEntry) : Type 0 where
+    later : outcome ≡ NotBuilt → IsUnbuilt bench → Way outcome entries
+    unsound : (text : List ℕ) → outcome ≡ BadSchema text → IsUnsound bench text → Way outcome entries
+    answer : IsAnswer command bench outcome entries → Way outcome entries
+
+  way : (outcome : Outcome) (entries : List RecordEntry) → BenchGives command bench outcome entries → Way outcome entries
+  way NotBuilt entries gives = later refl gives
+  way (BadSchema text) entries gives = unsound text refl gives
+  way (Answered text) entries gives = answer gives
+  way (HasErrors text) entries gives = answer gives
+  way Usage entries gives = absurd gives
+  way ReadFault entries gives = absurd gives
+  way TooLong entries gives = absurd gives
+  way NotJson entries gives = absurd gives
+  way (BadShape text) entries gives = absurd gives
+
+  answer-same : (one other : Outcome) (entries others : List RecordEntry) → IsAnswer command bench one entries → IsAnswer command bench other others
+      → Same one other entries others
+  answer-same one other entries others a b =
+      let (response, told) = response-same bench (Some entries) (Some others) a.response b.response a.answered b.answered in
+      let mine : entries ≡ a.answered.entries = let is = a.answered.is_told in cc in
+      let yours : others ≡ b.answered.entries = let is = b.answered.is_told in cc in
+      let es : entries ≡ others = mine ∙ told ∙ sym yours in (
+        a.is ∙ (λ i. outcome_for (response i).errors (response_text command (es i) (response i))) ∙ sym b.is,
+        if-response one (entries ≡ others) es,
+      )
+
+  module _ (alone : is_built bench ≡ true → single bench.requests ≡ None → ⊥) where
+    -- a bench that is built, with a schema and a request that is, isn't unbuilt
+    never-unbuilt : is_built bench ≡ true → ((asked : Asked bench) → IsLater asked.schema asked.request.inner → ⊥) → IsUnbuilt bench → ⊥
+    never-unbuilt built now (inl none) = let both = sym built ∙ none in cc
+    never-unbuilt built now (inr (inl none)) = alone built none
+    never-unbuilt built now (inr (inr (asked, later))) = now asked later
+
+    by-ways : (one other : Outcome) (entries others : List RecordEntry) → Way one entries → Way other others → Same one other entries others
+    by-ways one other entries others (later a un) (later b un') = same-plain one other NotBuilt entries others a b tt
+    by-ways one other entries others (later a un) (unsound text b why) =
+        absurd (never-unbuilt why.built (λ asked later. never-schema bench why.why why.refused asked.schema asked.is) un)
+    by-ways one other entries others (later a un) (answer b) =
+        absurd (never-unbuilt b.built (λ asked later. b.answered.now (later-same bench asked b.answered.asks_for later)) un)
+    by-ways one other entries others (unsound text a why) (later b un) =
+        absurd (never-unbuilt why.built (λ asked later. never-schema bench why.why why.refused asked.schema asked.is) un)
+    by-ways one other entries others (unsound text a why) (unsound said b why') =
+        let (error, refused, is) = why.refused in
+        let (error', refused', is') = why'.refused in
+        let texts = is ∙ ap (λ (e : SchemaError). e.text) (one-refusal (whole_table bench.builder) error error' refused refused') ∙ sym is' in
+        let lines = why.is ∙ ap schema_line texts ∙ sym why'.is in
+        same-plain one other (BadSchema said) entries others (a ∙ ap BadSchema lines) b tt
+    by-ways one other entries others (unsound text a why) (answer b) =
+        absurd (never-schema bench why.why why.refused b.answered.asks_for.schema b.answered.asks_for.is)
+    by-ways one other entries others (answer a) (later b un) =
+        absurd (never-unbuilt a.built (λ asked later. a.answered.now (later-same bench asked a.answered.asks_for later)) un)
+    by-ways one other entries others (answer a) (unsound text b why) =
+        absurd (never-schema bench why.why why.refused a.answered.asks_for.schema a.answered.asks_for.is)
+    by-ways one other entries others (answer a) (answer b) = answer-same one other entries others a b
+
+    pub bench-gives-same : (one other : Outcome) (entries others : List RecordEntry) → BenchGives command bench one entries
+        → BenchGives command bench other others → Same one other entries others
+    bench-gives-same one other entries others a b = by-ways one other entries others (way one entries a) (way other others b)
+
+module _ (form : BenchForm) where
+  -- a bench that is built has one request
+  alone-work : (w : WorkForm) → is_request w ≡ true → single (requests_in w) ≡ None → ⊥
+  alone-work (work.One request) is none = cc
+  alone-work (work.Batch requests) is none = cc
+  alone-work (work.Session session) is none = cc
+
+  -- a form is read as one bench
+  bench-same : (one other : Bench) → IsBenchOf form one → IsBenchOf form other → one ≡ other
+  bench-same one other a b =
+      let table = a.table ∙ sym b.table in
+      let settings = a.settings ∙ sym b.settings in
+      let rules = a.rules ∙ sym b.rules in
+      let sources = a.sources ∙ sym b.sources in
+      let cells = a.cells ∙ sym b.cells in
+      let root = a.root ∙ sym b.root in
+      let turns = a.turns ∙ sym b.turns in
+      let log = a.log ∙ sym b.log in
+      let requests = a.requests ∙ sym b.requests in
+      let ws = a.ws ∙ sym b.ws in
+      let built = a.built ∙ sym b.built in
+      cc
+
+first-true : (a b : Bool) → (a && b) ≡ true → a ≡ true
+first-true true b both = refl
+first-true false b both = both
+
+second-true : (a b : Bool) → (a && b) ≡ true → b ≡ true
+second-true true b both = both
+second-true false b both = cc
+
+-- a bench that is read as a form and is built has one request
+alone-bench : (form : BenchForm) (bench : Bench) → IsBenchOf form bench → is_built bench ≡ true → single bench.requests ≡ None → ⊥
+alone-bench form bench is built none =
+    let whole = first-true _ _ (sym is.built ∙ built) in
+    let request = second-true _ _ (first-true _ _ whole) in
+    alone-work form.work request (ap single (sym is.requests) ∙ none)
+
+module _ (command : Command) (json : Data) where
+  -- what a JSON value gives, by its two ways
+  data JsonWay (outcome : Outcome) (entries : List RecordEntry) : Type 0 where
+    bad : (text : List ℕ) → outcome ≡ BadShape text → IsBadShape command json text → JsonWay outcome entries
+    of_bench : (bench : Bench) → HasTables (form_command command) json bench → BenchGives command bench outcome entries → JsonWay outcome entries
+
+  json-way : (outcome : Outcome) (entries : List RecordEntry) → JsonGives command json outcome entries → JsonWay outcome entries
+  json-way (BadShape text) entries gives = bad text refl gives
+  json-way NotBuilt entries (bench, tables, gives) = of_bench bench tables gives
+  json-way (BadSchema text) entries (bench, tables, gives) = of_bench bench tables gives
+  json-way (Answered text) entries (bench, tables, gives) = of_bench bench tables gives
+  json-way (HasErrors text) entries (bench, tables, gives) = of_bench bench tables gives
+  json-way Usage entries (bench, tables, gives) = absurd gives
+  json-way ReadFault entries (bench, tables, gives) = absurd gives
+  json-way TooLong entries (bench, tables, gives) = absurd gives
+  json-way NotJson entries (bench, tables, gives) = absurd gives
+
+  never-both : (place : List ℕ) → IsBadAt (form_command command) json place → (form : BenchForm) → IsReadAs (form_command command) json form → ⊥
+  never-both place bad form read = let wrong : Err place ≡ Ok form = sym bad ∙ read in cc
+
+  benches-same : (one other : Bench) (form : BenchForm) → IsReadAs (form_command command) json form → IsBenchOf form one → (other_form : BenchForm)
+      → IsReadAs (form_command command) json other_form → IsBenchOf other_form other → one ≡ other
+  benches-same one other form read is other_form also is' =
+      let both : Ok form ≡ Ok other_form = sym read ∙ also in
+      let same : form ≡ other_form = cc in
+      bench-same other_form one other (subst (λ f. IsBenchOf f one) same is) is'
+
+  by-json-ways : (one other : Outcome) (entries others : List RecordEntry) → JsonWay one entries → JsonWay other others → Same one other entries others
+  by-json-ways one other entries others (bad text a (place, here, is)) (bad said b (place', here', is')) =
+      let both : Err place ≡ Err place' = sym here ∙ here' in
+      let places : place ≡ place' = cc in
+      let lines = is ∙ ap shape_line places ∙ sym is' in
+      same-plain one other (BadShape said) entries others (a ∙ ap BadShape lines) b tt
+  by-json-ways one other entries others (bad text a (place, here, is)) (of_bench bench (form, read, tables) gives) = absurd (never-both place here form read)
+  by-json-ways one other entries others (of_bench bench (form, read, tables) gives) (bad said b (place, here, is)) = absurd (never-both place here form read)
+  by-json-ways one other entries others (of_bench bench (form, read, tables) gives) (of_bench bench' (form', read', tables') gives') =
+      let same = benches-same bench bench' form read tables form' read' tables' in
+      bench-gives-same command bench' (alone-bench form' bench' tables') one other entries others
+      (subst (λ b. BenchGives command b one entries) same gives) gives'
+
+  json-same : (one other : Outcome) (entries others : List RecordEntry) → JsonGives command json one entries → JsonGives command json other others
+      → Same one other entries others
+  json-same one other entries others a b = by-json-ways one other entries others (json-way one entries a) (json-way other others b)
+
+module _ (command : Command) (bytes : List ℕ) where
+  -- what bytes give, by their two ways
+  data BytesWay (outcome : Outcome) (entries : List RecordEntry) : Type 0 where
+    no_json : outcome ≡ NotJson → json_of bytes ≡ None → BytesWay outcome entries
+    of_json : (json : Data) → json_of bytes ≡ Some json → JsonGives command json outcome entries → BytesWay outcome entries
+
+  bytes-way : (outcome : Outcome) (entries : List RecordEntry) → Gives command bytes outcome entries → BytesWay outcome entries
+  bytes-way NotJson entries gives = no_json refl gives
+  bytes-way (BadShape text) entries (json, is, gives) = of_json json is gives
+  bytes-way NotBuilt entries (json, is, gives) = of_json json is gives
+  bytes-way (BadSchema text) entries (json, is, gives) = of_json json is gives
+  bytes-way (Answered text) entries (json, is, gives) = of_json json is gives
+  bytes-way (HasErrors text) entries (json, is, gives) = of_json json is gives
+  bytes-way Usage entries (json, is, gives) = of_json json is gives
+  bytes-way ReadFault entries (json, is, gives) = of_json json is gives
+  bytes-way TooLong entries (json, is, gives) = of_json json is gives
+
+  by-bytes-ways : (one other : Outcome) (entries others : List RecordEntry) → BytesWay one entries → BytesWay other others → Same one other entries others
+  by-bytes-ways one other entries others (no_json a is) (no_json b is') = same-plain one other NotJson entries others a b tt
+  by-bytes-ways one other entries others (no_json a is) (of_json json is' gives) = let wrong : None ≡ Some json = sym is ∙ is' in cc
+  by-bytes-ways one other entries others (of_json json is gives) (no_json b is') = let wrong : None ≡ Some json = sym is' ∙ is in cc
+  by-bytes-ways one other entries others (of_json json is gives) (of_json json' is' gives') =
+      let both : Some json ≡ Some json' = sym is ∙ is' in
+      let same : json ≡ json' = cc in
+      json-same command json' one other entries others (subst (λ j. JsonGives command j one entries) same gives) gives'
 
   -- the bytes of a bench give one thing
-  pub one-result : (bytes : List ℕ) (one other : Written) (entries others : List RecordEntry) → Gives command bytes one entries
-      → Gives command bytes other others → AreOne one other entries others
-  one-result bytes one other entries others a b = by (json_of bytes) refl
-    where
-      by : (found : Option Data) → json_of bytes ≡ found → AreOne one other entries others
-      by None none =
-          let first = given-nothing bytes none one entries a in
-          (first ∙ sym (given-nothing bytes none other others b), subst (λ written. IfResponse written (entries ≡ others)) (sym first) tt)
-      by (Some json) is = json-same json one other entries others (given-json bytes json is one entries a) (given-json bytes json is other others b)
+  pub one-result : (one other : Outcome) (entries others : List RecordEntry) → Gives command bytes one entries → Gives command bytes other others
+      → Same one other entries others
+  one-result one other entries others a b = by-bytes-ways one other entries others (bytes-way one entries a) (bytes-way other others b)

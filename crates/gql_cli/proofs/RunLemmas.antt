@@ -1,19 +1,22 @@
--- What a run has delivered, by what was due: the text that its input gives, unless a read or a write failed or memory was
--- wanting.
-use Rattle.std.proofs.Common.{◌≡◌, ◌⊎◌, ℕ, ◌≤◌, ◌<◌, List, [], length, Option, Some, None, inl, inr, refl, ap, sym, ◌∙◌, subst, arith}
+-- What a run has done, by what was due and by what of it was delivered.
+use Rattle.std.proofs.Common.{◌≡◌, ◌⊎◌, ℕ, ◌+◌, ◌≤◌, ◌<◌, List, [], length, Option, Some, None, inl, inr, refl, ap, sym, ◌∙◌, subst, arith}
 use Rattle.std.specs.Prelude.{IfSome}
-use Rattle.gql_resolve.specs.declared.record_entry.RecordEntry.{RecordEntry}
-use Rattle.gql_cli.specs.Written.{Gives, IfResponse}
-use Rattle.gql_io.specs.Counts.{HasRisen}
-use Rattle.gql_cli.specs.Run.{HasRun, IsDue, IsListed, IsCutOff, due_status, due_text}
+use Rattle.std.specs.Io.KnownBytes.{Appends, Keeps}
 use Rattle.gql_cli.specs.Command.{words_for}
+use Rattle.gql_cli.specs.Gives.{Gives, IfResponse}
+use Rattle.gql_cli.specs.Outcome.{due_status, due_text}
+use Rattle.gql_cli.specs.Run.{Ends, HasRun, IsBegun, IsComplete, IsCutOff, IsDue, IsGiven, IsGivenWith, IsListed, IsWritten, ReadFailed, WriteFailed}
 use Rattle.gql_cli.specs.declared.command.Command.{Command}
 use Rattle.gql_cli.specs.declared.command.Command.TheVariants.{Execute, Record}
-use Rattle.gql_cli.specs.declared.written.Written.{Written}
-use Rattle.gql_cli.specs.declared.written.Written.TheVariants.{Answered, Refused, NotJson, BadShape, BadSchema, NotBuilt}
 use Rattle.gql_cli.specs.declared.outcome.Outcome.{Outcome}
-use Rattle.gql_cli.specs.declared.outcome.Outcome.TheVariants.{Usage, ReadFault, TooLong, Bench}
+use Rattle.gql_cli.specs.declared.outcome.Outcome.TheVariants.{Answered, BadSchema, BadShape, HasErrors, NotBuilt, NotJson, ReadFault, TooLong, Usage}
+use Rattle.gql_io.specs.Counts.{HasRisen, IsFull}
 use Rattle.gql_io.specs.Limits.{input_limit}
+use Rattle.gql_io.specs.Reading.{HasFailed, IsInput, IsTooLong}
+use Rattle.gql_io.specs.Writing.{AppendsStart}
+use Rattle.gql_io.specs.declared.sink.Sink.{Ghosts as Sinking}
+use Rattle.gql_io.specs.declared.source.Source.{Ghosts as Sourcing}
+use Rattle.gql_resolve.specs.declared.record_entry.RecordEntry.{RecordEntry}
 
 -- words are those of one command
 words-same : (c d : Command) → words_for c ≡ words_for d → c ≡ d
@@ -21,54 +24,6 @@ words-same Execute Execute same = refl
 words-same Execute Record same = cc
 words-same Record Execute same = cc
 words-same Record Record same = refl
-
-module _ (status : ℕ) (ReadFailed WriteFailed : Type 0) (Holds : List ℕ → Type 0) (command : Command) where
-  -- the text that the input gives to the command was written
-  abbrev pub IsComplete : List ℕ → Type 0
-  IsComplete input =
-      length input ≤ input_limit → ¬ ReadFailed → ¬ WriteFailed
-      → (status ≡ 6) ⊎ ((written : Written) × (entries : List RecordEntry) × Gives command input written entries
-      × (status ≡ due_status (Bench written)) × Holds (due_text (Bench written)))
-
-  too-long : (input : Option (List ℕ)) → IfSome input (λ known. input_limit < length known) → IfSome input IsComplete
-  too-long None long = tt
-  too-long (Some known) long = λ within. absurd (omega arith)
-
-  failed : (input : Option (List ℕ)) → ReadFailed → IfSome input IsComplete
-  failed None cause = tt
-  failed (Some known) cause = λ within unread. absurd (unread cause)
-
-  given-text : (input : Option (List ℕ)) (bytes : List ℕ) (written : Written) (entries : List RecordEntry) (Left : Type 0)
-      → IfSome input (λ known. (known ≡ bytes) × Left) → Gives command bytes written entries
-      → IsCutOff status ⊎ ((status ≡ due_status (Bench written)) × Holds (due_text (Bench written))) → (status ≡ 5 → WriteFailed)
-      → IfSome input IsComplete
-  given-text None bytes written entries Left told gives whole cause = tt
-  given-text (Some known) bytes written entries Left (same, left) gives (inl (inl five)) cause = λ within unread unwritten. absurd (unwritten (cause five))
-  given-text (Some known) bytes written entries Left (same, left) gives (inl (inr six)) cause = λ within unread unwritten. inl six
-  given-text (Some known) bytes written entries Left (same, left) gives (inr (due, holds)) cause =
-      λ within unread unwritten. inr (written, entries, subst (λ input. Gives command input written entries) (sym same) gives, due, holds)
-
-pub complete : {I : Type 0} (left : I → Option (List ℕ)) (given faults : I → ℕ) (old new : I) (Told : List RecordEntry → Type 0) (words : List (List ℕ))
-    (due : Outcome) (status : ℕ) (WriteFailed : Type 0) (Holds : List ℕ → Type 0) (command : Command) → IsDue left given faults old new Told words due
-    → IsCutOff status ⊎ ((status ≡ due_status due) × Holds (due_text due)) → (status ≡ 5 → WriteFailed) → words ≡ words_for command
-    → IfSome (left old) (IsComplete status (HasRisen (faults old) (faults new)) WriteFailed Holds command)
-complete left given faults old new Told words Usage status WriteFailed Holds command due whole cause listed = absurd (due (command, listed))
-complete left given faults old new Told words ReadFault status WriteFailed Holds command due whole cause listed =
-    failed status (HasRisen (faults old) (faults new)) WriteFailed Holds command (left old) due.1.cause
-complete left given faults old new Told words TooLong status WriteFailed Holds command due whole cause listed =
-    too-long status (HasRisen (faults old) (faults new)) WriteFailed Holds command (left old) due.1.told
-complete left given faults old new Told words (Bench written) status WriteFailed Holds command due whole cause listed =
-    let (entries, gives, told) = due.gives in
-    let same : due.command ≡ command = words-same due.command command (sym due.listed ∙ listed) in
-    given-text status (HasRisen (faults old) (faults new)) WriteFailed Holds command (left old) due.bytes written entries (left new ≡ Some [])
-    due.input.told (subst (λ c. Gives c due.bytes written entries) same gives) whole cause
-
--- what was delivered is what was due
-pub written : (status : ℕ) (Due : Outcome → Type 0) (Holds : List ℕ → Type 0) (due : Outcome) → Due due
-    → IsCutOff status ⊎ ((status ≡ due_status due) × Holds (due_text due))
-    → IsCutOff status ⊎ ((told : Outcome) × Due told × (status ≡ due_status told) × Holds (due_text told))
-written status Due Holds due is (inl cut) = inl cut
-written status Due Holds due is (inr (same, holds)) = inr (due, is, same, holds)
 
 some-each : {A : Type 0} (o : Option A) (P : A → Type 0) → ((x : A) → P x) → IfSome o P
 some-each None P each = tt
@@ -78,67 +33,269 @@ some-through : {A : Type 0} (o : Option A) (P Q : A → Type 0) → IfSome o P �
 some-through None P Q some through = tt
 some-through (Some x) P Q some through = through x some
 
-module _ {I : Type 0} (left : I → Option (List ℕ)) (given faults : I → ℕ) (old new : I) (Told : List RecordEntry → Type 0) (words : List (List ℕ))
-    (status : ℕ) (Holds : List ℕ → Type 0) where
-  -- the input gives something to a command, whose status this is, and it was written
-  abbrev pub Gave : Type 0
-  Gave = (written : Written) × HasRun left given old new Told words written × (status ≡ due_status (Bench written)) × Holds (due_text (Bench written))
+-- a status of a response comes with one
+responds : (outcome : Outcome) (P : Type 0) → (due_status outcome ≡ 0) ⊎ (due_status outcome ≡ 1) → IfResponse outcome P → P
+responds (Answered text) P is holds = holds
+responds (HasErrors text) P is holds = holds
+responds Usage P (inl none) holds = absurd (omega arith)
+responds Usage P (inr one) holds = absurd (omega arith)
+responds ReadFault P (inl none) holds = absurd (omega arith)
+responds ReadFault P (inr one) holds = absurd (omega arith)
+responds TooLong P (inl none) holds = absurd (omega arith)
+responds TooLong P (inr one) holds = absurd (omega arith)
+responds NotJson P (inl none) holds = absurd (omega arith)
+responds NotJson P (inr one) holds = absurd (omega arith)
+responds (BadShape text) P (inl none) holds = absurd (omega arith)
+responds (BadShape text) P (inr one) holds = absurd (omega arith)
+responds NotBuilt P (inl none) holds = absurd (omega arith)
+responds NotBuilt P (inr one) holds = absurd (omega arith)
+responds (BadSchema text) P (inl none) holds = absurd (omega arith)
+responds (BadSchema text) P (inr one) holds = absurd (omega arith)
 
-  gave-due : (due : Outcome) → IsDue left given faults old new Told words due → (status ≡ due_status due) × Holds (due_text due)
-      → (status ≡ 0) ⊎ (status ≡ 1) ⊎ (status ≡ 3) → Gave
-  gave-due Usage due (same, holds) (inl none) = absurd (omega arith)
-  gave-due Usage due (same, holds) (inr (inl one)) = absurd (omega arith)
-  gave-due Usage due (same, holds) (inr (inr three)) = absurd (omega arith)
-  gave-due ReadFault due (same, holds) (inl none) = absurd (omega arith)
-  gave-due ReadFault due (same, holds) (inr (inl one)) = absurd (omega arith)
-  gave-due ReadFault due (same, holds) (inr (inr three)) = absurd (omega arith)
-  gave-due TooLong due (same, holds) (inl none) = absurd (omega arith)
-  gave-due TooLong due (same, holds) (inr (inl one)) = absurd (omega arith)
-  gave-due TooLong due (same, holds) (inr (inr three)) = absurd (omega arith)
-  gave-due (Bench written) due (same, holds) is = (written, due, same, holds)
+module _ {I O : Type 0} (source : Sourcing I) (sink : Sinking O) (Told : List RecordEntry → Type 0) (words : List (List ℕ)) (old new : Ends I O) where
+  abbrev Due : Outcome → Type 0
+  Due = IsDue source Told words old.source new.source
 
-  uncut : IsCutOff status → (status ≡ 0) ⊎ (status ≡ 1) ⊎ (status ≡ 3) → ⊥
-  uncut (inl five) (inl none) = omega arith
-  uncut (inl five) (inr (inl one)) = omega arith
-  uncut (inl five) (inr (inr three)) = omega arith
-  uncut (inr six) (inl none) = omega arith
-  uncut (inr six) (inr (inl one)) = omega arith
-  uncut (inr six) (inr (inr three)) = omega arith
+  abbrev Given : Outcome → Type 0
+  Given = IsGivenWith source Told words old.source new.source
 
-  -- an input past its limit has the status of that, unless the run ended before
-  long-due : (due : Outcome) → IsDue left given faults old new Told words due → (status ≡ due_status due) × Holds (due_text due) → IsListed words
-      → IfSome (left old) (λ input. input_limit < length input → (status ≡ 7) ⊎ (status ≡ 4) ⊎ IsCutOff status)
-  long-due Usage due (same, holds) listed = absurd (due listed)
-  long-due ReadFault due (same, holds) listed = some-each (left old) _ (λ input long. inr (inl same))
-  long-due TooLong due (same, holds) listed = some-each (left old) _ (λ input long. inl same)
-  long-due (Bench written) due (same, holds) listed =
-      some-through (left old) _ _ due.input.told (λ input (is, rest) long. let sizes = ap length is in let within = due.input.within in absurd (omega arith))
+  -- by which way something was due, and with which status
+  data Way (outcome : Outcome) : Type 0 where
+    unlisted : due_status outcome ≡ 2 → ¬ IsListed words → Way outcome
+    failed : due_status outcome ≡ 4 → IsListed words → HasFailed source.given source.faults old.source new.source → Way outcome
+    long : due_status outcome ≡ 7 → IsListed words → IsTooLong source.left source.given old.source new.source → Way outcome
+    given : (due_status outcome ≡ 0) ⊎ (due_status outcome ≡ 1) ⊎ (due_status outcome ≡ 3) → Given outcome → Way outcome
 
-  pub too-many : (due : Outcome) → IsDue left given faults old new Told words due → IsCutOff status ⊎ ((status ≡ due_status due) × Holds (due_text due))
-      → IsListed words → IfSome (left old) (λ input. input_limit < length input → (status ≡ 7) ⊎ (status ≡ 4) ⊎ IsCutOff status)
-  too-many due is (inl cut) listed = some-each (left old) _ (λ input long. inr (inr cut))
-  too-many due is (inr delivered) listed = long-due due is delivered listed
+  way : (outcome : Outcome) → Due outcome → Way outcome
+  way Usage due = unlisted refl due
+  way ReadFault due = failed refl due.0 due.1
+  way TooLong due = long refl due.0 due.1
+  way NotJson due = given (inr (inr refl)) due
+  way (BadShape text) due = given (inr (inr refl)) due
+  way NotBuilt due = given (inr (inr refl)) due
+  way (BadSchema text) due = given (inr (inr refl)) due
+  way (Answered text) due = given (inl refl) due
+  way (HasErrors text) due = given (inr (inl refl)) due
 
-  -- the statuses 0, 1 and 3 come of what the input gives
-  pub gave : (due : Outcome) → IsDue left given faults old new Told words due → IsCutOff status ⊎ ((status ≡ due_status due) × Holds (due_text due))
-      → (status ≡ 0) ⊎ (status ≡ 1) ⊎ (status ≡ 3) → Gave
-  gave due is (inl cut) statuses = absurd (uncut cut statuses)
-  gave due is (inr delivered) statuses = gave-due due is delivered statuses
+  -- the words of what was given are listed
+  given-listed : {outcome : Outcome} → Given outcome → IsListed words
+  given-listed (entries, is, told) = (is.command, is.listed)
 
--- a status of a response is one of those
-pub early : {status : ℕ} → (status ≡ 0) ⊎ (status ≡ 1) → (status ≡ 0) ⊎ (status ≡ 1) ⊎ (status ≡ 3)
-early (inl none) = inl none
-early (inr one) = inr (inl one)
+  module _ (status : ℕ) where
+    -- what was due was delivered, or the sink or memory cut it off
+    pub record Delivered : Type 0 where
+      pub due : Outcome
+      pub is : Due due
+      pub untouched : ¬ IsListed words → new.source ≡ old.source
+      pub whole : IsCutOff status ⊎ IsWritten source sink Told words old new status due
+      pub start : IsCutOff status → AppendsStart (sink.held old.sink) (sink.held new.sink) (due_text due)
+      pub cause : status ≡ 5 → WriteFailed source sink Told words old new
 
--- what is written with one is a response
-pub responds : (status : ℕ) (written : Written) (P : Type 0) → status ≡ due_status (Bench written) → (status ≡ 0) ⊎ (status ≡ 1) → IfResponse written P → P
-responds status (Answered text) P same is holds = holds
-responds status (Refused text) P same is holds = holds
-responds status NotJson P same (inl none) holds = absurd (omega arith)
-responds status NotJson P same (inr one) holds = absurd (omega arith)
-responds status (BadShape line) P same (inl none) holds = absurd (omega arith)
-responds status (BadShape line) P same (inr one) holds = absurd (omega arith)
-responds status (BadSchema line) P same (inl none) holds = absurd (omega arith)
-responds status (BadSchema line) P same (inr one) holds = absurd (omega arith)
-responds status NotBuilt P same (inl none) holds = absurd (omega arith)
-responds status NotBuilt P same (inr one) holds = absurd (omega arith)
+    module _ (d : Delivered) where
+      usage : status ≡ 2 → ¬ IsListed words
+      usage two = by d.whole (way d.due d.is)
+        where
+          by : IsCutOff status ⊎ IsWritten source sink Told words old new status d.due → Way d.due → ¬ IsListed words
+          by (inl (inl five)) w = absurd (omega arith)
+          by (inl (inr six)) w = absurd (omega arith)
+          by (inr (same, holds)) (unlisted s none) = none
+          by (inr (same, holds)) (failed s listed f) = absurd (omega arith)
+          by (inr (same, holds)) (long s listed f) = absurd (omega arith)
+          by (inr (same, holds)) (given (inl s) g) = absurd (omega arith)
+          by (inr (same, holds)) (given (inr (inl s)) g) = absurd (omega arith)
+          by (inr (same, holds)) (given (inr (inr s)) g) = absurd (omega arith)
+
+      usage-only : ¬ IsListed words → (status ≡ 2) ⊎ IsCutOff status
+      usage-only none = by d.whole (way d.due d.is)
+        where
+          by : IsCutOff status ⊎ IsWritten source sink Told words old new status d.due → Way d.due → (status ≡ 2) ⊎ IsCutOff status
+          by (inl cut) w = inr cut
+          by (inr (same, holds)) (unlisted s u) = inl (same ∙ s)
+          by (inr (same, holds)) (failed s listed f) = absurd (none listed)
+          by (inr (same, holds)) (long s listed f) = absurd (none listed)
+          by (inr (same, holds)) (given s g) = absurd (none (given-listed g))
+
+      read-fault : status ≡ 4 → ReadFailed source sink Told words old new
+      read-fault four = by d.whole (way d.due d.is)
+        where
+          by : IsCutOff status ⊎ IsWritten source sink Told words old new status d.due → Way d.due → ReadFailed source sink Told words old new
+          by (inl (inl five)) w = absurd (omega arith)
+          by (inl (inr six)) w = absurd (omega arith)
+          by (inr (same, holds)) (unlisted s none) = absurd (omega arith)
+          by (inr (same, holds)) (failed s listed f) = f.cause
+          by (inr (same, holds)) (long s listed f) = absurd (omega arith)
+          by (inr (same, holds)) (given (inl s) g) = absurd (omega arith)
+          by (inr (same, holds)) (given (inr (inl s)) g) = absurd (omega arith)
+          by (inr (same, holds)) (given (inr (inr s)) g) = absurd (omega arith)
+
+      too-long : status ≡ 7 → IsTooLong source.left source.given old.source new.source
+      too-long seven = by d.whole (way d.due d.is)
+        where
+          by : IsCutOff status ⊎ IsWritten source sink Told words old new status d.due → Way d.due → IsTooLong source.left source.given old.source new.source
+          by (inl (inl five)) w = absurd (omega arith)
+          by (inl (inr six)) w = absurd (omega arith)
+          by (inr (same, holds)) (unlisted s none) = absurd (omega arith)
+          by (inr (same, holds)) (failed s listed f) = absurd (omega arith)
+          by (inr (same, holds)) (long s listed f) = f
+          by (inr (same, holds)) (given (inl s) g) = absurd (omega arith)
+          by (inr (same, holds)) (given (inr (inl s)) g) = absurd (omega arith)
+          by (inr (same, holds)) (given (inr (inr s)) g) = absurd (omega arith)
+
+      -- more than the limit was given
+      abbrev Past : Type 0
+      Past = (status ≡ 7) ⊎ IsCutOff status ⊎ IsFull (source.given new.source)
+
+      too-many-given : source.given old.source + input_limit < source.given new.source → Past
+      too-many-given more = by d.whole (way d.due d.is)
+        where
+          within-none : (source.given new.source ≤ source.given old.source + input_limit) ⊎ IsFull (source.given new.source) → Past
+          within-none (inl within) = absurd (omega arith)
+          within-none (inr full) = inr (inr full)
+
+          read-none : (bytes : List ℕ) → length bytes ≤ input_limit → (source.given new.source ≡ source.given old.source + length bytes) ⊎ IsFull (source.given new.source) → Past
+          read-none bytes short (inl counted) = absurd (omega arith)
+          read-none bytes short (inr full) = inr (inr full)
+
+          untouched-none : new.source ≡ old.source → Past
+          untouched-none same = let counts = ap source.given same in absurd (omega arith)
+
+          by : IsCutOff status ⊎ IsWritten source sink Told words old new status d.due → Way d.due → Past
+          by (inl cut) w = inr (inl cut)
+          by (inr (same, holds)) (unlisted s none) = untouched-none (d.untouched none)
+          by (inr (same, holds)) (failed s listed f) = within-none f.within
+          by (inr (same, holds)) (long s listed f) = inl (same ∙ s)
+          by (inr (same, holds)) (given s (entries, g, told)) = read-none g.bytes g.input.within g.input.counted
+
+      -- more than the limit was left
+      abbrev Longer : List ℕ → Type 0
+      Longer input = input_limit < length input → (status ≡ 7) ⊎ (status ≡ 4) ⊎ IsCutOff status
+
+      too-many-left : IsListed words → IfSome (source.left old.source) Longer
+      too-many-left listed = by d.whole (way d.due d.is)
+        where
+          by : IsCutOff status ⊎ IsWritten source sink Told words old new status d.due → Way d.due → IfSome (source.left old.source) Longer
+          by (inl cut) w = some-each (source.left old.source) Longer (λ input more. inr (inr cut))
+          by (inr (same, holds)) (unlisted s none) = absurd (none listed)
+          by (inr (same, holds)) (failed s also f) = some-each (source.left old.source) Longer (λ input more. inr (inl (same ∙ s)))
+          by (inr (same, holds)) (long s also f) = some-each (source.left old.source) Longer (λ input more. inl (same ∙ s))
+          by (inr (same, holds)) (given s (entries, g, told)) =
+              some-through (source.left old.source) _ Longer g.input.told
+              (λ input (is, rest) more. let sizes = ap length is in let within = g.input.within in absurd (omega arith))
+
+      abbrev OfBench : Type 0
+      OfBench = (status ≡ 0) ⊎ (status ≡ 1) ⊎ (status ≡ 3)
+
+      abbrev Bench : Type 0
+      Bench = (outcome : Outcome) × (entries : List RecordEntry) × IsGiven source Told words old.source new.source outcome entries
+          × IsWritten source sink Told words old new status outcome × IfResponse outcome (Told entries)
+
+      uncut : IsCutOff status → OfBench → ⊥
+      uncut (inl five) (inl none) = omega arith
+      uncut (inl five) (inr (inl one)) = omega arith
+      uncut (inl five) (inr (inr three)) = omega arith
+      uncut (inr six) (inl none) = omega arith
+      uncut (inr six) (inr (inl one)) = omega arith
+      uncut (inr six) (inr (inr three)) = omega arith
+
+      another : (k : ℕ) → status ≡ k → OfBench → (k ≡ 2) ⊎ (k ≡ 4) ⊎ (k ≡ 7) → ⊥
+      another k same (inl none) (inl two) = omega arith
+      another k same (inl none) (inr (inl four)) = omega arith
+      another k same (inl none) (inr (inr seven)) = omega arith
+      another k same (inr (inl one)) (inl two) = omega arith
+      another k same (inr (inl one)) (inr (inl four)) = omega arith
+      another k same (inr (inl one)) (inr (inr seven)) = omega arith
+      another k same (inr (inr three)) (inl two) = omega arith
+      another k same (inr (inr three)) (inr (inl four)) = omega arith
+      another k same (inr (inr three)) (inr (inr seven)) = omega arith
+
+      of-bench : OfBench → Bench
+      of-bench is = by d.whole (way d.due d.is)
+        where
+          by : IsCutOff status ⊎ IsWritten source sink Told words old new status d.due → Way d.due → Bench
+          by (inl cut) w = absurd (uncut cut is)
+          by (inr (same, holds)) (unlisted s none) = absurd (another (due_status d.due) same is (inl s))
+          by (inr (same, holds)) (failed s listed f) = absurd (another (due_status d.due) same is (inr (inl s)))
+          by (inr (same, holds)) (long s listed f) = absurd (another (due_status d.due) same is (inr (inr s)))
+          by (inr (same, holds)) (given s (entries, g, told)) = (d.due, entries, g, (same, holds), told)
+
+      early : (status ≡ 0) ⊎ (status ≡ 1) → OfBench
+      early (inl none) = inl none
+      early (inr one) = inr (inl one)
+
+      due-early : (outcome : Outcome) → status ≡ due_status outcome → (status ≡ 0) ⊎ (status ≡ 1) → (due_status outcome ≡ 0) ⊎ (due_status outcome ≡ 1)
+      due-early outcome same (inl none) = inl (sym same ∙ none)
+      due-early outcome same (inr one) = inr (sym same ∙ one)
+
+      complete : (command : Command) → words ≡ words_for command → IfSome (source.left old.source) (IsComplete source sink Told words old new status command)
+      complete command listed = by d.whole (way d.due d.is)
+        where
+          abbrev Complete : List ℕ → Type 0
+          Complete = IsComplete source sink Told words old new status command
+
+          by : IsCutOff status ⊎ IsWritten source sink Told words old new status d.due → Way d.due → IfSome (source.left old.source) Complete
+          by (inl (inl five)) w = some-each (source.left old.source) Complete (λ input within unread unwritten. absurd (unwritten (d.cause five)))
+          by (inl (inr six)) w = some-each (source.left old.source) Complete (λ input within unread unwritten. inl six)
+          by (inr (same, holds)) (unlisted s none) = absurd (none (command, listed))
+          by (inr (same, holds)) (failed s also f) = some-each (source.left old.source) Complete (λ input within unread. absurd (unread f.cause))
+          by (inr (same, holds)) (long s also f) =
+              some-through (source.left old.source) _ Complete f.told (λ input more within. absurd (omega arith))
+          by (inr (same, holds)) (given s (entries, g, told)) =
+              let one : g.command ≡ command = words-same g.command command (sym g.listed ∙ listed) in
+              some-through (source.left old.source) _ Complete g.input.told
+              (λ input (is, rest) within unread unwritten.
+              inr (d.due, entries, subst (λ bytes. Gives command bytes d.due entries) (sym is)
+              (subst (λ c. Gives c g.bytes d.due entries) one g.gives), (same, holds)))
+
+      -- what was due was delivered: that is a run
+      pub ended : HasRun source sink Told words old new status
+      ended = record {
+        usage = usage;
+        usage_only = usage-only;
+        unread = d.untouched;
+        read_fault = read-fault;
+        too_long = too-long;
+        too_many_given = too-many-given;
+        too_many_left = too-many-left;
+        bench = λ is. let (outcome, entries, given, written, told) = of-bench is in (outcome, entries, given, written);
+        told = λ is. let (outcome, entries, given, written, told) = of-bench (early is) in
+            (outcome, entries, given, written, responds outcome _ (due-early outcome written.0 is) told);
+        write_fault = d.cause;
+        written = whole d.whole;
+        cut_off = λ five. (d.due, d.is, d.start (inl five));
+        no_memory = λ six. inr (d.due, d.is, d.start (inr six));
+        complete = complete;
+      }
+        where
+          whole : IsCutOff status ⊎ IsWritten source sink Told words old new status d.due
+              → IsCutOff status ⊎ ((due : Outcome) × Due due × IsWritten source sink Told words old new status due)
+          whole (inl cut) = inl cut
+          whole (inr written) = inr (d.due, d.is, written)
+
+  -- memory was wanting before anything was due
+  pub wanting : (¬ IsListed words → new.source ≡ old.source) → Keeps (sink.held old.sink) (sink.held new.sink)
+      → HasRun source sink Told words old new 6
+  wanting untouched keeps = record {
+    usage = λ two. absurd (omega arith);
+    usage_only = λ none. inr (inr refl);
+    unread = untouched;
+    read_fault = λ four. absurd (omega arith);
+    too_long = λ seven. absurd (omega arith);
+    too_many_given = λ more. inr (inl (inr refl));
+    too_many_left = λ listed. some-each (source.left old.source) _ (λ input more. inr (inr (inr refl)));
+    bench = λ is. absurd (never is);
+    told = λ is. absurd (never-early is);
+    write_fault = λ five. absurd (omega arith);
+    written = inl (inr refl);
+    cut_off = λ five. absurd (omega arith);
+    no_memory = λ six. inl keeps;
+    complete = λ command listed. some-each (source.left old.source) _ (λ input within unread unwritten. inl refl);
+  }
+    where
+      never : (6 ≡ 0) ⊎ (6 ≡ 1) ⊎ (6 ≡ 3) → ⊥
+      never (inl none) = omega arith
+      never (inr (inl one)) = omega arith
+      never (inr (inr three)) = omega arith
+
+      never-early : (6 ≡ 0) ⊎ (6 ≡ 1) → ⊥
+      never-early (inl none) = omega arith
+      never-early (inr one) = omega arith

@@ -1,88 +1,55 @@
--- What a first bench answers: the constants of the fields that its query names, in the query's
--- order; or the fault of a text that is no document.
-use Rattle.std.specs.Prelude.{◌≡◌, ℕ, List, [], ◌∷◌, ◌++◌, Option, Some, None, codes}
-use Rattle.std.specs.List.{AllZip}
-use Rattle.std.specs.Str.{chars}
-use Rattle.gql_base.specs.Pairs.{under}
-use Rattle.gql_base.specs.declared.server_error.ServerError.{ServerError}
-use Rattle.gql_base.specs.declared.value.Value.{Value}
-use Rattle.gql_base.specs.declared.value.Value.TheVariants as value
-use Rattle.gql_doc.specs.Faults.{message_of}
-use Rattle.gql_doc.specs.Spelled.{SpellsDocument, IsDocumentFault}
-use Rattle.gql_doc.specs.declared.document.ExecutableDocument.{ExecutableDocument}
-use Rattle.gql_doc.specs.declared.fault.ParseFault.{ParseFault}
-use Rattle.gql_form.specs.declared.bench_form.BenchForm.{BenchForm}
-use Rattle.gql_request.specs.Response.{response_json}
+-- The answer to a bench's request.
+use Rattle.std.specs.Prelude.{◌≡◌, ◌⊎◌, ℕ, ℤ, List, Option, None, Some}
+use Rattle.gql_bench.specs.declared.bench.Bench.{Bench}
+use Rattle.gql_cli.specs.Execution.{IsExecuted}
+use Rattle.gql_cli.specs.Request.{IsLater, IsRequestOf, single}
+use Rattle.gql_cli.specs.declared.answer.Answer.{Answer}
+use Rattle.gql_cli.specs.declared.answer.Answer.TheVariants as answer
+use Rattle.gql_exec.specs.Builder.{IsSchemaOf, whole_table}
+use Rattle.gql_exec.specs.Execution.{asks}
+use Rattle.gql_exec.specs.declared.dynamic_request.DynamicRequest.{DynamicRequest}
+use Rattle.gql_exec.specs.declared.schema.Schema.{Schema}
 use Rattle.gql_request.specs.declared.response.Response.{Response}
-use Rattle.gql_bench.specs.FirstBench.{IsFirstBench, constants}
-use Rattle.gql_cli.specs.Query.{Selects}
-use Rattle.gql_bench.specs.declared.first_bench.FirstBench.{FirstBench}
+use Rattle.gql_resolve.specs.declared.record_entry.RecordEntry.{RecordEntry}
+use Rattle.gql_schema.specs.Sound.{IsFirstRefusal}
+use Rattle.gql_schema.specs.declared.schema_error.SchemaError.{SchemaError}
 
--- the chosen pairs are these names, each with what is answered under it
-abbrev pub IsAnswered : (List ℕ → Option Value) → List ℕ → List ℕ × Value → Type 0
-IsAnswered answers name chosen = (chosen.0 ≡ name) × (answers name ≡ Some chosen.1)
+-- the answer to a request over a schema, where it is executed so: it isn't where it isn't built
+abbrev pub AnswersOver : (Response → Type 0) → Type 0 → Answer → Type 0
+AnswersOver Executed Later (answer.Response response) = (Later → ⊥) × Executed response
+AnswersOver Executed Later (answer.BadSchema text) = ⊥
+AnswersOver Executed Later answer.NotBuilt = Later
 
-abbrev pub Chooses : (List ℕ → Option Value) → List (List ℕ) → List (List ℕ × Value) → Type 0
-Chooses answers = AllZip (IsAnswered answers)
+-- a bench with its schema and its request
+pub record Asked (bench : Bench) : Type 0 where
+  pub schema : Schema
+  pub is : IsSchemaOf bench.builder schema
+  pub request : DynamicRequest ℤ
+  pub asked : IsRequestOf bench request
 
--- something is answered under each of the names
-pub record HasChosen (answers : List ℕ → Option Value) (names : List (List ℕ)) : Type 0 where
-  pub chosen : List (List ℕ × Value)
-  pub chooses : Chooses answers names chosen
+-- the response to the request of a bench, and the record that was told of it
+pub record IsResponseTo (bench : Bench) (told : Option (List RecordEntry))
+    (response : Response) : Type 0 where
+  pub asks_for : Asked bench
+  pub now : ¬ IsLater asks_for.schema asks_for.request.inner
+  pub entries : List RecordEntry
+  pub is_told : told ≡ Some entries
+  pub executed : IsExecuted bench (asks asks_for.schema asks_for.request) response entries
 
--- the response with this data alone: an object of these pairs (section 7.1)
-abbrev pub data_response : List (List ℕ × Value) → Response
-data_response chosen =
-    record { result = value.Object chosen; extensions = []; errors = []; headers = [] }
+-- the bench has no single request, or one that isn't built
+abbrev pub IsLaterBench : Bench → Type 0
+IsLaterBench bench =
+    (single bench.requests ≡ None)
+    ⊎ ((asked : Asked bench) × IsLater asked.schema asked.request.inner)
 
--- the response without data and with these errors
-abbrev pub refusal : List ServerError → Response
-refusal errors = record { result = value.Null; extensions = []; errors = errors; headers = [] }
+-- the table of a bench's types is refused, and this text says why
+abbrev pub IsRefusedTable : Bench → List ℕ → Type 0
+IsRefusedTable bench text =
+    (error : SchemaError) × IsFirstRefusal (whole_table bench.builder) error
+    × (text ≡ error.text)
 
--- the line of a response: its JSON, and the end of the line
-abbrev pub response_line : Response → List ℕ
-response_line response = response_json response ++ codes "\n"
-
--- the error that tells of the fault of a text (section 7.1.2)
-abbrev pub error_of : ParseFault → ServerError
-error_of fault =
-    record {
-      message = message_of fault.kind;
-      locations = fault.pos ∷ [];
-      path = [];
-      extensions = None;
-    }
-
--- the document asks for some names, and this is the response with what is answered under them
-pub record IsResponse (answers : List ℕ → Option Value) (document : ExecutableDocument)
-    (text : List ℕ) : Type 0 where
-  pub names : List (List ℕ)
-  pub selects : Selects document names
-  pub chosen : List (List ℕ × Value)
-  pub chooses : Chooses answers names chosen
-  pub is : text ≡ response_line (data_response chosen)
-
--- the text that a query gives over what is answered under names
-abbrev pub IsAnswerOf : (List ℕ → Option Value) → List ℕ → List ℕ → Type 0
-IsAnswerOf answers query text =
-    (document : ExecutableDocument) × SpellsDocument (chars query) document
-    × IsResponse answers document text
-
--- the text that a query gives which is no document
-abbrev pub IsRefusalOf : List ℕ → List ℕ → Type 0
-IsRefusalOf query text =
-    (fault : ParseFault) × IsDocumentFault (chars query) fault
-    × (text ≡ response_line (refusal (error_of fault ∷ [])))
-
-abbrev pub answers_of : FirstBench → List ℕ → Option Value
-answers_of first name = under name (constants first.fields)
-
--- the text that a bench gives
-abbrev pub IsAnswer : BenchForm → List ℕ → Type 0
-IsAnswer bench text =
-    (first : FirstBench) × IsFirstBench bench first × IsAnswerOf (answers_of first) first.query text
-
--- the text that it gives where its query is no document
-abbrev pub IsRefusal : BenchForm → List ℕ → Type 0
-IsRefusal bench text =
-    (first : FirstBench) × IsFirstBench bench first × IsRefusalOf first.query text
+-- the answer to the request of a bench, with what was told
+abbrev pub IsAnswerTo : Bench → Option (List RecordEntry) → Answer → Type 0
+IsAnswerTo bench told (answer.Response response) = IsResponseTo bench told response
+IsAnswerTo bench told (answer.BadSchema text) = IsRefusedTable bench text
+IsAnswerTo bench told answer.NotBuilt = IsLaterBench bench

@@ -1,69 +1,128 @@
--- What a run of the program has to write, and with which status.
-use Rattle.std.specs.Prelude.{◌≡◌, ◌⊎◌, ℕ, List, [], ◌∷◌, ◌++◌, Option, codes}
-use Rattle.gql_resolve.specs.declared.record_entry.RecordEntry.{RecordEntry}
+-- A run of the program: what is due, and what of it was written.
+use Rattle.std.specs.Prelude.{◌≡◌, ◌⊎◌, ◌+◌, ◌<◌, ◌≤◌, ℕ, List, IfSome, length}
+use Rattle.std.specs.Io.KnownBytes.{Appends, Keeps}
 use Rattle.gql_cli.specs.Command.{words_for}
-use Rattle.gql_cli.specs.Written.{Gives, WithRecord}
-use Rattle.gql_io.specs.Reading.{IsInput, IsTooLong, HasFailed}
+use Rattle.gql_cli.specs.Gives.{Gives, IfResponse}
+use Rattle.gql_cli.specs.Outcome.{due_status, due_text}
 use Rattle.gql_cli.specs.declared.command.Command.{Command}
-use Rattle.gql_cli.specs.declared.written.Written.{Written}
-use Rattle.gql_cli.specs.declared.written.Written.TheVariants.{Answered, Refused, NotJson, BadShape}
-use Rattle.gql_cli.specs.declared.written.Written.TheVariants.{BadSchema, NotBuilt}
 use Rattle.gql_cli.specs.declared.outcome.Outcome.{Outcome}
-use Rattle.gql_cli.specs.declared.outcome.Outcome.TheVariants.{Usage, ReadFault, TooLong, Bench}
+use Rattle.gql_cli.specs.declared.outcome.Outcome.TheVariants.{Answered, BadSchema, BadShape, HasErrors}
+use Rattle.gql_cli.specs.declared.outcome.Outcome.TheVariants.{NotBuilt, NotJson, ReadFault, TooLong}
+use Rattle.gql_cli.specs.declared.outcome.Outcome.TheVariants.{Usage}
+use Rattle.gql_io.specs.Counts.{HasRisen, IsFull}
+use Rattle.gql_io.specs.Limits.{input_limit}
+use Rattle.gql_io.specs.Reading.{HasFailed, IsInput, IsTooLong}
+use Rattle.gql_io.specs.Writing.{AppendsStart}
+use Rattle.gql_io.specs.declared.sink.Sink.{Ghosts as Sinking}
+use Rattle.gql_io.specs.declared.source.Source.{Ghosts as Sourcing}
+use Rattle.gql_resolve.specs.declared.record_entry.RecordEntry.{RecordEntry}
 
 -- the words are a form that the program knows
 abbrev pub IsListed : List (List ℕ) → Type 0
 IsListed words = (command : Command) × (words ≡ words_for command)
 
--- a text and the end of its line
-abbrev pub line : List ℕ → List ℕ
-line text = text ++ 10 ∷ []
-
-abbrev pub due_status : Outcome → ℕ
-due_status Usage = 2
-due_status ReadFault = 4
-due_status TooLong = 7
-due_status (Bench (Answered text)) = 0
-due_status (Bench (Refused text)) = 1
-due_status (Bench NotJson) = 3
-due_status (Bench (BadShape line)) = 3
-due_status (Bench (BadSchema line)) = 3
-due_status (Bench NotBuilt) = 3
-
-abbrev pub due_text : Outcome → List ℕ
-due_text Usage =
-    line (codes "usage: gqlrun execute | record | batch | threads | stream | ws | load N")
-due_text ReadFault = line (codes "input: read fault")
-due_text TooLong = line (codes "input: too long")
-due_text (Bench (Answered text)) = text
-due_text (Bench (Refused text)) = text
-due_text (Bench NotJson) = line (codes "bench: not JSON")
-due_text (Bench (BadShape text)) = text
-due_text (Bench (BadSchema text)) = text
-due_text (Bench NotBuilt) = line (codes "bench: not built yet")
-
--- The words are those of a command, the whole input was read, and this is what it gives to the
--- command as a bench. Where that has a response, the record of its polls was told.
-pub record HasRun {I : Type 0} (left : I → Option (List ℕ)) (given : I → ℕ) (old new : I)
-    (Told : List RecordEntry → Type 0)
-    (words : List (List ℕ)) (written : Written) : Type 0 where
-  pub command : Command
-  pub listed : words ≡ words_for command
-  pub bytes : List ℕ
-  pub input : IsInput left given old new bytes
-  pub gives : WithRecord (Gives command bytes) Told written
-
--- What is due for these words, in the order in which it is decided: the words first, then how the
--- reading of the source went, and then what the input gives as a bench.
-abbrev pub IsDue : {I : Type 0} → (I → Option (List ℕ)) → (I → ℕ) → (I → ℕ) → I → I
-    → (List RecordEntry → Type 0) → List (List ℕ) → Outcome → Type 0
-IsDue left given faults old new Told words Usage = ¬ IsListed words
-IsDue left given faults old new Told words ReadFault =
-    IsListed words × HasFailed given faults old new
-IsDue left given faults old new Told words TooLong = IsListed words × IsTooLong left given old new
-IsDue left given faults old new Told words (Bench written) =
-    HasRun left given old new Told words written
-
 -- the sink failed, or memory was wanting, before the whole text was written
 abbrev pub IsCutOff : ℕ → Type 0
 IsCutOff status = (status ≡ 5) ⊎ (status ≡ 6)
+
+-- the two ends of a run at one moment: the source and the sink
+pub record Ends (I O : Type 0) : Type 0 where
+  pub source : I
+  pub sink : O
+
+-- the same, as a contract names them
+abbrev pub ends : {I O : Type 0} → I → O → Ends I O
+ends source sink = record { source = source; sink = sink }
+
+module _ {I : Type 0} (source : Sourcing I) (Told : List RecordEntry → Type 0)
+    (words : List (List ℕ)) (old new : I) where
+  -- the words are those of a command, the whole input was read, and it gives this to the command,
+  -- with this record
+  pub record IsGiven (outcome : Outcome) (entries : List RecordEntry) : Type 0 where
+    pub command : Command
+    pub listed : words ≡ words_for command
+    pub bytes : List ℕ
+    pub input : IsInput source.left source.given old new bytes
+    pub gives : Gives command bytes outcome entries
+
+  -- the same with some record; where there is a response, it was told
+  abbrev pub IsGivenWith : Outcome → Type 0
+  IsGivenWith outcome =
+      (entries : List RecordEntry) × IsGiven outcome entries × IfResponse outcome (Told entries)
+
+  -- What is due, in the order in which it is decided: the words first, then how the reading of the
+  -- source went, and then what the input gives as a bench.
+  abbrev pub IsDue : Outcome → Type 0
+  IsDue Usage = ¬ IsListed words
+  IsDue ReadFault = IsListed words × HasFailed source.given source.faults old new
+  IsDue TooLong = IsListed words × IsTooLong source.left source.given old new
+  IsDue outcome = IsGivenWith outcome
+
+module _ {I O : Type 0} (source : Sourcing I) (sink : Sinking O)
+    (Told : List RecordEntry → Type 0) (words : List (List ℕ)) (old new : Ends I O) where
+  -- the count of the source's faults rose
+  abbrev pub ReadFailed : Type 0
+  ReadFailed = HasRisen (source.faults old.source) (source.faults new.source)
+
+  -- the count of the sink's faults rose
+  abbrev pub WriteFailed : Type 0
+  WriteFailed = HasRisen (sink.faults old.sink) (sink.faults new.sink)
+
+  -- this is due, and a front of its text was written
+  abbrev pub IsBegun : Type 0
+  IsBegun =
+      (due : Outcome) × IsDue source Told words old.source new.source due
+      × AppendsStart (sink.held old.sink) (sink.held new.sink) (due_text due)
+
+  module _ (status : ℕ) where
+    -- this status is that of an outcome, whose whole text was written
+    abbrev pub IsWritten : Outcome → Type 0
+    IsWritten outcome =
+        (status ≡ due_status outcome)
+        × Appends (sink.held old.sink) (sink.held new.sink) (due_text outcome)
+
+    -- an input that is within the limit gives its text to a command, unless a read or a write fails
+    -- or memory is wanting
+    abbrev pub IsComplete : Command → List ℕ → Type 0
+    IsComplete command input =
+        length input ≤ input_limit → ¬ ReadFailed → ¬ WriteFailed
+        → (status ≡ 6) ⊎ ((outcome : Outcome) × (entries : List RecordEntry)
+        × Gives command input outcome entries × IsWritten outcome)
+
+    -- what a run has done that ended with a status
+    pub record HasRun : Type 0 where
+      -- 2 comes exactly where the words are no listed form, and then nothing is read
+      pub usage : status ≡ 2 → ¬ IsListed words
+      pub usage_only : ¬ IsListed words → (status ≡ 2) ⊎ IsCutOff status
+      pub unread : ¬ IsListed words → new.source ≡ old.source
+      -- 4 comes only where a read failed
+      pub read_fault : status ≡ 4 → ReadFailed
+      -- 7 comes exactly where more than the limit was read
+      pub too_long : status ≡ 7 → IsTooLong source.left source.given old.source new.source
+      pub too_many_given : source.given old.source + input_limit < source.given new.source
+          → (status ≡ 7) ⊎ IsCutOff status ⊎ IsFull (source.given new.source)
+      pub too_many_left : IsListed words → IfSome (source.left old.source) (λ input.
+          input_limit < length input → (status ≡ 7) ⊎ (status ≡ 4) ⊎ IsCutOff status)
+      -- 0, 1 and 3 come after the whole input was read, by what it gives as a bench
+      pub bench : (status ≡ 0) ⊎ (status ≡ 1) ⊎ (status ≡ 3)
+          → (outcome : Outcome) × (entries : List RecordEntry)
+          × IsGiven source Told words old.source new.source outcome entries × IsWritten outcome
+      -- where there is a response, the set that answered is held, and told the record of the
+      -- bench, which is the one that the text tells of, and nothing else
+      pub told : (status ≡ 0) ⊎ (status ≡ 1)
+          → (outcome : Outcome) × (entries : List RecordEntry)
+          × IsGiven source Told words old.source new.source outcome entries × IsWritten outcome
+          × Told entries
+      -- 5 comes only where a write failed
+      pub write_fault : status ≡ 5 → WriteFailed
+      -- every other status but 6, of wanting memory, comes once the whole text is written that is
+      -- due with it
+      pub written : IsCutOff status ⊎ ((due : Outcome)
+          × IsDue source Told words old.source new.source due × IsWritten due)
+      -- at 5 and 6 a front of the text that is due was written, and where memory was wanting
+      -- before, nothing
+      pub cut_off : status ≡ 5 → IsBegun
+      pub no_memory : status ≡ 6 → Keeps (sink.held old.sink) (sink.held new.sink) ⊎ IsBegun
+      -- an input that is told gives its text
+      pub complete : (command : Command) → words ≡ words_for command
+          → IfSome (source.left old.source) (IsComplete command)

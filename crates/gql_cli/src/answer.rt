@@ -1,88 +1,130 @@
-//! The answer of a first bench.
-ghost use Rattle.std.specs.Prelude.{◌≡◌, ℕ, List, ◌∷◌, [], IfOk, IfSome, MatchBool, MatchOption};
-ghost use Rattle.gql_cli.specs.Answer.{Chooses, HasChosen, IsResponse, error_of, refusal};
-ghost use Rattle.gql_cli.specs.Answer.{response_line};
-ghost use Rattle.gql_bench.specs.Bench.{bench_answers, IsSuited};
+//! The answer to a bench's request.
+ghost use Rattle.std.specs.Prelude.{◌≡◌, IfOk, MatchBool, true};
+ghost use Rattle.std.specs.List.{list_any};
+ghost use Rattle.gql_base.specs.Pairs.{values_of};
 ghost use Rattle.gql_bench.specs.TableMaker.{IsSetOf};
-ghost use Rattle.gql_cli.specs.BenchRecord.{HasToldFor, bench_task};
-ghost use Rattle.gql_cli.specs.PlaceResponse.{response_at};
+ghost use Rattle.gql_cli.specs.Answer.{AnswersOver, IsAnswerTo};
+ghost use Rattle.gql_cli.specs.Request.{IsLater, mutates};
+ghost use Rattle.gql_doc.specs.Depth.{operations_in};
+ghost use Rattle.gql_engine.specs.Progress.{seen};
+ghost use Rattle.gql_exec.specs.Execution.{asks, Executes};
 
-use crate::execution::run_query;
-use crate::place_response::response_at;
-use crate::query::selected_names;
-use gql_base::{JsonText, Made, Name, ServerError, Text};
-use gql_bench::Bench;
-use gql_doc::{ExecutableDocument, ParseFault};
-use gql_place::Place;
-use gql_request::Response;
-use gql_resolve::ResolverSet;
-use std::alloc::Global;
+use gql_base::{Items, Made, Pairs, Text};
+use gql_bench::{Bench, ListTurns};
+use gql_doc::{
+    DocumentOperations, ExecutableDocument, OperationDefinition, OperationType, Positioned,
+    parse_query,
+};
+use gql_exec::{DynamicRequest, DynamicRequestExt, Schema};
+use gql_request::{Hooks, Request, Response};
+use gql_resolve::{ResolverSet, Turns};
+use std::alloc::{AllocError, Global};
 
-/// The line of the response to a document that asks for some fields by their names alone, where
-/// each is a field. It is run over a set of the bench.
-pub(crate) fn response_of<S: ResolverSet<Own = i64>>(
-    alloc: Global,
-    bench: &Bench,
-    document: ExecutableDocument,
-    set: &mut S,
-) -> Made<Option<Text>>
-    requires suited { IsSuited bench.now }
-    requires set { IsSetOf bench.now (S.is_lawful set.old) (S.is_paced set.old)
-        (λ call. S.answer (S.rules set.old) call (S.world set.old)) (S.delay (S.rules set.old))
-        (S.told set.old) }
-    ensures response { IfOk result (λ found. MatchOption found
-        ((text : List ℕ) → IsResponse (bench_answers bench.now) document text → ⊥)
-        (IsResponse (bench_answers bench.now) document)) }
-    ensures record { IfOk result (λ found. IfSome found (λ text.
-        HasToldFor (bench_task bench.now) bench.now.turns document (S.told set.new))) }
-{
-    let Some(names) = selected_names(alloc, &document)? else {
-        return Ok(None);
-    };
-    if !has_fields(bench, names.as_slice()) {
-        return Ok(None);
-    }
-    let place = run_query(alloc, bench, document, set)?;
-    Ok(Some(place_line(alloc, &place)?))
+/// The answer to a bench's request.
+#[derive(Debug, Drop)]
+pub(crate) enum Answer {
+    /// The response.
+    Response(Response),
+    /// Why the table of the bench's types is refused.
+    BadSchema(Text),
+    /// The request isn't built.
+    NotBuilt,
 }
 
-/// True exactly where the query root has a field of each of these names.
-fn has_fields(bench: &Bench, names: &[Name]) -> bool
-    ensures { MatchBool result (HasChosen (bench_answers bench.now) names.now)
-        ((chosen : _) → Chooses (bench_answers bench.now) names.now chosen → ⊥) }
+/// The answer to the request of a bench, over a set that is made for the bench.
+pub(crate) fn answer_to<S: ResolverSet<Own = i64, World = Items<i64>>>(
+    alloc: Global,
+    bench: Bench,
+    set: &mut S,
+) -> Made<Answer>
+    requires set { IsSetOf bench (S.is_lawful set.old) (S.is_paced set.old)
+        (S.answer (S.rules set.old)) (S.delay (S.rules set.old)) (S.told set.old) }
+    requires world { S.world set.old ≡ bench.cells }
+    ensures { IfOk result (IsAnswerTo bench (S.told set.new)) }
 {
-    for name in names {
-        match bench.constant(name.as_str()) {
-            Some(_) => {}
-            None => return false,
+    let Bench {
+        builder,
+        root,
+        turns,
+        requests,
+        ..
+    } = bench;
+    let schema = match builder.finish(alloc)? {
+        Ok(schema) => schema,
+        Err(error) => return Ok(Answer::BadSchema(error.text)),
+    };
+    let Ok(inner) = requests.into_single() else {
+        return Ok(Answer::NotBuilt);
+    };
+    let request = inner.root_value(root);
+    let mut turns = ListTurns::new(turns);
+    answer_over(alloc, &schema, &request, set, &mut turns)
+}
+
+/// The answer to a request over a schema.
+fn answer_over<S: ResolverSet<Own = i64>>(
+    alloc: Global,
+    schema: &Schema,
+    request: &DynamicRequest<i64>,
+    set: &mut S,
+    turns: &mut ListTurns,
+) -> Made<Answer>
+    ensures { IfOk result (AnswersOver
+        (Executes S.ResolverSet ⟦<ListTurns as Turns>⟧ (seen set.old turns.old)
+        (seen set.new turns.new) (asks schema.now request.now))
+        (IsLater schema.now request.now.inner)) }
+{
+    if is_later(alloc, schema, &request.inner)? {
+        return Ok(Answer::NotBuilt);
+    }
+    let mut hooks = Hooks::none(alloc);
+    match schema.execute(alloc, set, &mut hooks, request, turns) {
+        Ok(response) => Ok(Answer::Response(response)),
+        Err(_) => Err(AllocError),
+    }
+}
+
+/// Whether a request has a form that isn't built: a mutation, where its root is an object.
+fn is_later(alloc: Global, schema: &Schema, request: &Request) -> Made<bool>
+    ensures { IfOk result (λ later. MatchBool later (IsLater schema.now request.now)
+        (IsLater schema.now request.now → ⊥)) }
+{
+    if schema.root_object(OperationType::Mutation).is_none() {
+        return Ok(false);
+    }
+    match parse_query(alloc, request.query.as_str())? {
+        Ok(document) => Ok(has_mutation(&document)),
+        Err(_) => Ok(false),
+    }
+}
+
+/// Whether a document has a mutation.
+fn has_mutation(document: &ExecutableDocument) -> bool
+    ensures { result ≡ list_any mutates (operations_in document.now.operations) }
+{
+    match &document.operations {
+        DocumentOperations::Single(operation) => is_mutation(operation),
+        DocumentOperations::Multiple(operations) => has_mutation_among(operations),
+    }
+}
+
+fn has_mutation_among(operations: &Pairs<Positioned<OperationDefinition>>) -> bool
+    ensures { result ≡ list_any mutates (values_of operations.now) }
+{
+    for place in 0..operations.len() {
+        let (_, operation) = operations.at(place);
+        if is_mutation(operation) {
+            return true;
         }
     }
-    true
+    false
 }
 
-/// The line of the response that tells what is wrong with a text that is no document.
-pub(crate) fn refusal_of(alloc: Global, fault: ParseFault) -> Made<Text>
-    ensures { IfOk result (λ text. text ≡ response_line (refusal (error_of fault ∷ []))) }
+fn is_mutation(operation: &Positioned<OperationDefinition>) -> bool
+    ensures { result ≡ mutates operation.now }
 {
-    let error = ServerError::new(alloc, fault.message(), Some(fault.pos))?;
-    let errors = error.into_list(alloc)?;
-    response_text(alloc, &Response::from_errors(alloc, errors))
-}
-
-/// The line of the response of a place.
-fn place_line(alloc: Global, place: &Place) -> Made<Text>
-    ensures { IfOk result (λ text. text ≡ response_line (response_at place.now)) }
-{
-    let response = response_at(alloc, place)?;
-    response_text(alloc, &response)
-}
-
-/// The line of a response.
-fn response_text(alloc: Global, response: &Response) -> Made<Text>
-    ensures { IfOk result (λ text. text ≡ response_line response.now) }
-{
-    let mut out = String::new(alloc);
-    response.push_text(&mut out)?;
-    out.push_str("\n")?;
-    Ok(Text::from_string(out))
+    match operation.node.ty {
+        OperationType::Mutation => true,
+        OperationType::Query | OperationType::Subscription => false,
+    }
 }

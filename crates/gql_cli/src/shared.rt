@@ -1,5 +1,5 @@
 //! The public types that hold no values can be moved to threads and shared between them.
-use crate::{Command, Outcome, Status, Written};
+use crate::{Command, Outcome, Status};
 
 fn shared<T: Send + Sync>() {}
 
@@ -7,5 +7,4 @@ fn public_types() {
     shared::<Command>();
     shared::<Outcome>();
     shared::<Status>();
-    shared::<Written>();
 }

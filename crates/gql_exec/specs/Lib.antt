@@ -1,6 +1,13 @@
+pub mod Admission
+pub mod Bare
 pub mod Builder
 pub mod DynamicRequest
+pub mod Execution
 pub mod Federation
 pub mod Limits
+pub mod PlaceResponse
+pub mod Ready
+pub mod Root
+pub mod Scene
 pub mod Schema
 pub mod Settings

@@ -1,14 +1,20 @@
 //! Schemas as requests meet them: a checked table of types with the names of its roots, its limits
-//! and its data, and the builder that makes one. Their execution is to come.
+//! and its data, the builder that makes one, and the execution of requests over it.
 #![tactic(auto)]
 
 mod builder;
 mod dynamic_request;
+mod execution;
+mod place_response;
+mod ready;
+mod root;
 mod schema;
 mod settings;
 mod shared;
 
 pub use builder::SchemaBuilder;
 pub use dynamic_request::{DynamicRequest, DynamicRequestExt};
+pub use place_response::response_at;
+pub use ready::Ready;
 pub use schema::Schema;
 pub use settings::Settings;

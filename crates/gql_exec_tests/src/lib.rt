@@ -1,5 +1,9 @@
-//! Tests of `gql_exec`: schemas and their builders.
+//! Tests of `gql_exec`: schemas, their builders, and requests over them.
 #![tactic(auto)]
 
+#[cfg(test)]
+mod ballot;
+#[cfg(test)]
+mod request_tests;
 #[cfg(test)]
 mod tests;

@@ -1,0 +1,108 @@
+//! What a resolver answers to a call in a world of cells, by its rule.
+ghost use Rattle.std.specs.Prelude.{◌≡◌, [], map, option_and_then, IfOk};
+ghost use Rattle.std.specs.Option.{option_copied};
+ghost use Rattle.gql_base.specs.Kinds.{object_of};
+ghost use Rattle.gql_resolve.specs.Call.{call_of};
+ghost use Rattle.gql_resolve.specs.FieldValue.{value_in};
+ghost use Rattle.gql_bench.specs.Answer.{answer_by, cell_at, given_under, kind_outcome};
+ghost use Rattle.gql_bench.specs.Answer.{parent_member, parent_members};
+ghost use Rattle.gql_bench.specs.Outcome.{plain_error};
+
+use crate::rule::{Rule, RuleKind};
+use crate::sum::{Outcome, message_error, sum_of};
+use gql_base::{Copied, Error, Items, Made, Number, Pairs, Text, Value};
+use gql_resolve::{Answer, FieldValue, ResolverContext};
+use std::alloc::Global;
+
+/// The answer by a rule, with the rule's added errors and its headers.
+pub(crate) fn answer_of(
+    alloc: Global,
+    rule: &Rule,
+    call: &ResolverContext<'_, i64>,
+    cells: &[i64],
+) -> Made<Answer<i64>>
+    ensures { IfOk result
+        (λ answer. answer ≡ answer_by rule.now (call_of call.now) cells.now) }
+{
+    let added = errors_of(alloc, rule.added.as_slice())?;
+    let headers = rule.headers.try_clone(alloc)?;
+    let result = outcome_of(alloc, &rule.kind, call, cells)?;
+    Ok(Answer {
+        result,
+        added,
+        headers,
+    })
+}
+
+/// Errors with these messages.
+fn errors_of(alloc: Global, messages: &[Text]) -> Made<Items<Error>>
+    ensures { IfOk result (λ errors. errors ≡ map plain_error messages.now) }
+{
+    let mut errors = Items::new(alloc);
+    for message in messages {
+        errors.push(message_error(alloc, message.as_str())?)?;
+    }
+    Ok(errors)
+}
+
+/// What comes by a rule.
+fn outcome_of(
+    alloc: Global,
+    kind: &RuleKind,
+    call: &ResolverContext<'_, i64>,
+    cells: &[i64],
+) -> Made<Outcome>
+    ensures { IfOk result
+        (λ outcome. outcome ≡ kind_outcome kind.now (call_of call.now) cells.now) }
+{
+    let arguments = call.args.as_index_map();
+    match kind {
+        RuleKind::Const(given) => Ok(Ok(Some(given.try_clone(alloc)?))),
+        RuleKind::None => Ok(Ok(None)),
+        RuleKind::Fail(message) => Ok(Err(message_error(alloc, message.as_str())?)),
+        RuleKind::Member(name) => Ok(Ok(member_of(alloc, name.as_str(), call.parent_value)?)),
+        RuleKind::Arg(name) => Ok(Ok(value_under(alloc, name.as_str(), arguments)?)),
+        RuleKind::Sum(paths) => sum_of(alloc, paths.as_slice(), arguments),
+        RuleKind::Read(place) | RuleKind::Bump(place) => Ok(Ok(cell_of(*place, cells))),
+    }
+}
+
+/// The member of this name of a parent, where it is an object value that has it.
+fn member_of(alloc: Global, name: &str, parent: &FieldValue<i64>) -> Made<Option<FieldValue<i64>>>
+    ensures { IfOk result (λ given. given ≡ parent_member name.now parent.now) }
+{
+    match members_of(parent) {
+        Some(members) => value_under(alloc, name, members),
+        None => Ok(None),
+    }
+}
+
+/// The members of a parent that is an object value.
+fn members_of(parent: &FieldValue<i64>) -> Option<&Pairs<Value>>
+    ensures { option_copied result ≡ parent_members parent.now }
+{
+    match parent {
+        FieldValue::Value(Value::Object(members)) => Some(members),
+        _ => None,
+    }
+}
+
+/// A copy of the value of this name, where there is one.
+fn value_under(alloc: Global, name: &str, members: &Pairs<Value>) -> Made<Option<FieldValue<i64>>>
+    ensures { IfOk result (λ given. given ≡ given_under name.now members.now) }
+{
+    match members.get(name) {
+        Some(value) => Ok(Some(FieldValue::Value(value.try_clone(alloc)?))),
+        None => Ok(None),
+    }
+}
+
+/// The cell at a place, where there is one.
+fn cell_of(place: u64, cells: &[i64]) -> Option<FieldValue<i64>>
+    ensures { result ≡ cell_at place cells.now }
+{
+    match cells.get(place as usize) {
+        Some(cell) => Some(FieldValue::Value(Value::Number(Number::from_i64(*cell)))),
+        None => None,
+    }
+}

@@ -1,0 +1,159 @@
+-- A whole record of a story is the only one, where the turns choose and the entries of each task are known.
+use Rattle.std.proofs.Common.{◌≡◌, ◌⊎◌, ℕ, ◌+◌, ◌<◌, ◌≤◌, ◌==◌, Bool, true, false, if◌then◌else◌, List, [], ◌∷◌, ◌++◌, length, length-append, append-nil, Option, Some, None, slice_get, inl, inr, refl, ap, sym, ◌∙◌, subst, eq-eqb, ne_eqb, arith}
+use Rattle.std.proofs.lemmas.List.{append_cancel_left}
+use Rattle.std.proofs.lemmas.Bool.{cases_order}
+use Rattle.std.proofs.lemmas.Option.{slice_get_within}
+use Rattle.gql_engine.specs.Pace.{EachPaced, pending_then_ready, told_of}
+use Rattle.gql_engine.specs.Record.{Choice, Made, NamesTask, Story, Turned, after_entry, after_mark, beneath_of, fresh, made_at, waiting}
+use Rattle.gql_resolve.specs.declared.record_entry.RecordEntry.{RecordEntry}
+
+module _ {A : Type 0} where
+  -- what stands in a list stands there with more behind it
+  front-get : (xs ys : List A) (k : ℕ) (x : A) → slice_get xs k ≡ Some x → slice_get (xs ++ ys) k ≡ Some x
+  front-get [] ys k x is = cc
+  front-get (a ∷ xs) ys 0 x is = is
+  front-get (a ∷ xs) ys (suc k) x is = front-get xs ys k x is
+
+  -- something stands at each place within a list
+  within-get : (xs : List A) (k : ℕ) → k < length xs → (x : A) × (slice_get xs k ≡ Some x)
+  within-get [] k within = absurd (omega arith)
+  within-get (a ∷ xs) 0 within = (a, refl)
+  within-get (a ∷ xs) (suc k) within = within-get xs k (omega arith)
+
+module _ {Task State : Type 0} (choice : Choice State) (story : Story Task) (delay : Task → ℕ) where
+  -- an entry makes tasks behind those that stand
+  mark-tasks : (made : Made Task) (k : ℕ) (b : Bool) → (more : List Task) × ((after_mark story made k b).tasks ≡ made.tasks ++ more)
+  mark-tasks made k true = (beneath_of story (slice_get made.tasks k), refl)
+  mark-tasks made k false = ([], sym (append-nil made.tasks))
+
+  -- a task that stands stands after an entry
+  entry-keeps : (made : Made Task) (e : RecordEntry) (k : ℕ) (task : Task) → slice_get made.tasks k ≡ Some task
+      → slice_get (after_entry story made e).tasks k ≡ Some task
+  entry-keeps made e k task is =
+      let (more, tasks) = mark-tasks made e.task e.ready in
+      ap (λ ts. slice_get ts k) tasks ∙ front-get made.tasks more k task is
+
+  -- and after all entries
+  all-keep : (made : Made Task) (told : List RecordEntry) (k : ℕ) (task : Task) → slice_get made.tasks k ≡ Some task
+      → slice_get (made_at story made told).tasks k ≡ Some task
+  all-keep made [] k task is = is
+  all-keep made (e ∷ told) k task is = all-keep (after_entry story made e) told k task (entry-keeps made e k task is)
+
+  longer : (made : Made Task) (e : RecordEntry) → length made.tasks ≤ length (after_entry story made e).tasks
+  longer made e =
+      let (more, tasks) = mark-tasks made e.task e.ready in
+      let sizes = ap length tasks ∙ length-append made.tasks more in
+      omega arith
+
+  -- an entry of another task is none of a task
+  told-past : (k : ℕ) (e : RecordEntry) (told : List RecordEntry) → (e.task ≡ k → ⊥) → told_of k (e ∷ told) ≡ told_of k told
+  told-past k e told other = ap (λ b. (if b then e.ready ∷ [] else []) ++ told_of k told) (ne_eqb e.task k other)
+
+  told-first : (e : RecordEntry) (told : List RecordEntry) → told_of e.task (e ∷ told) ≡ e.ready ∷ told_of e.task told
+  told-first e told = ap (λ b. (if b then e.ready ∷ [] else []) ++ told_of e.task told) (eq-eqb e.task e.task refl)
+
+  stands-there : (tasks : List Task) (k : ℕ) (e : RecordEntry) (o : Option Task) → slice_get tasks k ≡ o → NamesTask story o e
+      → (task : Task) × (slice_get tasks k ≡ Some task)
+  stands-there tasks k e None is names = absurd names
+  stands-there tasks k e (Some task) is names = (task, is)
+
+  same-entry : (e g : RecordEntry) (o : Option Task) → e.task ≡ g.task → NamesTask story o e → NamesTask story o g → e.ready ≡ g.ready → e ≡ g
+  same-entry e g None task n m is_ready = absurd n
+  same-entry e g (Some t) task n m is_ready = λ i. record { task = task i; resolver = (n.0 ∙ sym m.0) i; path = (n.1 ∙ sym m.1) i; ready = is_ready i }
+
+  -- the entries to come of each task that isn't made yet are those of its delay
+  abbrev Owed : Made Task → List RecordEntry → Type 0
+  Owed made told = (k : ℕ) (task : Task) → length made.tasks ≤ k → slice_get (made_at story made told).tasks k ≡ Some task
+      → told_of k told ≡ pending_then_ready (delay task)
+
+  -- two records that begin with these tasks: those that stand have the same entries in both, and those to come their own
+  record Alike (made : Made Task) (told other : List RecordEntry) : Type 0 where
+    seen : (k : ℕ) → k < length made.tasks → told_of k told ≡ told_of k other
+    owed : Owed made told
+    owed' : Owed made other
+
+  -- the first entry is the same
+  first-same : (made : Made Task) (e g : RecordEntry) (told other : List RecordEntry) → e.task ≡ g.task → NamesTask story (slice_get made.tasks e.task) e
+      → NamesTask story (slice_get made.tasks g.task) g → Alike made (e ∷ told) (g ∷ other) → e ≡ g
+  first-same made e g told other task n m alike =
+      let there = stands-there made.tasks e.task e (slice_get made.tasks e.task) refl n in
+      let within = slice_get_within made.tasks e.task there.0 there.1 in
+      let both = sym (told-first e told) ∙ alike.seen e.task within ∙ ap (λ k. told_of k (g ∷ other)) task ∙ told-first g other in
+      let is_ready : e.ready ≡ g.ready = cc in
+      same-entry e g (slice_get made.tasks e.task) task n (subst (λ k. NamesTask story (slice_get made.tasks k) g) (sym task) m) is_ready
+
+  -- what is owed stays so behind an entry
+  owed-rest : (made : Made Task) (e : RecordEntry) (told : List RecordEntry) → e.task < length made.tasks → Owed made (e ∷ told)
+      → Owed (after_entry story made e) told
+  owed-rest made e told within owed = λ k task past is.
+      let more = longer made e in
+      sym (told-past k e told (λ same. omega arith)) ∙ owed k task (omega arith) is
+
+  -- the entries of a task that an entry makes
+  new-owed : (made : Made Task) (e : RecordEntry) (told : List RecordEntry) → e.task < length made.tasks → Owed made (e ∷ told) → (k : ℕ)
+      → length made.tasks ≤ k → (task : Task) → slice_get (after_entry story made e).tasks k ≡ Some task → told_of k told ≡ pending_then_ready (delay task)
+  new-owed made e told within owed k past task is =
+      sym (told-past k e told (λ same. omega arith)) ∙ owed k task past (all-keep (after_entry story made e) told k task is)
+
+  rest-alike : (made : Made Task) (e : RecordEntry) (told other : List RecordEntry) → e.task < length made.tasks → Alike made (e ∷ told) (e ∷ other)
+      → Alike (after_entry story made e) told other
+  rest-alike made e told other within alike = record {
+    seen = λ k there. by k there (cases_order k (length made.tasks));
+    owed = owed-rest made e told within alike.owed;
+    owed' = owed-rest made e other within alike.owed';
+  }
+    where
+      fresh-one : (k : ℕ) → k < length (after_entry story made e).tasks → length made.tasks ≤ k → told_of k told ≡ told_of k other
+      fresh-one k there past =
+          let (task, is) = within-get (after_entry story made e).tasks k there in
+          new-owed made e told within alike.owed k past task is ∙ sym (new-owed made e other within alike.owed' k past task is)
+
+      by : (k : ℕ) → k < length (after_entry story made e).tasks → (k ≡ length made.tasks) ⊎ ((k < length made.tasks) ⊎ (length made.tasks < k))
+          → told_of k told ≡ told_of k other
+      by k there (inl same) = fresh-one k there (omega arith)
+      by k there (inr (inl before)) = append_cancel_left (if e.task == k then e.ready ∷ [] else []) (told_of k told) (told_of k other) (alike.seen k before)
+      by k there (inr (inr behind)) = fresh-one k there (omega arith)
+
+  -- an entry after none waits
+  never-more : (state : State) (made : Made Task) (e : RecordEntry) → waiting made ≡ []
+      → slice_get (waiting made) (choice.place state (length (waiting made))) ≡ Some e.task → ⊥
+  never-more state made e none taken =
+      let nothing : slice_get [] (choice.place state (length (waiting made))) ≡ Some e.task = ap (λ ws. slice_get ws (choice.place state (length (waiting made)))) (sym none) ∙ taken in
+      cc
+
+  same-record : (state : State) (made : Made Task) (told other : List RecordEntry) → Turned choice story state made told → Turned choice story state made other
+      → waiting (made_at story made told) ≡ [] → waiting (made_at story made other) ≡ [] → Alike made told other → told ≡ other
+  same-record state made [] [] t u w v alike = refl
+  same-record state made [] (g ∷ other) t u w v alike = absurd (never-more state made g w u.0)
+  same-record state made (e ∷ told) [] t u w v alike = absurd (never-more state made e v t.0)
+  same-record state made (e ∷ told) (g ∷ other) t u w v alike =
+      let task : e.task ≡ g.task = let both = sym t.0 ∙ u.0 in cc in
+      let same = first-same made e g told other task t.1 u.1 alike in
+      let next = choice.after state (length (waiting made)) in
+      let there = stands-there made.tasks e.task e (slice_get made.tasks e.task) refl t.1 in
+      let within = slice_get_within made.tasks e.task there.0 there.1 in
+      let rest = rest-alike made e told other within (subst (λ h. Alike made (e ∷ told) (h ∷ other)) (sym same) alike) in
+      λ i. same i ∷ same-record next (after_entry story made e) told other t.2 (subst (λ h. Turned choice story next (after_entry story made h) other) (sym same) u.2)
+      w (subst (λ h. waiting (made_at story (after_entry story made h) other) ≡ []) (sym same) v) rest i
+
+  -- a whole record that is turned and paced
+  pub record IsWhole (state : State) (tasks : List Task) (told : List RecordEntry) : Type 0 where
+    pub turned : Turned choice story state (fresh tasks) told
+    pub whole : waiting (made_at story (fresh tasks) told) ≡ []
+    pub paced : EachPaced delay (made_at story (fresh tasks) told).tasks told
+
+  owed-all : (tasks : List Task) (told : List RecordEntry) → EachPaced delay (made_at story (fresh tasks) told).tasks told → Owed (fresh tasks) told
+  owed-all tasks told each = λ k task past is. each.paced k task is
+
+  first-paced : (state : State) (tasks : List Task) (told : List RecordEntry) → IsWhole state tasks told → (k : ℕ) (task : Task)
+      → slice_get tasks k ≡ Some task → told_of k told ≡ pending_then_ready (delay task)
+  first-paced state tasks told is k task there = is.paced.paced k task (all-keep (fresh tasks) told k task there)
+
+  pub one-record : (state : State) (tasks : List Task) (told other : List RecordEntry) → IsWhole state tasks told → IsWhole state tasks other → told ≡ other
+  one-record state tasks told other a b =
+      same-record state (fresh tasks) told other a.turned b.turned a.whole b.whole
+      record {
+        seen = λ k there. let (task, is) = within-get tasks k there in first-paced state tasks told a k task is ∙ sym (first-paced state tasks other b k task is);
+        owed = owed-all tasks told a.paced;
+        owed' = owed-all tasks other b.paced;
+      }

@@ -1,0 +1,75 @@
+//! From a bench to what is to be written.
+ghost use Rattle.std.specs.Prelude.{◌≡◌, IfOk};
+ghost use Rattle.gql_cli.specs.Gives.{BenchGives, HoldsTold, WithRecord, lines_for, outcome_for};
+ghost use Rattle.gql_cli.specs.Gives.{response_text};
+
+use crate::answer::{Answer, answer_to};
+use crate::command::Command;
+use crate::lines::{line_after, line_of};
+use crate::outcome::Outcome;
+use gql_base::{Made, Text};
+use gql_bench::{Bench, Tables, text_behind};
+use gql_request::Response;
+use gql_resolve::RecordEntry;
+use std::alloc::Global;
+
+/// What a bench gives to a command. Its request is executed over a set that `tables` makes, and
+/// that is given back to them before the command writes of its record.
+pub(crate) fn bench_outcome<M: Tables>(
+    alloc: Global,
+    command: Command,
+    bench: Bench,
+    tables: &mut M,
+) -> Made<Outcome>
+    ensures { IfOk result
+        (WithRecord (BenchGives command bench) (HoldsTold (M.held tables.new) M.Set.told)) }
+{
+    if !bench.is_built() {
+        return Ok(Outcome::NotBuilt);
+    }
+    let mut set = tables.make(alloc, &bench)?;
+    let answer = answer_to(alloc, bench, &mut set);
+    tables.take_back(set);
+    match answer? {
+        Answer::Response(response) => { response_outcome(alloc, command, tables.told(), &response) }
+        Answer::BadSchema(text) => {
+            let line = line_after(alloc, "schema: ", text.as_str())?;
+            Ok(Outcome::BadSchema(line))
+        }
+        Answer::NotBuilt => Ok(Outcome::NotBuilt),
+    }
+}
+
+/// What a response is to a run, with the record of its polls.
+fn response_outcome(
+    alloc: Global,
+    command: Command,
+    entries: &[RecordEntry],
+    response: &Response,
+) -> Made<Outcome>
+    ensures { IfOk result (λ outcome. outcome ≡ outcome_for response.now.errors
+        (response_text command entries.now response.now)) }
+{
+    let text = written_text(alloc, command, entries, response)?;
+    if response.is_ok() {
+        Ok(Outcome::Answered(text))
+    } else {
+        Ok(Outcome::HasErrors(text))
+    }
+}
+
+/// What a command writes of a response: the lines of a record stand before it.
+fn written_text(
+    alloc: Global,
+    command: Command,
+    entries: &[RecordEntry],
+    response: &Response,
+) -> Made<Text>
+    ensures { IfOk result (λ text. text ≡ response_text command entries.now response.now) }
+{
+    let line = line_of(alloc, response)?;
+    match command {
+        Command::Execute => Ok(line),
+        Command::Record => text_behind(alloc, entries, &line),
+    }
+}

@@ -1,0 +1,42 @@
+-- What was run of a request's scene is the execution of the request.
+use Rattle.std.proofs.Common.{◌≡◌, ◌⊎◌, Result, Ok, Err, IfOk, OnErr, inl, inr, refl, ap, sym, ◌∙◌, subst}
+use Rattle.gql_engine.specs.Progress.{Seen}
+use Rattle.gql_engine.specs.declared.scene.Scene.{Scene}
+use Rattle.gql_exec.specs.Bare.{bare_scene}
+use Rattle.gql_exec.specs.Execution.{Ask, asked_scene, Executes, GoesOn, Halts, HaltsIn, Runs, Stops}
+use Rattle.gql_exec.specs.Ready.{IsMadeReady}
+use Rattle.gql_exec.specs.Root.{root_for}
+use Rattle.gql_request.specs.declared.query_env.QueryEnv.{QueryEnv}
+use Rattle.gql_request.specs.declared.response.Response.{Response}
+use Rattle.gql_resolve.specs.declared.resolver_set.ResolverSet.{Ghosts as Resolving}
+use Rattle.gql_resolve.specs.declared.turns.Turns.{Ghosts as Choosing}
+use Rattle.gql_schema.specs.declared.object.Object.{Object}
+
+module _ {R Own World Future P : Type 0} (set : Resolving R Own World Future) (turns : Choosing P) (old new : Seen R P) (ask : Ask Own) where
+  -- a request that is ready, its object, and the machine's scene of it
+  pub record IsSet (env : QueryEnv) (object : Object) (scene : Scene Own) : Type 0 where
+    pub ready : IsMadeReady ask.schema ask.request.inner (Ok env)
+    pub root : root_for ask.schema env.operation.node.ty ≡ Ok object
+    pub same : bare_scene scene ≡ asked_scene set turns old new ask env object
+
+  module _ {E : Type 0} (env : QueryEnv) (object : Object) (scene : Scene Own) (is : IsSet env object scene) where
+    pub executes : (result : Result Response E) → (set.is_lawful old.set → IfOk result (Runs set turns old new (bare_scene scene)))
+        → IfOk result (Executes set turns old new ask)
+    executes (Ok response) runs = record {
+      outcome = Ok env;
+      ready = is.ready;
+      comes = subst (λ root. GoesOn set turns old new ask env root response) (sym is.root)
+          (λ lawful. subst (λ s. Runs set turns old new s response) is.same (runs lawful));
+    }
+    executes (Err want) runs = tt
+
+    pub halts : (result : Result Response E) → (set.is_lawful old.set → OnErr result (HaltsIn set turns old new (bare_scene scene)))
+        → OnErr result (Stops set turns old new ask)
+    halts (Ok response) halted = tt
+    halts (Err want) halted = inr record {
+      env = env;
+      object = object;
+      ready = is.ready;
+      root = is.root;
+      told = λ lawful. subst (λ s. HaltsIn set turns old new s) is.same (halted lawful);
+    }

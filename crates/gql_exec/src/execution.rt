@@ -1,0 +1,171 @@
+//! The execution of requests (GraphQL, October 2021, section 6).
+ghost use Rattle.std.specs.Prelude.{◌≡◌, ◌<◌, [], false, IfErr, IfOk, OnErr};
+ghost use Rattle.gql_engine.specs.Progress.{seen};
+ghost use Rattle.gql_engine.specs.Steps.{IsCounted};
+ghost use Rattle.gql_exec.specs.Bare.{bare_scene};
+ghost use Rattle.gql_exec.specs.Execution.{asks, Executes, fault_response, HaltsIn, Runs, Stops};
+ghost use Rattle.gql_exec.specs.Scene.{scene_for};
+ghost use Rattle.gql_resolve.specs.Call.{is_mutation};
+
+use crate::dynamic_request::DynamicRequest;
+use crate::place_response::response_at;
+use crate::schema::Schema;
+use gql_base::{Items, Made, NoMemory, ServerError, Steps};
+use gql_engine::Scene;
+use gql_merged::run_merged_counted;
+use gql_request::{Data, Hooks, QueryEnv, Response};
+use gql_resolve::{Layers, ResolverSet, Turns};
+use gql_schema::Object;
+use std::alloc::Global;
+use std::marker::Brand;
+use std::sync::ledger::{Blank, Ledger};
+
+impl Schema {
+    /// The response to a request, over a resolver set. Each key of an object is one task, and the
+    /// tasks take the turns that are chosen for them.
+    pub fn execute<R: ResolverSet, P: Turns>(
+        &self,
+        alloc: Global,
+        resolvers: &mut R,
+        hooks: &mut Hooks,
+        request: &DynamicRequest<R::Own>,
+        turns: &mut P,
+    ) -> Result<Response, NoMemory>
+        ensures executed { IfOk result (Executes R.ResolverSet P.Turns (seen resolvers.old turns.old)
+            (seen resolvers.new turns.new) (asks self.now request.now)) }
+        ensures stopped { OnErr result (Stops R.ResolverSet P.Turns (seen resolvers.old turns.old)
+            (seen resolvers.new turns.new) (asks self.now request.now)) }
+        ensures rules { R.rules resolvers.new ≡ R.rules resolvers.old }
+        ensures lawful { R.is_lawful resolvers.old → R.is_lawful resolvers.new }
+        ensures world { R.is_lawful resolvers.old
+            → R.world resolvers.new ≡ R.world resolvers.old }
+        ensures roots { IfErr result (λ want. want.roots ≡ 0) }
+    {
+        let blank = Blank::new(1);
+        self.execute_on::<R, P, Brand>(alloc, resolvers, hooks, request, turns, blank)
+    }
+
+    /// The same with steps that nobody looks at.
+    fn execute_on<R: ResolverSet, P: Turns, S: Ledger>(
+        &self,
+        alloc: Global,
+        resolvers: &mut R,
+        hooks: &mut Hooks,
+        request: &DynamicRequest<R::Own>,
+        turns: &mut P,
+        blank: Blank,
+    ) -> Result<Response, NoMemory>
+        requires name { blank.name ≡ S.name }
+        requires parts { blank.parts ≡ S.parts }
+        requires some { 0 < blank.parts }
+        ensures executed { IfOk result (Executes R.ResolverSet P.Turns (seen resolvers.old turns.old)
+            (seen resolvers.new turns.new) (asks self.now request.now)) }
+        ensures stopped { OnErr result (Stops R.ResolverSet P.Turns (seen resolvers.old turns.old)
+            (seen resolvers.new turns.new) (asks self.now request.now)) }
+        ensures rules { R.rules resolvers.new ≡ R.rules resolvers.old }
+        ensures lawful { R.is_lawful resolvers.old → R.is_lawful resolvers.new }
+        ensures world { R.is_lawful resolvers.old
+            → R.world resolvers.new ≡ R.world resolvers.old }
+        ensures roots { IfErr result (λ want. want.roots ≡ 0) }
+    {
+        let mut steps: Steps<S> = Steps::new(blank);
+        self.execute_counted(alloc, resolvers, hooks, request, turns, &mut steps)
+    }
+
+    /// The same, where each start of a resolver that answered is a step.
+    pub fn execute_counted<R: ResolverSet, P: Turns, S: Ledger>(
+        &self,
+        alloc: Global,
+        resolvers: &mut R,
+        hooks: &mut Hooks,
+        request: &DynamicRequest<R::Own>,
+        turns: &mut P,
+        steps: &mut Steps<S>,
+    ) -> Result<Response, NoMemory>
+        ensures executed { IfOk result (Executes R.ResolverSet P.Turns (seen resolvers.old turns.old)
+            (seen resolvers.new turns.new) (asks self.now request.now)) }
+        ensures stopped { OnErr result (Stops R.ResolverSet P.Turns (seen resolvers.old turns.old)
+            (seen resolvers.new turns.new) (asks self.now request.now)) }
+        ensures rules { R.rules resolvers.new ≡ R.rules resolvers.old }
+        ensures lawful { R.is_lawful resolvers.old → R.is_lawful resolvers.new }
+        ensures world { R.is_lawful resolvers.old
+            → R.world resolvers.new ≡ R.world resolvers.old }
+        ensures roots { IfErr result (λ want. want.roots ≡ 0) }
+        ensures counted { IsCounted (R.begun resolvers.old) (R.begun resolvers.new)
+            steps.old steps.new }
+    {
+        match self.prepared(alloc, &request.inner)? {
+            Ok(env) => match self.root_for(env.operation.node.ty) {
+                Ok(object) => {
+                    let session = Data::new(alloc);
+                    let scene = self.scene(request, &env, object, &session);
+                    respond(alloc, &scene, resolvers, hooks, turns, steps)
+                }
+                Err(text) => Ok(fault(alloc, text)?),
+            },
+            Err(errors) => Ok(Response::from_errors(alloc, errors)),
+        }
+    }
+
+    /// The scene of a request with this environment and this object at its root.
+    fn scene<'a, V>(
+        &'a self,
+        request: &'a DynamicRequest<V>,
+        env: &'a QueryEnv,
+        object: &'a Object,
+        session: &'a Data,
+    ) -> Scene<'a, V>
+        requires { session.now ≡ [] }
+        ensures { bare_scene result
+            ≡ scene_for self.entry.now request.entry.now env.entry.now object.entry.now }
+    {
+        Scene {
+            env,
+            types: self.types(),
+            object,
+            query: self.settings().query.as_str(),
+            entities: self.entities(request.inner.introspection_mode),
+            root: &request.root_value,
+            layers: Layers {
+                execute: None,
+                query: &request.inner.query_data,
+                session,
+                schema: self.schema_data(),
+            },
+            serial: false,
+        }
+    }
+}
+
+/// The response that tells one fault of a request, which has no place in its text.
+fn fault(alloc: Global, text: &str) -> Made<Response>
+    ensures { IfOk result (λ response. response ≡ fault_response text.now) }
+{
+    let errors = ServerError::new(alloc, text, None)?.into_list(alloc)?;
+    Ok(Response::from_errors(alloc, errors))
+}
+
+/// The response of merged execution of a scene.
+fn respond<R: ResolverSet, P: Turns, S: Ledger>(
+    alloc: Global,
+    scene: &Scene<'_, R::Own>,
+    resolvers: &mut R,
+    hooks: &mut Hooks,
+    turns: &mut P,
+    steps: &mut Steps<S>,
+) -> Result<Response, NoMemory>
+    requires { is_mutation scene.now.env.now.operation.node.ty ≡ false }
+    ensures runs { R.is_lawful resolvers.old → IfOk result (Runs R.ResolverSet P.Turns
+        (seen resolvers.old turns.old) (seen resolvers.new turns.new) (bare_scene scene.now)) }
+    ensures halts { R.is_lawful resolvers.old → OnErr result (HaltsIn R.ResolverSet P.Turns
+        (seen resolvers.old turns.old) (seen resolvers.new turns.new) (bare_scene scene.now)) }
+    ensures rules { R.rules resolvers.new ≡ R.rules resolvers.old }
+    ensures lawful { R.is_lawful resolvers.old → R.is_lawful resolvers.new }
+    ensures world { R.is_lawful resolvers.old → R.world resolvers.new ≡ R.world resolvers.old }
+    ensures roots { IfErr result (λ want. want.roots ≡ 0) }
+    ensures counted { IsCounted (R.begun resolvers.old) (R.begun resolvers.new)
+        steps.old steps.new }
+{
+    let place = run_merged_counted(alloc, scene, resolvers, hooks, turns, steps)?;
+    Ok(response_at(alloc, &place)?)
+}

@@ -1,0 +1,165 @@
+//! Requests over a schema, with a resolver set of their own.
+use crate::ballot::{Ballot, Last};
+use gql_base::{Made, NoMemory, Text, TypeRef};
+use gql_exec::{DynamicRequest, Schema};
+use gql_request::{Data, Hooks, Request};
+use gql_schema::{Field, Object, SchemaType};
+use std::alloc::{AllocError, Global};
+use std::test::Fail;
+
+/// The type `Query` with the fields `value` and `other`.
+fn query_type(alloc: Global) -> Made<SchemaType> {
+    let value = Field::new(alloc, "value", TypeRef::named(alloc, "Int")?, 0)?;
+    let object = Object::new(alloc, "Query")?.field(alloc, value)?;
+    Ok(SchemaType::Object(object))
+}
+
+/// A schema with that type at the root of queries, and no other root.
+fn schema(alloc: Global) -> Made<Option<Schema>> {
+    let ty = query_type(alloc)?;
+    let builder = Schema::build(alloc, "Query", None, None)?.register(alloc, ty)?;
+    Ok(builder.finish(alloc)?.ok())
+}
+
+/// The JSON of the response to a request over a ballot.
+fn response_json(
+    alloc: Global,
+    schema: &Schema,
+    request: &DynamicRequest<u64>,
+    set: &mut Ballot,
+) -> Result<Text, NoMemory> {
+    let mut hooks = Hooks::none(alloc);
+    let response = schema.execute(alloc, set, &mut hooks, request, &mut Last)?;
+    Ok(response.json(alloc)?)
+}
+
+/// A ballot whose last vote is 7, and whose answers come after a pending poll.
+fn ballot(alloc: Global) -> Ballot {
+    let mut set = Ballot::new(alloc, 1);
+    set.last_vote = 7;
+    set
+}
+
+/// The JSON of the response to a query, and how many polls were told.
+fn answer(alloc: Global, request: Request) -> Result<Option<(Text, usize)>, NoMemory> {
+    let Some(schema) = schema(alloc)? else {
+        return Ok(None);
+    };
+    let mut set = ballot(alloc);
+    let request = DynamicRequest::from(request);
+    let json = response_json(alloc, &schema, &request, &mut set)?;
+    Ok(Some((json, set.entries.len())))
+}
+
+/// Whether a request is answered by this response, after so many polls.
+fn is_answered(
+    alloc: Global,
+    request: Request,
+    json: &str,
+    polls: usize,
+) -> Result<bool, NoMemory> {
+    match answer(alloc, request)? {
+        Some((text, told)) => Ok(text.as_str() == json && told == polls),
+        None => Ok(false),
+    }
+}
+
+fn query_is_answered(
+    alloc: Global,
+    query: &str,
+    json: &str,
+    polls: usize,
+) -> Result<bool, NoMemory> {
+    is_answered(alloc, Request::new(alloc, query)?, json, polls)
+}
+
+/// Requests that are admitted, and refused ones, whose set is never asked.
+const ANSWERS: [(&str, &str, usize); 9] = [
+    ("{ value }", "{\"data\":{\"value\":7}}", 2),
+    (
+        "{ a: value __typename b: value }",
+        "{\"data\":{\"a\":7,\"__typename\":\"Query\",\"b\":7}}",
+        4,
+    ),
+    (
+        "query($v: Boolean = false) { value @include(if: $v) __typename }",
+        "{\"data\":{\"__typename\":\"Query\"}}",
+        0,
+    ),
+    (
+        "{ % }",
+        "{\"data\":null,\"errors\":[{\"message\":\"Syntax error: unexpected character\",\
+\"locations\":[{\"line\":1,\"column\":3}]}]}",
+        0,
+    ),
+    (
+        "{ nope }",
+        "{\"data\":null,\"errors\":[{\"message\":\"Unknown field \\\"nope\\\" on type \\\"Query\\\".\",\
+\"locations\":[{\"line\":1,\"column\":3}]}]}",
+        0,
+    ),
+    (
+        "query A { value } query B { value }",
+        "{\"data\":null,\"errors\":[{\"message\":\"Operation name required in request.\"}]}",
+        0,
+    ),
+    (
+        "subscription { value }",
+        "{\"data\":null,\"errors\":[{\"message\":\"Subscriptions are not supported on this transport.\"}]}",
+        0,
+    ),
+    (
+        "mutation { value }",
+        "{\"data\":null,\"errors\":[{\"message\":\"Mutation root not found\"}]}",
+        0,
+    ),
+    (
+        "{ ...F } fragment F on Query { ...F }",
+        "{\"data\":null,\"errors\":[{\"message\":\"The recursion depth of the query cannot be greater than `32`\",\
+\"locations\":[{\"line\":1,\"column\":30}]}]}",
+        0,
+    ),
+];
+
+#[test]
+fn requests_and_their_responses(rt: HostRuntime) -> Result<(), Fail> {
+    for (query, json, polls) in ANSWERS {
+        assert!(rt;
+            query_is_answered(rt.alloc(), query, json, polls).map_err(|_| AllocError)?,
+            "at {query}"
+        );
+    }
+    Ok(())
+}
+
+/// Whether a request for the schema alone asks no resolver.
+fn asks_for_the_schema(alloc: Global) -> Result<bool, NoMemory> {
+    let request = Request::new(alloc, "{ __typename value }")?.only_introspection();
+    let json = "{\"data\":{\"__typename\":\"Query\",\"value\":null}}";
+    is_answered(alloc, request, json, 0)
+}
+
+#[test]
+fn a_request_for_the_schema_alone(rt: HostRuntime) -> Result<(), Fail> {
+    assert!(rt; asks_for_the_schema(rt.alloc()).map_err(|_| AllocError)?);
+    Ok(())
+}
+
+/// Whether a request is made ready, with so many levels of sets.
+fn is_ready(alloc: Global, query: &str, levels: usize) -> Made<bool> {
+    let Some(schema) = schema(alloc)? else {
+        return Ok(false);
+    };
+    let request = Request::new(alloc, query)?;
+    let ready = schema.ready(alloc, &mut Hooks::none(alloc), &request, &Data::new(alloc))?;
+    match ready {
+        Ok(ready) => Ok(ready.env.levels() == levels && ready.entities.is_none()),
+        Err(_) => Ok(false),
+    }
+}
+
+#[test]
+fn a_request_is_made_ready(rt: HostRuntime) -> Result<(), Fail> {
+    assert!(rt; is_ready(rt.alloc(), "{ value }", 33)?);
+    Ok(())
+}
