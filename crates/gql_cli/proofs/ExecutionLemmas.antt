@@ -44,7 +44,13 @@ module _ {S F : Type 0} (set : Resolving S ℤ (List ℤ) F) (bench : Bench) (st
   story-is : story_of job_subject (λ (job : Job ℤ). due_by set start.set job.asking.call) ≡ story bench
   story-is = ap (λ (answer : Call ℤ → _). story_of job_subject (λ (job : Job ℤ). answer job.asking.call)) due-is
 
-  delays-are : (λ (job : Job ℤ). set.delay (set.rules start.set) job.asking.call.resolver) ≡ (λ (job : Job ℤ). table_delay bench.rules job.asking.call.resolver)
+  abbrev set_delay : Job ℤ → ℕ
+  set_delay job = set.delay (set.rules start.set) job.asking.call.resolver
+
+  abbrev bench_delay : Job ℤ → ℕ
+  bench_delay job = table_delay bench.rules job.asking.call.resolver
+
+  delays-are : set_delay ≡ bench_delay
   delays-are = λ i job. at.delays job.asking.call.resolver i
 
   -- what was told is a record, and the response comes with it
@@ -64,7 +70,7 @@ module _ {S F : Type 0} (set : Resolving S ℤ (List ℤ) F) (bench : Bench) (st
           turned = subst (λ (st : Story (Job ℤ)). Turned list_turns st (bench.turns, 0) (fresh (root_jobs scene)) entries) story-is
               (runs.tells.ran.turned (bench.turns, 0) at.turns);
           whole = ap waiting (sym made) ∙ runs.tells.whole;
-          paced = subst (λ (m : Made (Job ℤ)). EachPaced (λ (job : Job ℤ). table_delay bench.rules job.asking.call.resolver) m.tasks entries) made
+          paced = subst (λ (m : Made (Job ℤ)). EachPaced bench_delay m.tasks entries) made
               (subst (λ (delay : Job ℤ → ℕ). EachPaced delay runs.tells.made.tasks entries) delays-are (runs.tells.paces at.paced [] at.untold));
         }
 
@@ -72,18 +78,17 @@ module _ {S F : Type 0} (set : Resolving S ℤ (List ℤ) F) (bench : Bench) (st
     ran = (
       runs.tells.ran.entries,
       runs.tells.ran.told_is ∙ ap (λ told. with_more told runs.tells.ran.entries) at.untold,
-      runs.answered ∙ ap (response_in scene) due-is,
-      recorded,
+      (runs.answered ∙ ap (response_in scene) due-is, recorded),
     )
 
   went : (env : QueryEnv) (root : Result Object (List ℕ)) → Went set ghosts start new ask env root response
       → Told (λ entries. GoesOn bench ask response entries env root)
   went env (Ok object) goes = ran (scene_for ask.schema ask.request env object) (goes at.lawful)
-  went env (Err text) (is, same) = ([], none same, is, refl)
+  went env (Err text) (is, same) = ([], none same, (is, refl))
 
   came : (outcome : Prepared) → Came set ghosts start new ask outcome response → Told (λ entries. ComesOf bench ask response entries outcome)
   came (Ok env) comes = went env (root_for ask.schema env.operation.node.ty) comes
-  came (Err errors) (is, same) = ([], none same, is, refl)
+  came (Err errors) (is, same) = ([], none same, (is, refl))
 
   pub executed : Executes set ghosts start new ask response → Told (IsExecuted bench ask response)
   executed e =

@@ -19,6 +19,7 @@ use Rattle.gql_cli.specs.declared.command.Command.{Command}
 use Rattle.gql_cli.specs.declared.outcome.Outcome.{Outcome}
 use Rattle.gql_cli.specs.declared.outcome.Outcome.TheVariants.{Answered, BadSchema, BadShape, HasErrors, NotBuilt, NotJson, ReadFault, TooLong, Usage}
 use Rattle.gql_engine.specs.declared.scene.Scene.{Scene}
+use Rattle.gql_cli.proofs.SchemaLemmas.{one_builder, one_schema}
 use Rattle.gql_exec.proofs.ReadyLemmas.{one_ready}
 use Rattle.gql_exec.specs.Builder.{IsSchemaOf, settings_of, table_of, whole_table}
 use Rattle.gql_exec.specs.Execution.{Ask, asks}
@@ -89,7 +90,7 @@ module _ (bench : Bench) where
       settings = one.is.settings ∙ sym other.is.settings
 
       schema-same : one.schema ≡ other.schema
-      schema-same = cc
+      schema-same = one_schema one.schema other.schema table settings
 
   response-same : (told said : Option (List RecordEntry)) (r s : Response) → (a : IsResponseTo bench told r) → (b : IsResponseTo bench said s)
       → AreOne r s a.entries b.entries
@@ -108,7 +109,7 @@ module _ (bench : Bench) where
   never-schema : (text : List ℕ) → IsRefusedTable bench text → (schema : Schema) → IsSchemaOf bench.builder schema → ⊥
   never-schema text (error, refused, is) schema made = never-sound (whole_table bench.builder) error refused made.sound
 
-if-response : (outcome : Outcome) (P : Type 0) → P → IfResponse outcome P
+pub if-response : (outcome : Outcome) (P : Type 0) → P → IfResponse outcome P
 if-response (Answered text) P p = p
 if-response (HasErrors text) P p = p
 if-response Usage P p = tt
@@ -162,16 +163,16 @@ module _ (command : Command) (bench : Bench) where
     never-unbuilt : is_built bench ≡ true → ((asked : Asked bench) → IsLater asked.schema asked.request.inner → ⊥) → IsUnbuilt bench → ⊥
     never-unbuilt built now (inl none) = let both = sym built ∙ none in cc
     never-unbuilt built now (inr (inl none)) = alone built none
-    never-unbuilt built now (inr (inr (asked, later))) = now asked later
+    never-unbuilt built now (inr (inr (asked, late))) = now asked late
 
     by-ways : (one other : Outcome) (entries others : List RecordEntry) → Way one entries → Way other others → Same one other entries others
     by-ways one other entries others (later a un) (later b un') = same-plain one other NotBuilt entries others a b tt
     by-ways one other entries others (later a un) (unsound text b why) =
-        absurd (never-unbuilt why.built (λ asked later. never-schema bench why.why why.refused asked.schema asked.is) un)
+        absurd (never-unbuilt why.built (λ asked now. never-schema bench why.why why.refused asked.schema asked.is) un)
     by-ways one other entries others (later a un) (answer b) =
-        absurd (never-unbuilt b.built (λ asked later. b.answered.now (later-same bench asked b.answered.asks_for later)) un)
+        absurd (never-unbuilt b.built (λ asked now. b.answered.now (later-same bench asked b.answered.asks_for now)) un)
     by-ways one other entries others (unsound text a why) (later b un) =
-        absurd (never-unbuilt why.built (λ asked later. never-schema bench why.why why.refused asked.schema asked.is) un)
+        absurd (never-unbuilt why.built (λ asked now. never-schema bench why.why why.refused asked.schema asked.is) un)
     by-ways one other entries others (unsound text a why) (unsound said b why') =
         let (error, refused, is) = why.refused in
         let (error', refused', is') = why'.refused in
@@ -181,7 +182,7 @@ module _ (command : Command) (bench : Bench) where
     by-ways one other entries others (unsound text a why) (answer b) =
         absurd (never-schema bench why.why why.refused b.answered.asks_for.schema b.answered.asks_for.is)
     by-ways one other entries others (answer a) (later b un) =
-        absurd (never-unbuilt a.built (λ asked later. a.answered.now (later-same bench asked a.answered.asks_for later)) un)
+        absurd (never-unbuilt a.built (λ asked now. a.answered.now (later-same bench asked a.answered.asks_for now)) un)
     by-ways one other entries others (answer a) (unsound text b why) =
         absurd (never-schema bench why.why why.refused a.answered.asks_for.schema a.answered.asks_for.is)
     by-ways one other entries others (answer a) (answer b) = answer-same one other entries others a b
@@ -202,16 +203,19 @@ module _ (form : BenchForm) where
   bench-same one other a b =
       let table = a.table ∙ sym b.table in
       let settings = a.settings ∙ sym b.settings in
-      let rules = a.rules ∙ sym b.rules in
-      let sources = a.sources ∙ sym b.sources in
-      let cells = a.cells ∙ sym b.cells in
-      let root = a.root ∙ sym b.root in
-      let turns = a.turns ∙ sym b.turns in
-      let log = a.log ∙ sym b.log in
-      let requests = a.requests ∙ sym b.requests in
-      let ws = a.ws ∙ sym b.ws in
-      let built = a.built ∙ sym b.built in
-      cc
+      let builder = one_builder one.builder other.builder table settings in
+      λ i. record {
+        builder = builder i;
+        rules = (a.rules ∙ sym b.rules) i;
+        sources = (a.sources ∙ sym b.sources) i;
+        cells = (a.cells ∙ sym b.cells) i;
+        root = (a.root ∙ sym b.root) i;
+        turns = (a.turns ∙ sym b.turns) i;
+        log = (a.log ∙ sym b.log) i;
+        requests = (a.requests ∙ sym b.requests) i;
+        ws = (a.ws ∙ sym b.ws) i;
+        built = (a.built ∙ sym b.built) i;
+      }
 
 first-true : (a b : Bool) → (a && b) ≡ true → a ≡ true
 first-true true b both = refl
@@ -226,7 +230,7 @@ alone-bench : (form : BenchForm) (bench : Bench) → IsBenchOf form bench → is
 alone-bench form bench is built none =
     let whole = first-true _ _ (sym is.built ∙ built) in
     let request = second-true _ _ (first-true _ _ whole) in
-    alone-work form.work request (ap single (sym is.requests) ∙ none)
+    alone-work form form.work request (ap single (sym is.requests) ∙ none)
 
 module _ (command : Command) (json : Data) where
   -- what a JSON value gives, by its two ways
@@ -246,7 +250,7 @@ module _ (command : Command) (json : Data) where
   json-way NotJson entries (bench, tables, gives) = absurd gives
 
   never-both : (place : List ℕ) → IsBadAt (form_command command) json place → (form : BenchForm) → IsReadAs (form_command command) json form → ⊥
-  never-both place bad form read = let wrong : Err place ≡ Ok form = sym bad ∙ read in cc
+  never-both place here form read = let wrong : Err place ≡ Ok form = sym here ∙ read in cc
 
   benches-same : (one other : Bench) (form : BenchForm) → IsReadAs (form_command command) json form → IsBenchOf form one → (other_form : BenchForm)
       → IsReadAs (form_command command) json other_form → IsBenchOf other_form other → one ≡ other

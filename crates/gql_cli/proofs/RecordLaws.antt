@@ -1,5 +1,5 @@
 -- A whole record of a story is the only one, where the turns choose and the entries of each task are known.
-use Rattle.std.proofs.Common.{◌≡◌, ◌⊎◌, ℕ, ◌+◌, ◌<◌, ◌≤◌, ◌==◌, Bool, true, false, if◌then◌else◌, List, [], ◌∷◌, ◌++◌, length, length-append, append-nil, Option, Some, None, slice_get, inl, inr, refl, ap, sym, ◌∙◌, subst, eq-eqb, ne_eqb, arith}
+use Rattle.std.proofs.Common.{◌≡◌, ◌⊎◌, ℕ, zero, suc, ◌+◌, ◌<◌, ◌≤◌, ◌==◌, Bool, true, false, if◌then◌else◌, List, [], ◌∷◌, ◌++◌, length, length-append, append-nil, Option, Some, None, slice_get, inl, inr, refl, ap, sym, ◌∙◌, subst, eq-eqb, ne_eqb, arith}
 use Rattle.std.proofs.lemmas.List.{append_cancel_left}
 use Rattle.std.proofs.lemmas.Bool.{cases_order}
 use Rattle.std.proofs.lemmas.Option.{slice_get_within}
@@ -11,13 +11,13 @@ module _ {A : Type 0} where
   -- what stands in a list stands there with more behind it
   front-get : (xs ys : List A) (k : ℕ) (x : A) → slice_get xs k ≡ Some x → slice_get (xs ++ ys) k ≡ Some x
   front-get [] ys k x is = cc
-  front-get (a ∷ xs) ys 0 x is = is
+  front-get (a ∷ xs) ys zero x is = is
   front-get (a ∷ xs) ys (suc k) x is = front-get xs ys k x is
 
   -- something stands at each place within a list
   within-get : (xs : List A) (k : ℕ) → k < length xs → (x : A) × (slice_get xs k ≡ Some x)
   within-get [] k within = absurd (omega arith)
-  within-get (a ∷ xs) 0 within = (a, refl)
+  within-get (a ∷ xs) zero within = (a, refl)
   within-get (a ∷ xs) (suc k) within = within-get xs k (omega arith)
 
 module _ {Task State : Type 0} (choice : Choice State) (story : Story Task) (delay : Task → ℕ) where

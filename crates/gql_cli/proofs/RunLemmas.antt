@@ -229,22 +229,24 @@ module _ {I O : Type 0} (source : Sourcing I) (sink : Sinking O) (Told : List Re
       complete : (command : Command) → words ≡ words_for command → IfSome (source.left old.source) (IsComplete source sink Told words old new status command)
       complete command listed = by d.whole (way d.due d.is)
         where
-          abbrev Complete : List ℕ → Type 0
-          Complete = IsComplete source sink Told words old new status command
-
-          by : IsCutOff status ⊎ IsWritten source sink Told words old new status d.due → Way d.due → IfSome (source.left old.source) Complete
-          by (inl (inl five)) w = some-each (source.left old.source) Complete (λ input within unread unwritten. absurd (unwritten (d.cause five)))
-          by (inl (inr six)) w = some-each (source.left old.source) Complete (λ input within unread unwritten. inl six)
+          by : IsCutOff status ⊎ IsWritten source sink Told words old new status d.due → Way d.due → IfSome (source.left old.source) (IsComplete source sink Told words old new status command)
+          by (inl (inl five)) w = some-each (source.left old.source) (IsComplete source sink Told words old new status command) (λ input within unread unwritten. absurd (unwritten (d.cause five)))
+          by (inl (inr six)) w = some-each (source.left old.source) (IsComplete source sink Told words old new status command) (λ input within unread unwritten. inl six)
           by (inr (same, holds)) (unlisted s none) = absurd (none (command, listed))
-          by (inr (same, holds)) (failed s also f) = some-each (source.left old.source) Complete (λ input within unread. absurd (unread f.cause))
+          by (inr (same, holds)) (failed s also f) = some-each (source.left old.source) (IsComplete source sink Told words old new status command) (λ input within unread. absurd (unread f.cause))
           by (inr (same, holds)) (long s also f) =
-              some-through (source.left old.source) _ Complete f.told (λ input more within. absurd (omega arith))
+              some-through (source.left old.source) _ (IsComplete source sink Told words old new status command) f.told (λ input more within. absurd (omega arith))
           by (inr (same, holds)) (given s (entries, g, told)) =
               let one : g.command ≡ command = words-same g.command command (sym g.listed ∙ listed) in
-              some-through (source.left old.source) _ Complete g.input.told
+              some-through (source.left old.source) _ (IsComplete source sink Told words old new status command) g.input.told
               (λ input (is, rest) within unread unwritten.
-              inr (d.due, entries, subst (λ bytes. Gives command bytes d.due entries) (sym is)
-              (subst (λ c. Gives c g.bytes d.due entries) one g.gives), (same, holds)))
+              inr (
+                d.due,
+                entries,
+                subst (λ bytes. Gives command bytes d.due entries) (sym is)
+                    (subst (λ c. Gives c g.bytes d.due entries) one g.gives),
+                (same, holds),
+              ))
 
       -- what was due was delivered: that is a run
       pub ended : HasRun source sink Told words old new status
@@ -256,9 +258,9 @@ module _ {I O : Type 0} (source : Sourcing I) (sink : Sinking O) (Told : List Re
         too_long = too-long;
         too_many_given = too-many-given;
         too_many_left = too-many-left;
-        bench = λ is. let (outcome, entries, given, written, told) = of-bench is in (outcome, entries, given, written);
-        told = λ is. let (outcome, entries, given, written, told) = of-bench (early is) in
-            (outcome, entries, given, written, responds outcome _ (due-early outcome written.0 is) told);
+        bench = λ is. let (outcome, entries, gave, wrote, told) = of-bench is in (outcome, entries, gave, wrote);
+        told = λ is. let (outcome, entries, gave, wrote, told) = of-bench (early is) in
+            (outcome, entries, gave, wrote, responds outcome _ (due-early outcome wrote.0 is) told);
         write_fault = d.cause;
         written = whole d.whole;
         cut_off = λ five. (d.due, d.is, d.start (inl five));
@@ -272,30 +274,30 @@ module _ {I O : Type 0} (source : Sourcing I) (sink : Sinking O) (Told : List Re
           whole (inr written) = inr (d.due, d.is, written)
 
   -- memory was wanting before anything was due
-  pub wanting : (¬ IsListed words → new.source ≡ old.source) → Keeps (sink.held old.sink) (sink.held new.sink)
-      → HasRun source sink Told words old new 6
-  wanting untouched keeps = record {
+  pub wanting : (status : ℕ) → status ≡ 6 → (¬ IsListed words → new.source ≡ old.source) → Keeps (sink.held old.sink) (sink.held new.sink)
+      → HasRun source sink Told words old new status
+  wanting status six untouched keeps = record {
     usage = λ two. absurd (omega arith);
-    usage_only = λ none. inr (inr refl);
+    usage_only = λ none. inr (inr six);
     unread = untouched;
     read_fault = λ four. absurd (omega arith);
     too_long = λ seven. absurd (omega arith);
-    too_many_given = λ more. inr (inl (inr refl));
-    too_many_left = λ listed. some-each (source.left old.source) _ (λ input more. inr (inr (inr refl)));
+    too_many_given = λ more. inr (inl (inr six));
+    too_many_left = λ listed. some-each (source.left old.source) _ (λ input more. inr (inr (inr six)));
     bench = λ is. absurd (never is);
     told = λ is. absurd (never-early is);
     write_fault = λ five. absurd (omega arith);
-    written = inl (inr refl);
+    written = inl (inr six);
     cut_off = λ five. absurd (omega arith);
-    no_memory = λ six. inl keeps;
-    complete = λ command listed. some-each (source.left old.source) _ (λ input within unread unwritten. inl refl);
+    no_memory = λ same. inl keeps;
+    complete = λ command listed. some-each (source.left old.source) _ (λ input within unread unwritten. inl six);
   }
     where
-      never : (6 ≡ 0) ⊎ (6 ≡ 1) ⊎ (6 ≡ 3) → ⊥
+      never : (status ≡ 0) ⊎ (status ≡ 1) ⊎ (status ≡ 3) → ⊥
       never (inl none) = omega arith
       never (inr (inl one)) = omega arith
       never (inr (inr three)) = omega arith
 
-      never-early : (6 ≡ 0) ⊎ (6 ≡ 1) → ⊥
+      never-early : (status ≡ 0) ⊎ (status ≡ 1) → ⊥
       never-early (inl none) = omega arith
       never-early (inr one) = omega arith

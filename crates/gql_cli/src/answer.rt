@@ -4,7 +4,7 @@ ghost use Rattle.std.specs.List.{list_any};
 ghost use Rattle.gql_base.specs.Pairs.{values_of};
 ghost use Rattle.gql_bench.specs.TableMaker.{IsSetOf};
 ghost use Rattle.gql_cli.specs.Answer.{AnswersOver, IsAnswerTo};
-ghost use Rattle.gql_cli.specs.Request.{IsLater, mutates};
+ghost use Rattle.gql_cli.specs.Request.{IsLater, mutates, SpellsMutation};
 ghost use Rattle.gql_doc.specs.Depth.{operations_in};
 ghost use Rattle.gql_engine.specs.Progress.{seen};
 ghost use Rattle.gql_exec.specs.Execution.{asks, Executes};
@@ -89,10 +89,18 @@ fn is_later(alloc: Global, schema: &Schema, request: &Request) -> Made<bool>
     ensures { IfOk result (λ later. MatchBool later (IsLater schema.now request.now)
         (IsLater schema.now request.now → ⊥)) }
 {
-    if schema.root_object(OperationType::Mutation).is_none() {
-        return Ok(false);
+    match schema.root_object(OperationType::Mutation) {
+        Some(_) => spells_mutation(alloc, request.query.as_str()),
+        None => Ok(false),
     }
-    match parse_query(alloc, request.query.as_str())? {
+}
+
+/// Whether a text spells a document with a mutation.
+fn spells_mutation(alloc: Global, query: &str) -> Made<bool>
+    ensures { IfOk result (λ found. MatchBool found (SpellsMutation query.now)
+        (SpellsMutation query.now → ⊥)) }
+{
+    match parse_query(alloc, query)? {
         Ok(document) => Ok(has_mutation(&document)),
         Err(_) => Ok(false),
     }

@@ -4,8 +4,6 @@
 #[cfg(test)]
 mod record_tests;
 #[cfg(test)]
-mod response_tests;
-#[cfg(test)]
 mod runs;
 #[cfg(test)]
 mod schema_tests;

@@ -4,12 +4,17 @@ use gql_base::Made;
 use std::alloc::Global;
 use std::test::Fail;
 
-/// Whether a bench of these types is refused with this text. It has hooks, which aren't built, so
-/// that the schema is seen to be checked before.
+/// The input of a bench of these types, whose query is no document.
+fn bench_of_types(alloc: Global, types: &str) -> Made<String> {
+    format!(in alloc;
+        "{{\"schema\":{{\"query\":\"Q\",\"types\":[{types}]}},\"request\":{{\"query\":\"{{\"}}}}"
+    )
+}
+
+/// Whether a bench of these types is refused with this text, which is told before the fault of its
+/// query.
 fn is_refused(alloc: Global, types: &str, text: &str) -> Made<bool> {
-    let input = format!(in alloc;
-        "{{\"schema\":{{\"query\":\"Q\",\"types\":[{types}]}},\"hooks\":\"log\",\"request\":{{\"query\":\"{{\"}}}}"
-    )?;
+    let input = bench_of_types(alloc, types)?;
     let line = format!(in alloc; "schema: {text}\n")?;
     text_ends_with(alloc, "execute", input.as_str(), 3, line.as_str())
 }
@@ -62,7 +67,7 @@ fn the_first_refusal_is_told(rt: HostRuntime) -> Result<(), Fail> {
             "Default of \"A.a\" does not fit",
         ),
         (
-            "{\"kind\":\"subscription\",\"name\":\"S\",\"fields\":[]},\
+            "{\"kind\":\"input\",\"name\":\"S\",\"fields\":[]},\
 {\"kind\":\"interface\",\"name\":\"I\",\"fields\":[{\"name\":\"f\",\"type\":\"S\"}]}",
             "Type \"S\" cannot be used here",
         ),
@@ -72,20 +77,45 @@ fn the_first_refusal_is_told(rt: HostRuntime) -> Result<(), Fail> {
     Ok(())
 }
 
-/// Whether a bench whose root has the name of a scalar of every schema isn't built. The scalar
+/// Whether a bench of these types, of which a form isn't built, is told as that.
+fn is_not_built(alloc: Global, types: &str) -> Made<bool> {
+    let input = bench_of_types(alloc, types)?;
+    text_ends_with(
+        alloc,
+        "execute",
+        input.as_str(),
+        3,
+        "bench: not built yet\n",
+    )
+}
+
+#[test]
+fn what_is_not_built_is_told_before_a_refusal(rt: HostRuntime) -> Result<(), Fail> {
+    for types in [
+        "{\"kind\":\"object\",\"name\":\"Float\",\"key\":\"a\",\"fields\":[]}",
+        "{\"kind\":\"subscription\",\"name\":\"S\",\"fields\":[]},\
+{\"kind\":\"interface\",\"name\":\"I\",\"fields\":[{\"name\":\"f\",\"type\":\"S\"}]}",
+    ] {
+        assert!(rt; is_not_built(rt.alloc(), types)?, "at {types}");
+    }
+    Ok(())
+}
+
+/// Whether a bench whose root has the name of a scalar of every schema has no root. The scalar
 /// takes the object's place.
-fn is_replaced(alloc: Global, root: &str) -> Made<bool> {
+fn has_no_root(alloc: Global, root: &str) -> Made<bool> {
     let input = format!(in alloc;
         "{{\"schema\":{{\"query\":\"{root}\",\"types\":[{{\"kind\":\"object\",\"name\":\"{root}\",\
 \"fields\":[{{\"name\":\"a\",\"type\":\"Int\",\"answer\":{{\"const\":1}}}}]}}]}},\"request\":{{\"query\":\"{{ a }}\"}}}}"
     )?;
-    text_ends_with(alloc, "record", input.as_str(), 3, "bench: not built yet\n")
+    let line = "{\"data\":null,\"errors\":[{\"message\":\"Query root not found\"}]}\n";
+    text_ends_with(alloc, "record", input.as_str(), 1, line)
 }
 
 #[test]
-fn a_root_that_a_scalar_replaces_is_not_built(rt: HostRuntime) -> Result<(), Fail> {
+fn a_root_that_a_scalar_replaces_is_not_found(rt: HostRuntime) -> Result<(), Fail> {
     for root in ["Int", "String", "Boolean", "ID"] {
-        assert!(rt; is_replaced(rt.alloc(), root)?, "at {root}");
+        assert!(rt; has_no_root(rt.alloc(), root)?, "at {root}");
     }
     Ok(())
 }

@@ -95,8 +95,6 @@ const FIELDS: &str = "{\"name\":\"value\",\"type\":\"Int\",\"answer\":{\"const\"
 {\"name\":\"quoted\",\"type\":\"String\",\"answer\":{\"const\":\"a\\\"b\"}},\
 {\"name\":\"none\",\"type\":\"Boolean\",\"answer\":{\"const\":null}}";
 
-const NOT_BUILT: &str = "bench: not built yet\n";
-
 /// Whether a query over these fields ends so.
 fn query_ends_with(alloc: Global, query: &str, status: u8, line: &str) -> Made<bool> {
     let input = bench_text(alloc, FIELDS, query, "")?;
@@ -104,7 +102,7 @@ fn query_ends_with(alloc: Global, query: &str, status: u8, line: &str) -> Made<b
 }
 
 #[test]
-fn queries_over_first_benches(rt: HostRuntime) -> Result<(), Fail> {
+fn queries_over_leaves(rt: HostRuntime) -> Result<(), Fail> {
     for (query, status, line) in [
         (
             "{ value text }",
@@ -117,11 +115,20 @@ fn queries_over_first_benches(rt: HostRuntime) -> Result<(), Fail> {
             "{\"data\":{\"quoted\":\"a\\\"b\",\"none\":null,\"value\":100}}\n",
         ),
         ("#comment\\n{ none } ", 0, "{\"data\":{\"none\":null}}\n"),
-        ("{ value value }", 3, NOT_BUILT),
-        ("{ other }", 3, NOT_BUILT),
-        ("{ __typename }", 3, NOT_BUILT),
-        ("{ a: value }", 3, NOT_BUILT),
-        ("query Q { value }", 3, NOT_BUILT),
+        ("{ value value }", 0, "{\"data\":{\"value\":100}}\n"),
+        (
+            "{ other }",
+            1,
+            "{\"data\":null,\"errors\":[{\"message\":\"Unknown field \\\"other\\\" on type \
+\\\"Query\\\".\",\"locations\":[{\"line\":1,\"column\":3}]}]}\n",
+        ),
+        (
+            "{ __typename }",
+            0,
+            "{\"data\":{\"__typename\":\"Query\"}}\n",
+        ),
+        ("{ a: value }", 0, "{\"data\":{\"a\":100}}\n"),
+        ("query Q { value }", 0, "{\"data\":{\"value\":100}}\n"),
     ] {
         assert!(rt;
             query_ends_with(rt.alloc(), query, status, line)?,
@@ -203,7 +210,7 @@ fn delays_and_turns(rt: HostRuntime) -> Result<(), Fail> {
             3,
             "bench: bad shape at later\n",
         ),
-        ("{\"none\":true}", "", 3, NOT_BUILT),
+        ("{\"none\":true}", "", 0, "{\"data\":{\"value\":null}}\n"),
     ] {
         assert!(rt;
             answer_ends_with(rt.alloc(), answer, more, status, line)?,

@@ -1,14 +1,39 @@
--- What is made of a request is one thing, and one builder has one schema.
-use Rattle.std.proofs.Common.{◌≡◌, ap, sym, ◌∙◌}
+-- What is made of a request is one thing, whatever its environment's mode is set to.
+use Rattle.std.proofs.Common.{◌≡◌, None, ap, sym, ◌∙◌}
+use Rattle.std.proofs.Props.{props}
+use mathlib.Core.HLevel.{is_prop→PathP}
 use Rattle.gql_admit.proofs.PreparedLemmas.{one_prepared}
 use Rattle.gql_admit.specs.Prepared.{Prepared}
+use Rattle.gql_doc.specs.Depth.{deep_from}
 use Rattle.gql_exec.specs.Admission.{terms_for}
-use Rattle.gql_exec.specs.Builder.{IsSchemaOf}
 use Rattle.gql_exec.specs.Ready.{IsMadeReady, prepared_under}
 use Rattle.gql_exec.specs.Schema.{settings_of}
-use Rattle.gql_exec.specs.declared.builder.SchemaBuilder.{SchemaBuilder}
 use Rattle.gql_exec.specs.declared.schema.Schema.{Schema}
+use Rattle.gql_request.specs.declared.query_env.IntrospectionMode.{IntrospectionMode}
+use Rattle.gql_request.specs.declared.query_env.QueryEnv.{QueryEnv}
 use Rattle.gql_request.specs.declared.request.Request.{Request}
+
+-- that an environment's operation nests within its levels
+abbrev Nests : QueryEnv → Type 0
+Nests env = deep_from env.fragments env.levels env.operation.node.selection_set ≡ None
+
+-- an environment in a mode
+abbrev in_mode : (env : QueryEnv) → IntrospectionMode → Nests env → QueryEnv
+in_mode env mode nests = record {
+  variables = env.variables;
+  operation_name = env.operation_name;
+  operation = env.operation;
+  fragments = env.fragments;
+  introspection_mode = mode;
+  levels = env.levels;
+  nests = nests;
+}
+
+-- in one mode it is one environment
+pub one_mode : (env : QueryEnv) (mode other : IntrospectionMode) → mode ≡ other → (nests also : Nests env)
+    → in_mode env mode nests ≡ in_mode env other also
+one_mode env mode other same nests also =
+    λ i. in_mode env (same i) (is_prop→PathP (λ j. Nests env) (λ j. hlevel props) nests also i)
 
 -- a request is made one thing of
 pub one_ready : (schema : Schema) (request : Request) (one other : Prepared) → IsMadeReady schema request one → IsMadeReady schema request other

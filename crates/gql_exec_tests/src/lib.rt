@@ -6,4 +6,6 @@ mod ballot;
 #[cfg(test)]
 mod request_tests;
 #[cfg(test)]
+mod response_tests;
+#[cfg(test)]
 mod tests;

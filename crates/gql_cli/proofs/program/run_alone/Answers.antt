@@ -1,6 +1,4 @@
-use Rattle.std.proofs.Common.{refl, subst, sym}
-use Rattle.gql_cli.specs.Gives.{HoldsTold}
-use Rattle.gql_cli.specs.Run.{HasRun}
+use Rattle.std.proofs.KnownBytes.{Keeps-refl}
 use Rattle.gql_cli.proofs.RunLemmas.{ended, wanting}
 use Rattle.gql_cli.proofs.program.run_alone.Goals as goal
 
@@ -15,3 +13,7 @@ returns-in-Ok g c =
       start = c.deliver.ensures.start;
       cause = c.deliver.ensures.cause;
     })
+
+pub returns-in-Err : goal.returns-in-Err
+returns-in-Err g c =
+    wanting g.I.Source g.O.Sink _ _ _ _ c.code-in-Err.result c.code-in-Err.ensures c.decide.ensures.unread (Keeps-refl _)

@@ -1,6 +1,6 @@
-//! The response of a place whose parts failed, which no run of a bench gives yet.
+//! The response of a place whose parts failed.
 use gql_base::{Error, Items, Made, Name, Pairs, Pos, Text};
-use gql_cli::response_at;
+use gql_exec::response_at;
 use gql_place::{Place, Tree};
 use std::alloc::Global;
 use std::test::Fail;

@@ -1,0 +1,106 @@
+-- What a bench gives, from the answer to its request to what its bytes give.
+use Rattle.std.proofs.Common.{◌≡◌, ◌⊎◌, ℕ, ℤ, true, List, [], ◌∷◌, Option, Some, None, Result, Ok, Err, IfOk, IfSome, MatchOption, inl, inr, refl, ap, sym, ◌∙◌, subst}
+use Rattle.serde_json.specs.Data.{Data}
+use Rattle.gql_base.specs.declared.server_error.ServerError.{ServerError}
+use Rattle.gql_bench.specs.Built.{is_built}
+use Rattle.gql_bench.specs.Found.{HasTables}
+use Rattle.gql_bench.specs.contracts.list_turns.ListTurnsTurns.TheImpl.{ghosts}
+use Rattle.gql_bench.specs.declared.bench.Bench.{Bench}
+use Rattle.gql_bench.specs.declared.list_turns.ListTurns.{ListTurns}
+use Rattle.gql_cli.proofs.ExecutionLemmas.{executed, Starts}
+use Rattle.gql_cli.proofs.LawLemmas.{if-response}
+use Rattle.gql_cli.specs.Answer.{AnswersOver, Asked, IsAnswerTo, IsResponseTo}
+use Rattle.gql_cli.specs.Command.{form_command}
+use Rattle.gql_cli.specs.Gives.{BenchGives, Gives, HoldsTold, IfResponse, IsAnswer, JsonGives, json_of, outcome_for, response_text, WithRecord}
+use Rattle.gql_cli.specs.Request.{IsLater}
+use Rattle.gql_cli.specs.declared.answer.Answer.{Answer}
+use Rattle.gql_cli.specs.declared.answer.Answer.TheVariants as answer
+use Rattle.gql_cli.specs.declared.command.Command.{Command}
+use Rattle.gql_cli.specs.declared.outcome.Outcome.{Outcome}
+use Rattle.gql_cli.specs.declared.outcome.Outcome.TheVariants.{Answered, BadSchema, BadShape, HasErrors, NotBuilt, NotJson, ReadFault, TooLong, Usage}
+use Rattle.gql_engine.specs.Progress.{Seen}
+use Rattle.gql_exec.specs.Execution.{asks, Executes}
+use Rattle.gql_request.specs.declared.response.Response.{Response}
+use Rattle.gql_resolve.specs.declared.record_entry.RecordEntry.{RecordEntry}
+use Rattle.gql_resolve.specs.declared.resolver_set.ResolverSet.{Ghosts as Resolving}
+
+-- the answer to a request of a bench, over a set and turns that were made for the bench
+pub answers_to : {S F E : Type 0} (set : Resolving S ℤ (List ℤ) F) (bench : Bench) (start new : Seen S ListTurns) → Starts set bench start
+    → (asked : Asked bench) (result : Result Answer E)
+    → IfOk result (AnswersOver (Executes set ghosts start new (asks asked.schema asked.request)) (IsLater asked.schema asked.request.inner))
+    → IfOk result (IsAnswerTo bench (set.told new.set))
+answers_to set bench start new at asked (Ok (answer.Response response)) (now, runs) =
+    let (entries, told, is) = executed set bench start new at (asks asked.schema asked.request) response runs in
+    record { asks_for = asked; now = now; entries = entries; is_told = told; executed = is }
+answers_to set bench start new at asked (Ok (answer.BadSchema text)) is = absurd is
+answers_to set bench start new at asked (Ok answer.NotBuilt) later = inr (asked, later)
+answers_to set bench start new at asked (Err want) is = tt
+
+module _ (command : Command) (bench : Bench) where
+  -- an answer is given
+  answer-gives : (errors : List ServerError) (text : List ℕ) (outcome : Outcome) (entries : List RecordEntry) → outcome ≡ outcome_for errors text
+      → IsAnswer command bench outcome entries → BenchGives command bench outcome entries
+  answer-gives [] text outcome entries is answered =
+      subst (λ o. BenchGives command bench o entries) (sym is) (subst (λ o. IsAnswer command bench o entries) is answered)
+  answer-gives (error ∷ errors) text outcome entries is answered =
+      subst (λ o. BenchGives command bench o entries) (sym is) (subst (λ o. IsAnswer command bench o entries) is answered)
+
+  -- a response is given with the record that the set which is held told
+  pub response_gives : {S E : Type 0} (told : S → Option (List RecordEntry)) (held : Option S) (set : S) → held ≡ Some set → (shown : List RecordEntry)
+      → MatchOption held (shown ≡ []) (λ s. IfSome (told s) (λ entries. shown ≡ entries)) → is_built bench ≡ true → (response : Response)
+      → IsResponseTo bench (told set) response → (result : Result Outcome E)
+      → IfOk result (λ outcome. outcome ≡ outcome_for response.errors (response_text command shown response))
+      → IfOk result (WithRecord (BenchGives command bench) (HoldsTold held told))
+  response_gives told held set is shown shows built response answered (Err want) made = tt
+  response_gives {S} told held set is shown shows built response answered (Ok outcome) made =
+      let entries = answered.entries in
+      let by_set : IfSome (told set) (λ es. shown ≡ es)
+      = subst (λ (h : Option S). MatchOption h (shown ≡ []) (λ s. IfSome (told s) (λ es. shown ≡ es))) is shows in
+      let same : shown ≡ entries = subst (λ (known : Option (List RecordEntry)). IfSome known (λ es. shown ≡ es)) answered.is_told by_set in
+      let made' : outcome ≡ outcome_for response.errors (response_text command entries response)
+      = made ∙ ap (λ es. outcome_for response.errors (response_text command es response)) same in
+      let gives : IsAnswer command bench outcome entries = record {
+        built = built;
+        response = response;
+        answered = subst (λ t. IsResponseTo bench t response) answered.is_told answered;
+        is = made';
+      } in
+      let holds : HoldsTold held told entries
+      = subst (λ (h : Option S). HoldsTold h told entries) (sym is) answered.is_told in
+      (entries, answer-gives response.errors (response_text command entries response) outcome entries made' gives, if-response outcome (HoldsTold held told entries) holds)
+
+  -- what a bench gives, its JSON gives
+  json-gives : (json : Data) → HasTables (form_command command) json bench → (outcome : Outcome) (entries : List RecordEntry)
+      → BenchGives command bench outcome entries → JsonGives command json outcome entries
+  json-gives json tables (BadShape text) entries gives = absurd gives
+  json-gives json tables NotBuilt entries gives = (bench, tables, gives)
+  json-gives json tables (BadSchema text) entries gives = (bench, tables, gives)
+  json-gives json tables (Answered text) entries gives = (bench, tables, gives)
+  json-gives json tables (HasErrors text) entries gives = (bench, tables, gives)
+  json-gives json tables Usage entries gives = absurd gives
+  json-gives json tables ReadFault entries gives = absurd gives
+  json-gives json tables TooLong entries gives = absurd gives
+  json-gives json tables NotJson entries gives = absurd gives
+
+  pub bench_gives : {E : Type 0} (json : Data) (Told : List RecordEntry → Type 0) → HasTables (form_command command) json bench → (result : Result Outcome E)
+      → IfOk result (WithRecord (BenchGives command bench) Told) → IfOk result (WithRecord (JsonGives command json) Told)
+  bench_gives json Told tables (Ok outcome) (entries, gives, told) = (entries, json-gives json tables outcome entries gives, told)
+  bench_gives json Told tables (Err want) gives = tt
+
+-- what JSON gives, its bytes give
+bytes-give : (command : Command) (bytes : List ℕ) (json : Data) → json_of bytes ≡ Some json → (outcome : Outcome) (entries : List RecordEntry)
+    → JsonGives command json outcome entries → Gives command bytes outcome entries
+bytes-give command bytes json is NotJson entries (bench, tables, gives) = absurd gives
+bytes-give command bytes json is (BadShape text) entries gives = (json, is, gives)
+bytes-give command bytes json is NotBuilt entries gives = (json, is, gives)
+bytes-give command bytes json is (BadSchema text) entries gives = (json, is, gives)
+bytes-give command bytes json is (Answered text) entries gives = (json, is, gives)
+bytes-give command bytes json is (HasErrors text) entries gives = (json, is, gives)
+bytes-give command bytes json is Usage entries gives = (json, is, gives)
+bytes-give command bytes json is ReadFault entries gives = (json, is, gives)
+bytes-give command bytes json is TooLong entries gives = (json, is, gives)
+
+pub json_gives : {E : Type 0} (command : Command) (bytes : List ℕ) (json : Data) (Told : List RecordEntry → Type 0) → json_of bytes ≡ Some json
+    → (result : Result Outcome E) → IfOk result (WithRecord (JsonGives command json) Told) → IfOk result (WithRecord (Gives command bytes) Told)
+json_gives command bytes json Told is (Ok outcome) (entries, gives, told) = (entries, bytes-give command bytes json is outcome entries gives, told)
+json_gives command bytes json Told is (Err want) gives = tt
