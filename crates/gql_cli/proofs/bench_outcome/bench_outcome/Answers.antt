@@ -5,7 +5,7 @@ use Rattle.gql_cli.proofs.bench_outcome.bench_outcome.Goals as goal
 
 pub returns-in-Response : goal.returns-in-Response
 returns-in-Response g c =
-    response_gives c.args.command c.args.bench g.M.Set.ResolverSet.told (g.M.Tables.held c.take_back.new.self) c.answer_to.new.set c.take_back.ensures
+    response_gives c.args.command c.args.bench g.M.Set.ResolverSet.told (g.M.Tables.held c.take_back.new.self) c.answer_to-answer.new.set c.take_back.ensures
     c.told.result.now c.told.ensures (sym c.if-not-is_built.ensures) c.in-Response.response (rw c.in-Response.is at c.in_ok-response.ensures)
     c.response_outcome.result c.response_outcome.ensures
 
