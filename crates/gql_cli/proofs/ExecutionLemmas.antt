@@ -1,5 +1,5 @@
 -- What was executed over a set of a bench is what the bench's rules, cells and turns give.
-use Rattle.std.proofs.Common.{◌≡◌, ℕ, ℤ, List, [], Option, Some, Result, Ok, Err, refl, ap, sym, ◌∙◌, subst}
+use Rattle.std.proofs.Common.{◌≡◌, ℕ, ℤ, List, [], Some, Result, Ok, Err, refl, ap, sym, ◌∙◌, subst}
 use Rattle.gql_bench.specs.ListTurns.{list_turns}
 use Rattle.gql_bench.specs.Table.{table_answer, table_delay}
 use Rattle.gql_bench.specs.TableMaker.{AnswersBy}
@@ -7,10 +7,10 @@ use Rattle.gql_bench.specs.contracts.list_turns.ListTurnsTurns.TheImpl.{ghosts}
 use Rattle.gql_bench.specs.declared.bench.Bench.{Bench}
 use Rattle.gql_bench.specs.declared.list_turns.ListTurns.{ListTurns}
 use Rattle.gql_admit.specs.Prepared.{Prepared}
-use Rattle.gql_cli.specs.Execution.{answers_of, ComesOf, GoesOn, IsExecuted, IsRecord, made_by, story}
+use Rattle.gql_cli.specs.Execution.{answers_of, ComesOf, GoesOn, IsExecuted, IsRecord, story}
 use Rattle.gql_engine.specs.Pace.{EachPaced}
 use Rattle.gql_engine.specs.Parts.{due_by}
-use Rattle.gql_engine.specs.Progress.{Seen, story_at, story_of}
+use Rattle.gql_engine.specs.Progress.{Seen, story_of}
 use Rattle.gql_engine.specs.Record.{Made, Story, Turned, fresh, made_at, waiting}
 use Rattle.gql_engine.specs.declared.scene.Scene.{Scene}
 use Rattle.gql_exec.specs.Execution.{Ask, ComesOf as Came, Executes, GoesOn as Went, Runs, response_in}

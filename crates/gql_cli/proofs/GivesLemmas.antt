@@ -1,5 +1,5 @@
 -- What a bench gives, from the answer to its request to what its bytes give.
-use Rattle.std.proofs.Common.{◌≡◌, ◌⊎◌, ℕ, ℤ, true, List, [], ◌∷◌, Option, Some, None, Result, Ok, Err, IfOk, IfSome, MatchOption, inl, inr, refl, ap, sym, ◌∙◌, subst}
+use Rattle.std.proofs.Common.{◌≡◌, ℕ, ℤ, true, List, [], ◌∷◌, Option, Some, Result, Ok, Err, IfOk, IfSome, MatchOption, inr, ap, sym, ◌∙◌, subst}
 use Rattle.serde_json.specs.Data.{Data}
 use Rattle.gql_base.specs.declared.server_error.ServerError.{ServerError}
 use Rattle.gql_bench.specs.Built.{is_built}
@@ -11,7 +11,7 @@ use Rattle.gql_cli.proofs.ExecutionLemmas.{executed, Starts}
 use Rattle.gql_cli.proofs.LawLemmas.{if-response}
 use Rattle.gql_cli.specs.Answer.{AnswersOver, Asked, IsAnswerTo, IsResponseTo}
 use Rattle.gql_cli.specs.Command.{form_command}
-use Rattle.gql_cli.specs.Gives.{BenchGives, Gives, HoldsTold, IfResponse, IsAnswer, JsonGives, json_of, outcome_for, response_text, WithRecord}
+use Rattle.gql_cli.specs.Gives.{BenchGives, Gives, HoldsTold, IsAnswer, JsonGives, json_of, outcome_for, response_text, WithRecord}
 use Rattle.gql_cli.specs.Request.{IsLater}
 use Rattle.gql_cli.specs.declared.answer.Answer.{Answer}
 use Rattle.gql_cli.specs.declared.answer.Answer.TheVariants as answer

@@ -1,42 +1,39 @@
 -- The bytes of a bench give one thing to a command.
-use Rattle.std.proofs.Common.{◌≡◌, ◌⊎◌, ℕ, ℤ, Bool, true, false, ◌&&◌, List, [], ◌∷◌, ◌++◌, Option, Some, None, Result, Ok, Err, inl, inr, refl, ap, sym, ◌∙◌, subst}
+use Rattle.std.proofs.Common.{◌≡◌, ℕ, ℤ, Bool, true, false, ◌&&◌, List, Option, Some, None, Result, Ok, Err, inl, inr, refl, ap, sym, ◌∙◌, subst}
 use Rattle.serde_json.specs.Data.{Data}
 use Rattle.gql_admit.specs.Prepared.{Prepared}
 use Rattle.gql_bench.specs.Bench.{IsBenchOf, requests_in}
-use Rattle.gql_bench.specs.Built.{is_built, is_built_form, is_request}
+use Rattle.gql_bench.specs.Built.{is_built, is_request}
 use Rattle.gql_bench.specs.Found.{HasTables, IsBadAt, IsReadAs}
 use Rattle.gql_bench.specs.ListTurns.{list_turns}
 use Rattle.gql_bench.specs.Table.{table_delay}
 use Rattle.gql_bench.specs.declared.bench.Bench.{Bench}
 use Rattle.gql_cli.proofs.RecordLaws.{IsWhole, one-record}
 use Rattle.gql_cli.proofs.RefusalLemmas.{never-sound, one-refusal}
-use Rattle.gql_cli.specs.Answer.{Asked, IsLaterBench, IsRefusedTable, IsResponseTo}
+use Rattle.gql_cli.specs.Answer.{Asked, IsRefusedTable, IsResponseTo}
 use Rattle.gql_cli.specs.Command.{form_command}
 use Rattle.gql_cli.specs.Execution.{ComesOf, GoesOn, IsExecuted, IsRecord, story}
 use Rattle.gql_cli.specs.Gives.{BenchGives, Gives, IfResponse, IsAnswer, IsBadShape, IsUnbuilt, IsUnsound, JsonGives, json_of, outcome_for, response_text, schema_line, shape_line}
-use Rattle.gql_cli.specs.Request.{IsLater, IsRequestOf, single}
+use Rattle.gql_cli.specs.Request.{IsLater, single}
 use Rattle.gql_cli.specs.declared.command.Command.{Command}
 use Rattle.gql_cli.specs.declared.outcome.Outcome.{Outcome}
 use Rattle.gql_cli.specs.declared.outcome.Outcome.TheVariants.{Answered, BadSchema, BadShape, HasErrors, NotBuilt, NotJson, ReadFault, TooLong, Usage}
 use Rattle.gql_engine.specs.declared.scene.Scene.{Scene}
 use Rattle.gql_cli.proofs.SchemaLemmas.{one_builder, one_schema}
 use Rattle.gql_exec.proofs.ReadyLemmas.{one_ready}
-use Rattle.gql_exec.specs.Builder.{IsSchemaOf, settings_of, table_of, whole_table}
+use Rattle.gql_exec.specs.Builder.{IsSchemaOf, whole_table}
 use Rattle.gql_exec.specs.Execution.{Ask, asks}
 use Rattle.gql_exec.specs.Root.{root_for}
 use Rattle.gql_exec.specs.Scene.{scene_for}
 use Rattle.gql_exec.specs.Schema.{settings_of as schema_settings, types_in}
-use Rattle.gql_exec.specs.declared.builder.SchemaBuilder.{SchemaBuilder}
 use Rattle.gql_exec.specs.declared.dynamic_request.DynamicRequest.{DynamicRequest}
 use Rattle.gql_exec.specs.declared.schema.Schema.{Schema}
-use Rattle.gql_form.specs.BenchForm.{form_in}
 use Rattle.gql_form.specs.declared.bench_form.BenchForm.{BenchForm}
 use Rattle.gql_form.specs.declared.work_form.WorkForm.{WorkForm}
 use Rattle.gql_form.specs.declared.work_form.WorkForm.TheVariants as work
 use Rattle.gql_merged.specs.Jobs.{Job}
 use Rattle.gql_merged.specs.Run.{root_jobs}
 use Rattle.gql_request.specs.declared.query_env.QueryEnv.{QueryEnv}
-use Rattle.gql_request.specs.declared.request.Request.{Request}
 use Rattle.gql_request.specs.declared.response.Response.{Response}
 use Rattle.gql_resolve.specs.declared.record_entry.RecordEntry.{RecordEntry}
 use Rattle.gql_schema.specs.Table.{types_of}

@@ -1,5 +1,5 @@
 -- What a loop knows of the items that it has passed.
-use Rattle.std.proofs.Common.{◌≡◌, ℕ, zero, suc, ◌+◌, Bool, true, false, ◌||◌, List, [], ◌∷◌, take, Option, Some, slice_get, refl, sym, ◌∙◌, add-one}
+use Rattle.std.proofs.Common.{◌≡◌, ℕ, zero, suc, ◌+◌, Bool, true, false, ◌||◌, List, [], ◌∷◌, take, Some, slice_get, refl, sym, ◌∙◌, add-one}
 use Rattle.std.specs.List.{list_any}
 
 module _ {A : Type 0} (f : A → Bool) where

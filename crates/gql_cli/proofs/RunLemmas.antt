@@ -1,18 +1,18 @@
 -- What a run has done, by what was due and by what of it was delivered.
-use Rattle.std.proofs.Common.{◌≡◌, ◌⊎◌, ℕ, ◌+◌, ◌≤◌, ◌<◌, List, [], length, Option, Some, None, inl, inr, refl, ap, sym, ◌∙◌, subst, arith}
+use Rattle.std.proofs.Common.{◌≡◌, ◌⊎◌, ℕ, ◌+◌, ◌≤◌, ◌<◌, List, length, Option, Some, None, inl, inr, refl, ap, sym, ◌∙◌, subst, arith}
 use Rattle.std.specs.Prelude.{IfSome}
-use Rattle.std.specs.Io.KnownBytes.{Appends, Keeps}
+use Rattle.std.specs.Io.KnownBytes.{Keeps}
 use Rattle.gql_cli.specs.Command.{words_for}
 use Rattle.gql_cli.specs.Gives.{Gives, IfResponse}
 use Rattle.gql_cli.specs.Outcome.{due_status, due_text}
-use Rattle.gql_cli.specs.Run.{Ends, HasRun, IsBegun, IsComplete, IsCutOff, IsDue, IsGiven, IsGivenWith, IsListed, IsWritten, ReadFailed, WriteFailed}
+use Rattle.gql_cli.specs.Run.{Ends, HasRun, IsComplete, IsCutOff, IsDue, IsGiven, IsGivenWith, IsListed, IsWritten, ReadFailed, WriteFailed}
 use Rattle.gql_cli.specs.declared.command.Command.{Command}
 use Rattle.gql_cli.specs.declared.command.Command.TheVariants.{Execute, Record}
 use Rattle.gql_cli.specs.declared.outcome.Outcome.{Outcome}
 use Rattle.gql_cli.specs.declared.outcome.Outcome.TheVariants.{Answered, BadSchema, BadShape, HasErrors, NotBuilt, NotJson, ReadFault, TooLong, Usage}
-use Rattle.gql_io.specs.Counts.{HasRisen, IsFull}
+use Rattle.gql_io.specs.Counts.{IsFull}
 use Rattle.gql_io.specs.Limits.{input_limit}
-use Rattle.gql_io.specs.Reading.{HasFailed, IsInput, IsTooLong}
+use Rattle.gql_io.specs.Reading.{HasFailed, IsTooLong}
 use Rattle.gql_io.specs.Writing.{AppendsStart}
 use Rattle.gql_io.specs.declared.sink.Sink.{Ghosts as Sinking}
 use Rattle.gql_io.specs.declared.source.Source.{Ghosts as Sourcing}

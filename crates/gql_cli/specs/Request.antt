@@ -9,7 +9,6 @@ use Rattle.gql_doc.specs.declared.document.ExecutableDocument.{ExecutableDocumen
 use Rattle.gql_doc.specs.declared.document.OperationDefinition.{OperationDefinition}
 use Rattle.gql_doc.specs.declared.document.OperationType.TheVariants as kinds
 use Rattle.gql_doc.specs.declared.document.Positioned.{Positioned}
-use Rattle.gql_exec.specs.DynamicRequest.{rooted}
 use Rattle.gql_exec.specs.Root.{root_object}
 use Rattle.gql_exec.specs.declared.dynamic_request.DynamicRequest.{DynamicRequest}
 use Rattle.gql_exec.specs.declared.schema.Schema.{Schema}

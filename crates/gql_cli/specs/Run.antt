@@ -6,8 +6,7 @@ use Rattle.gql_cli.specs.Gives.{Gives, IfResponse}
 use Rattle.gql_cli.specs.Outcome.{due_status, due_text}
 use Rattle.gql_cli.specs.declared.command.Command.{Command}
 use Rattle.gql_cli.specs.declared.outcome.Outcome.{Outcome}
-use Rattle.gql_cli.specs.declared.outcome.Outcome.TheVariants.{Answered, BadSchema, BadShape, HasErrors}
-use Rattle.gql_cli.specs.declared.outcome.Outcome.TheVariants.{NotBuilt, NotJson, ReadFault, TooLong}
+use Rattle.gql_cli.specs.declared.outcome.Outcome.TheVariants.{ReadFault, TooLong}
 use Rattle.gql_cli.specs.declared.outcome.Outcome.TheVariants.{Usage}
 use Rattle.gql_io.specs.Counts.{HasRisen, IsFull}
 use Rattle.gql_io.specs.Limits.{input_limit}
