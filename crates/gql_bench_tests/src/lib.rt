@@ -1,6 +1,12 @@
-//! Tests of `gql_bench`: benches as tables.
+//! Tests of `gql_bench`: benches, and the answers of their resolvers.
 #![tactic(auto)]
 
+#[cfg(test)]
+mod asking;
+#[cfg(test)]
+mod bench_tests;
+#[cfg(test)]
+mod parts;
 mod shared;
 #[cfg(test)]
 mod table_tests;
