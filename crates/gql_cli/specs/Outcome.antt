@@ -1,8 +1,10 @@
 -- What a run of the program has to write, and with which status.
 use Rattle.std.specs.Prelude.{ℕ, List, [], ◌∷◌, ◌++◌, codes}
 use Rattle.gql_cli.specs.declared.outcome.Outcome.{Outcome}
-use Rattle.gql_cli.specs.declared.outcome.Outcome.TheVariants.{Answered, BadSchema, BadShape, HasErrors}
-use Rattle.gql_cli.specs.declared.outcome.Outcome.TheVariants.{NotBuilt, NotJson, ReadFault, TooLong}
+use Rattle.gql_cli.specs.declared.outcome.Outcome.TheVariants.{Answered, BadSchema}
+use Rattle.gql_cli.specs.declared.outcome.Outcome.TheVariants.{BadShape, HasErrors}
+use Rattle.gql_cli.specs.declared.outcome.Outcome.TheVariants.{NotBuilt, NotJson}
+use Rattle.gql_cli.specs.declared.outcome.Outcome.TheVariants.{ReadFault, TooLong}
 use Rattle.gql_cli.specs.declared.outcome.Outcome.TheVariants.{Usage}
 
 -- a text and the end of its line
