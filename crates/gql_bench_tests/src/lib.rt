@@ -7,6 +7,5 @@ mod asking;
 mod bench_tests;
 #[cfg(test)]
 mod parts;
-mod shared;
 #[cfg(test)]
 mod table_tests;
