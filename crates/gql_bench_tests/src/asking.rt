@@ -88,14 +88,18 @@ fn push_value(out: &mut String, value: &Option<FieldValue<i64>>) -> Made<()> {
 fn push_given(out: &mut String, given: &FieldValue<i64>) -> Made<()> {
     match given {
         FieldValue::Value(value) => push_json(out, value),
-        FieldValue::Own(own) => push_number(out, "own", *own),
-        FieldValue::List(items) => push_number(out, "list of", items.len() as i64),
+        FieldValue::Own(own) => push_own(out, *own),
+        FieldValue::List(items) => push_count(out, items.len()),
         FieldValue::WithType { value: _, ty } => push_word(out, "a ", ty.as_str()),
     }
 }
 
-fn push_number(out: &mut String, word: &str, number: i64) -> Made<()> {
-    write!(out, "{word} {number}")
+fn push_own(out: &mut String, own: i64) -> Made<()> {
+    write!(out, "own {own}")
+}
+
+fn push_count(out: &mut String, count: usize) -> Made<()> {
+    write!(out, "list of {count}")
 }
 
 fn push_added(out: &mut String, errors: &[Error]) -> Made<()> {
