@@ -120,7 +120,13 @@ fn what_is_not_built_is_told(rt: HostRuntime) -> Result<(), Fail> {
 }
 
 /// Whether the bench of this schema ends so with a query.
-fn query_ends_with(alloc: Global, schema: &str, query: &str, status: u8, text: &str) -> Made<bool> {
+fn query_ends_with<'x>(
+    alloc: Global,
+    schema: &'x str,
+    query: &'x str,
+    status: u8,
+    text: &str,
+) -> Made<bool> {
     let parts = Parts {
         schema,
         query,
