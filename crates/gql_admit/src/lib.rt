@@ -22,7 +22,6 @@ mod copied;
 mod depth;
 mod directives;
 mod field_type;
-mod input_types;
 mod keeping;
 mod laws;
 mod literals;

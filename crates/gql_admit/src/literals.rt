@@ -2,7 +2,7 @@
 ghost use Rattle.std.specs.Prelude.{◌≡◌};
 ghost use Rattle.std.specs.Option.{option_copied};
 ghost use Rattle.gql_schema.specs.Fits.{are_given, fits_whole, has_number, is_given, is_item};
-ghost use Rattle.gql_schema.specs.Fits.{is_one, item_type};
+ghost use Rattle.gql_schema.specs.Fits.{is_one};
 ghost use Rattle.gql_schema.specs.NameSet.{is_among};
 ghost use Rattle.gql_schema.specs.ScalarRule.{always, is_between, is_boolean, is_number, is_string};
 ghost use Rattle.gql_schema.specs.ScalarRule.{takes_bare};
@@ -12,9 +12,9 @@ ghost use Rattle.gql_admit.specs.Literals.{fits_field, fits_members, fittings};
 ghost use Rattle.gql_admit.specs.Literals.{has_other_number, is_oneof_type, is_single};
 ghost use Rattle.gql_admit.specs.Literals.{literal_fits as fits, wants_one as asks_for_one};
 
-use crate::input_types::{nullable, stands_at_inputs};
 use gql_base::{Pairs, Text, TypeRef};
 use gql_doc::DocValue;
+use gql_schema::{nullable, stands_at_inputs, type_of_items};
 use gql_schema::{InputObject, InputValue, NameSet, ScalarRule, SchemaType, Types};
 
 /// True exactly where a value of a document fits a type of inputs. A variable fits each.
@@ -232,16 +232,6 @@ fn has_text(texts: &[Text], text: &str) -> bool
     ensures { result ≡ is_among text.now texts.now }
 {
     texts.iter().any(|other| other.as_str() == text)
-}
-
-/// The type of the items of a list, or none where the type is no list.
-fn type_of_items(ty: &TypeRef) -> Option<&TypeRef>
-    ensures { option_copied result ≡ item_type ty.now }
-{
-    match nullable(ty) {
-        TypeRef::List(inner) => Some(inner.get()),
-        _ => None,
-    }
 }
 
 /// True exactly where a type is a oneof input object, non-null or not.

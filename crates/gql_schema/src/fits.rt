@@ -168,7 +168,7 @@ fn is_item_of(items: &NameSet, value: &Value) -> bool
 }
 
 /// The type of the items of a list, or none where the type is no list.
-fn type_of_items(ty: &TypeRef) -> Option<&TypeRef>
+pub fn type_of_items(ty: &TypeRef) -> Option<&TypeRef>
     ensures { option_copied result ≡ item_type ty.now }
 {
     match nullable(ty) {

@@ -39,7 +39,7 @@ pub use by_name::ByName;
 pub use declared_field::DeclaredField;
 pub use enum_::Enum;
 pub use field::Field;
-pub use fits::value_fits;
+pub use fits::{nullable, stands_at_inputs, type_of_items, value_fits};
 pub use input_object::InputObject;
 pub use input_value::InputValue;
 pub use interface::Interface;
