@@ -4,12 +4,15 @@ use Rattle.std.specs.List.{Contains, flat_map}
 use Rattle.std.proofs.lemmas.List.Elements.{Contains-append_cases, Contains-append_left, Contains-append_right}
 use Rattle.gql_base.specs.declared.server_error.ServerError.{ServerError}
 use Rattle.gql_doc.specs.declared.document.ExecutableDocument.{ExecutableDocument}
+use Rattle.gql_admit.specs.Asked.{Asked}
 use Rattle.gql_admit.specs.Breaches.{told, told_at}
 use Rattle.gql_admit.specs.Circular.{Adds, IsCircular}
 use Rattle.gql_admit.specs.BreachOrder.{Lists}
 use Rattle.gql_admit.specs.BuiltIn.{built_in}
-use Rattle.gql_admit.specs.Places.{document_places}
-use Rattle.gql_admit.specs.RulesChecked.{IsBreach, at_place, circular, error_of, refused_with}
+use Rattle.gql_admit.specs.Definitions.{told_of_variables}
+use Rattle.gql_admit.specs.Places.{Place, document_places}
+use Rattle.gql_admit.specs.RulesChecked.{IsBreach, at_place, circular, error_of, of_variable, refused_with}
+use Rattle.gql_admit.specs.Terms.{Terms}
 use Rattle.gql_admit.specs.Walking.{tells, terms_in}
 use Rattle.gql_admit.specs.declared.breach.Breach.{Breach}
 use Rattle.gql_admit.specs.declared.walk.Against.{Against}
@@ -52,33 +55,54 @@ module _ {A B : Type 0} (f : A → List B) where
         | inr behind ↦ Contains-append_right (f y) (flat_map f xs) b (given_at xs x b behind gives)
       ]
 
--- what is told of all places and of circular fragments, listed
-pub all_listed : (against : Against) (document : ExecutableDocument) (told_first found list : List Breach) → Lists (Contains found) list
-    → told_first ≡ [] ++ tells against (document_places (terms_in against) document) → against.fragments.now ≡ document.fragments
-    → against.built.now ≡ built_in → Adds (IsCircular document.fragments) told_first found → Lists (IsBreach (terms_in against) document) list
-all_listed against document told_first found list lists is fragments built adds =
-    let terms = terms_in against in
-    let places = document_places terms document in
-    let first : told_first ≡ told built_in terms document.fragments places = is ∙ (λ i. told (built i) terms (fragments i) places) in
+-- what is told of all places, of definitions of variables and of circular fragments, listed
+pub all_listed : (against : Against) (asked : Asked) (document : ExecutableDocument) (told_first told_second found list : List Breach)
+    → Lists (Contains found) list → told_first ≡ [] ++ tells against (document_places (terms_in against) document)
+    → told_second ≡ told_first ++ told_of_variables (terms_in against) asked document.operations
+    → against.fragments.now ≡ document.fragments → against.built.now ≡ built_in → Adds (IsCircular document.fragments) told_second found
+    → Lists (IsBreach (terms_in against) asked document) list
+all_listed against asked document told_first told_second found list lists is then fragments built adds =
     record {
       in_order = lists.in_order;
       exact = λ e. (
         λ h.
             elim (adds.only e ((lists.exact e).0 h)) [
-              | inl at ↦
-                  let from = given_from (told_at built_in terms document.fragments) places e (subst (λ xs. Contains xs e) first at) in
-                  at_place from.item from.there from.gives
+              | inl at ↦ among_told e at
               | inr is_circular ↦ circular is_circular
             ],
         λ breach. (lists.exact e).1 (among e breach),
       );
     }
   where
-    among : (e : Breach) → IsBreach (terms_in against) document e → Contains found e
+    terms : Terms
+    terms = terms_in against
+
+    places : List Place
+    places = document_places terms document
+
+    variables : List Breach
+    variables = told_of_variables terms asked document.operations
+
+    first : told_first ≡ told built_in terms document.fragments places
+    first = is ∙ (λ i. told (built i) terms (fragments i) places)
+
+    among_told : (e : Breach) → Contains told_second e → IsBreach terms asked document e
+    among_told e at =
+        elim (Contains-append_cases told_first variables e (subst (λ xs. Contains xs e) then at)) [
+          | inl there ↦
+              let from = given_from (told_at built_in terms document.fragments) places e (subst (λ xs. Contains xs e) first there) in
+              at_place from.item from.there from.gives
+          | inr there ↦ of_variable there
+        ]
+
+    among : (e : Breach) → IsBreach terms asked document e → Contains found e
     among e (at_place place stands breaks) =
         adds.kept e
-        (subst (λ xs. Contains xs e) (sym (is ∙ (λ i. told (built i) (terms_in against) (fragments i) (document_places (terms_in against) document))))
-        (given_at (told_at built_in (terms_in against) document.fragments) (document_places (terms_in against) document) place e stands breaks))
+        (subst (λ xs. Contains xs e) (sym then)
+        (Contains-append_left told_first variables e
+        (subst (λ xs. Contains xs e) (sym first) (given_at (told_at built_in terms document.fragments) places place e stands breaks))))
+    among e (of_variable breaks) =
+        adds.kept e (subst (λ xs. Contains xs e) (sym then) (Contains-append_right told_first variables e breaks))
     among e (circular is_circular) = adds.has e is_circular
 
 -- a list that isn't empty is refused with the errors of all

@@ -1,9 +1,11 @@
 pub mod AllLemmas
+pub mod AlongLemmas
 pub mod ArgumentLemmas
 pub mod BreachLemmas
 pub mod ChoiceLemmas
 pub mod CircularLemmas
 pub mod CrowdedLemmas
+pub mod DefinitionLemmas
 pub mod DepthLemmas
 pub mod FirstLemmas
 pub mod FragmentLemmas

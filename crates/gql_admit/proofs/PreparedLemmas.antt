@@ -12,8 +12,9 @@ use Rattle.gql_request.specs.QueryEnv.{levels_of}
 use Rattle.gql_request.specs.Request.{GivesParsed, set_document}
 use Rattle.gql_request.specs.declared.query_env.QueryEnv.{QueryEnv}
 use Rattle.gql_request.specs.declared.request.Request.{Request}
+use Rattle.gql_admit.specs.Asked.{Asked}
 use Rattle.gql_admit.specs.Choice.{choice}
-use Rattle.gql_admit.specs.Prepared.{Admits, IsLimited, IsLooked, IsPrepared, IsRead, IsReady, IsRuled, IsSettled, Prepared, limits_checked}
+use Rattle.gql_admit.specs.Prepared.{Admits, asked_by, IsLimited, IsLooked, IsPrepared, IsRead, IsReady, IsRuled, IsSettled, Prepared, limits_checked}
 use Rattle.gql_admit.specs.RulesChecked.{IsBreach, IsChecked, refused_with}
 use Rattle.gql_admit.specs.Terms.{Terms}
 use Rattle.gql_admit.specs.declared.chosen.Chosen.{Chosen}
@@ -45,10 +46,10 @@ same_env one other variables name operation fragments mode levels =
 
 module _ (terms : Terms) where
   -- a document's rules have one answer
-  pub one_checked : (document : ExecutableDocument) (one other : Result (Unit {0}) (List ServerError)) → IsChecked terms document one
-      → IsChecked terms document other → one ≡ other
-  one_checked document one other a b =
-      a.answer ∙ ap refused_with (one_listed (IsBreach terms document) a.breaches b.breaches a.all b.all) ∙ sym b.answer
+  pub one_checked : (asked : Asked) (document : ExecutableDocument) (one other : Result (Unit {0}) (List ServerError))
+      → IsChecked terms asked document one → IsChecked terms asked document other → one ≡ other
+  one_checked asked document one other a b =
+      a.answer ∙ ap refused_with (one_listed (IsBreach terms asked document) a.breaches b.breaches a.all b.all) ∙ sym b.answer
 
   module _ (request : Request) where
     one_ready : (chosen : Chosen) (one other : QueryEnv) → IsReady terms request chosen one → IsReady terms request chosen other → one ≡ other
@@ -74,7 +75,7 @@ module _ (terms : Terms) where
 
       one_looked : (one other : Prepared) → IsLooked terms request document one → IsLooked terms request document other → one ≡ other
       one_looked one other a b =
-          let checked = one_checked document a.checked b.checked a.rules b.rules in
+          let checked = one_checked (asked_by request) document a.checked b.checked a.rules b.rules in
           one_ruled b.checked one other (subst (λ c. IsRuled terms request document c one) checked a.answer) b.answer
 
       one_limited : (limited : Result (Unit {0}) ServerError) (one other : Prepared) → IsLimited terms request document limited one

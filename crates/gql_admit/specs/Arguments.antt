@@ -16,6 +16,7 @@ use Rattle.gql_admit.specs.Breach.{breach, unless}
 use Rattle.gql_admit.specs.BreachTexts.{doubled_text, invalid_text, missing_of_directive_text}
 use Rattle.gql_admit.specs.BreachTexts.{missing_of_field_text, unknown_of_directive_text}
 use Rattle.gql_admit.specs.BreachTexts.{unknown_of_field_text}
+use Rattle.gql_admit.specs.GivenNames.{told_along}
 use Rattle.gql_admit.specs.Literals.{literal_fits, reason_text}
 use Rattle.gql_admit.specs.declared.breach.Breach.{Breach}
 use Rattle.gql_admit.specs.declared.breach.BreachKind.TheVariants as kinds
@@ -96,14 +97,11 @@ module _ (table : TypeTable) where
       ++ told_of_declared bearing.owner argument (under (argument_name argument) bearing.declared)
 
   -- and of all of a list
-  abbrev pub told_of_given : Bearing → (before : List (List ℕ)) → List Argument → List Breach
-  told_of_given bearing before [] = []
-  told_of_given bearing before (argument ∷ arguments) =
-      told_of_argument bearing before argument
-      ++ told_of_given bearing (before ++ argument_name argument ∷ []) arguments
+  abbrev pub told_of_given : Bearing → List Argument → List Breach
+  told_of_given bearing arguments = told_along argument_name (told_of_argument bearing) [] arguments
 
   -- the arguments that are given, and those that aren't
   abbrev pub told_of_arguments : Bearing → List Argument → List Breach
   told_of_arguments bearing arguments =
-      told_of_given bearing [] arguments
+      told_of_given bearing arguments
       ++ flat_map (told_of_missing bearing (map argument_name arguments)) bearing.declared

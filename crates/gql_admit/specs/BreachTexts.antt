@@ -73,3 +73,16 @@ expected_text ty = codes "expected type \"" ++ (ty ++ codes "\"")
 
 abbrev pub one_field_text : List ℕ
 one_field_text = codes "Oneof input objects requires have exactly one field"
+
+-- the faults of definitions of variables
+unfoldable pub twice_text : List ℕ → List ℕ
+twice_text name = codes "Variable \"$" ++ (name ++ codes "\" is defined twice.")
+
+unfoldable pub no_input_text : List ℕ → List ℕ
+no_input_text name = codes "Variable \"$" ++ (name ++ codes "\" has no input type.")
+
+unfoldable pub default_text : List ℕ → List ℕ
+default_text name = codes "Default of variable \"$" ++ (name ++ codes "\" does not fit.")
+
+unfoldable pub no_value_text : List ℕ → List ℕ
+no_value_text name = codes "Variable \"$" ++ (name ++ codes "\" has no fitting value.")

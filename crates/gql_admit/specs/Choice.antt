@@ -20,6 +20,9 @@ Operation = Option (List ℕ) × Positioned OperationDefinition
 abbrev pub named : List ℕ → Positioned OperationDefinition → Operation
 named name operation = (Some name, operation)
 
+abbrev pub operation_of : Operation → Positioned OperationDefinition
+operation_of operation = operation.1
+
 -- the operation of a list that has one alone
 abbrev pub only : List (List ℕ × Positioned OperationDefinition) → Option Operation
 only [] = None

@@ -1,5 +1,6 @@
 pub mod ArgumentViews
 pub mod Arguments
+pub mod Asked
 pub mod Breach
 pub mod BreachOrder
 pub mod BreachTexts
@@ -7,6 +8,7 @@ pub mod Breaches
 pub mod BuiltIn
 pub mod Choice
 pub mod Circular
+pub mod Definitions
 pub mod FieldTypeViews
 pub mod FieldTypes
 pub mod GivenNames

@@ -15,6 +15,7 @@ use Rattle.gql_request.specs.declared.query_env.QueryEnv.{QueryEnv}
 use Rattle.gql_request.specs.declared.request.Request.{Request}
 use Rattle.gql_select.specs.Constants.{variable_value}
 use Rattle.gql_select.specs.Kept.{kept_fragments}
+use Rattle.gql_admit.specs.Asked.{Asked, asking}
 use Rattle.gql_admit.specs.Choice.{choice}
 use Rattle.gql_admit.specs.Left.{left_set}
 use Rattle.gql_admit.specs.Limits.{depth_checked, directives_checked}
@@ -72,11 +73,15 @@ IsRuled terms request document (Ok passed) prepared =
     IsSettled terms request (choice document request.operation_name) prepared
 IsRuled terms request document (Err errors) prepared = prepared ≡ Err errors
 
+-- what a request asks of the rules
+abbrev pub asked_by : Request → Asked
+asked_by request = asking request.variables request.operation_name
+
 -- the answer to a document within its limits
 pub record IsLooked (terms : Terms) (request : Request) (document : ExecutableDocument)
     (prepared : Prepared) : Type 0 where
   pub checked : Result (Unit {0}) (List ServerError)
-  pub rules : IsChecked terms document checked
+  pub rules : IsChecked terms (asked_by request) document checked
   pub answer : IsRuled terms request document checked prepared
 
 -- the limit on directives, where there is one

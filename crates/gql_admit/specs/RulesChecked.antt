@@ -3,21 +3,27 @@ use Rattle.std.specs.Prelude.{◌≡◌, List, [], ◌∷◌, map, Some, Result,
 use Rattle.std.specs.List.{Contains}
 use Rattle.gql_base.specs.declared.server_error.ServerError.{ServerError}
 use Rattle.gql_doc.specs.declared.document.ExecutableDocument.{ExecutableDocument}
+use Rattle.gql_admit.specs.Asked.{Asked}
 use Rattle.gql_admit.specs.Breaches.{told_at}
 use Rattle.gql_admit.specs.BreachOrder.{Lists}
 use Rattle.gql_admit.specs.BuiltIn.{built_in}
 use Rattle.gql_admit.specs.Circular.{IsCircular}
+use Rattle.gql_admit.specs.Definitions.{told_of_variables}
 use Rattle.gql_admit.specs.Places.{Place, document_places}
 use Rattle.gql_admit.specs.Refusal.{refusal}
 use Rattle.gql_admit.specs.Terms.{Terms}
 use Rattle.gql_admit.specs.declared.breach.Breach.{Breach}
 
--- a rule that a document breaks: at one of its places, or by a fragment that reaches itself
-pub data IsBreach (terms : Terms) (document : ExecutableDocument) (found : Breach) : Type 0 where
+-- a rule that a document breaks: at one of its places, by a definition of a variable, or by a
+-- fragment that reaches itself
+pub data IsBreach (terms : Terms) (asked : Asked) (document : ExecutableDocument) (found : Breach)
+    : Type 0 where
   at_place : (place : Place) → Contains (document_places terms document) place
       → Contains (told_at built_in terms document.fragments place) found
-      → IsBreach terms document found
-  circular : IsCircular document.fragments found → IsBreach terms document found
+      → IsBreach terms asked document found
+  of_variable : Contains (told_of_variables terms asked document.operations) found
+      → IsBreach terms asked document found
+  circular : IsCircular document.fragments found → IsBreach terms asked document found
 
 -- the error of a breach: its text, at its place
 abbrev pub error_of : Breach → ServerError
@@ -29,8 +35,8 @@ refused_with [] = Ok tt
 refused_with (found ∷ others) = Err (error_of found ∷ map error_of others)
 
 -- the check's answer is what comes of the list of all breaches, in their order, each once
-pub record IsChecked (terms : Terms) (document : ExecutableDocument)
+pub record IsChecked (terms : Terms) (asked : Asked) (document : ExecutableDocument)
     (checked : Result (Unit {0}) (List ServerError)) : Type 0 where
   pub breaches : List Breach
-  pub all : Lists (IsBreach terms document) breaches
+  pub all : Lists (IsBreach terms asked document) breaches
   pub answer : checked ≡ refused_with breaches

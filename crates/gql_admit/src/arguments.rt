@@ -64,7 +64,7 @@ fn tell_given(
 ) -> Made<()>
     requires { given.old ≡ [] }
     ensures found { OnOk result (found.new ≡ found.old
-        ++ told_of_given (types_of types.now) (bearing_behind bearing.now) [] arguments.now) }
+        ++ told_of_given (types_of types.now) (bearing_behind bearing.now) arguments.now) }
     ensures given { OnOk result (AreNames (map argument_name arguments.now) given.new) }
 {
     for argument in arguments {

@@ -31,6 +31,7 @@ fn kind_place(kind: BreachKind) -> u8
         BreachKind::Value => 7,
         BreachKind::UnknownFragment => 8,
         BreachKind::CircularFragment => 9,
+        BreachKind::Definition => 10,
     }
 }
 

@@ -2,10 +2,11 @@
 //! specification, the choice of its operation, and what `@skip` and `@include` leave of it
 //! (GraphQL, October 2021, sections 3.13, 5 and 6.1).
 //!
-//! Ten of thirteen rules are checked: on the types of conditions, unknown fields, sets of leaves
+//! Eleven of thirteen rules are checked: on the types of conditions, unknown fields, sets of leaves
 //! and of other types, directives, arguments that are unknown, wanting or doubled, the literals
-//! that they are given, unknown fragments, and fragments that reach themselves. Those on the use of
-//! variables, on their definitions, and on fields that conflict under one key aren't yet.
+//! that they are given, unknown fragments, fragments that reach themselves, and the definitions of
+//! variables with the values that a request gives them. Those on the use of variables, and on
+//! fields that conflict under one key, aren't yet.
 #![tactic(auto)]
 
 mod argument_texts;
@@ -19,6 +20,9 @@ mod chosen;
 mod circular;
 mod conditions;
 mod copied;
+mod definition_fault;
+mod definition_texts;
+mod definitions;
 mod depth;
 mod directives;
 mod field_type;

@@ -146,7 +146,13 @@ fn prepare_limited(
     requires deep { deep document site.now.depth ≡ None }
     ensures { IfOk result (λ prepared. IsLooked (terms_of site.now) request.now document prepared) }
 {
-    match check_rules(alloc, site, &document)? {
+    match check_rules(
+        alloc,
+        site,
+        &document,
+        &request.variables,
+        asked_name(request),
+    )? {
         Ok(()) => prepare_ruled(alloc, site, request, document),
         Err(errors) => Ok(Err(errors)),
     }

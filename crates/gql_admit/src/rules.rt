@@ -1,5 +1,7 @@
 //! The check of a document against a table of types.
 ghost use Rattle.std.specs.Prelude.{◌≡◌, IfOk, map};
+ghost use Rattle.std.specs.Option.{option_copied};
+ghost use Rattle.gql_admit.specs.Asked.{asking};
 ghost use Rattle.gql_admit.specs.BreachOrder.{Lists};
 ghost use Rattle.gql_admit.specs.BuiltIn.{built_in as the_built_in};
 ghost use Rattle.gql_admit.specs.RulesChecked.{IsBreach, IsChecked, error_of, refused_with};
@@ -10,11 +12,12 @@ use crate::breach::Breach;
 use crate::breach_order::sorted_once;
 use crate::built_in::{BuiltIn, built_in};
 use crate::circular::tell_circular;
+use crate::definitions::tell_variables;
 use crate::refusals::refuse;
 use crate::site::Site;
 use crate::walk::Against;
 use crate::walk_document::walk_document;
-use gql_base::{Items, Made, ServerError};
+use gql_base::{Items, Made, ServerError, Variables};
 use gql_doc::ExecutableDocument;
 use std::alloc::Global;
 
@@ -22,16 +25,20 @@ use std::alloc::Global;
 /// it breaks, in the order of the document, each once (GraphQL, October 2021, section 5). Looked at
 /// are unknown fields, leaves with a set and other types without one, conditions on types that
 /// aren't composite, directives, arguments and the literals that they are given, unknown fragments,
-/// and fragments that reach themselves.
+/// fragments that reach themselves, and the definitions of variables. Of the operation that this
+/// name asks for, or without a name the only one, the values of the variables are looked at.
 pub fn check_rules(
     alloc: Global,
     site: &Site<'_>,
     doc: &ExecutableDocument,
+    variables: &Variables,
+    name: Option<&str>,
 ) -> Made<Result<(), Items<ServerError>>>
-    ensures { IfOk result (λ checked. IsChecked (terms_of site.now) doc.now checked) }
+    ensures { IfOk result (λ checked. IsChecked (terms_of site.now)
+        (asking variables.now (option_copied name.entry)) doc.now checked) }
 {
     let built = built_in(alloc)?;
-    let breaches = breaches_of(alloc, against(site, doc, &built), doc)?;
+    let breaches = breaches_of(alloc, against(site, doc, &built), doc, variables, name)?;
     refused(alloc, breaches.as_slice())
 }
 
@@ -49,14 +56,29 @@ fn against<'a>(site: &'a Site<'a>, doc: &'a ExecutableDocument, built: &'a Built
 
 /// All breaches of a document in their order, each once.
 #[tactic(auto, using(crate::proofs::BreachLemmas::all_listed))]
-fn breaches_of(alloc: Global, against: Against<'_>, doc: &ExecutableDocument) -> Made<Items<Breach>>
+fn breaches_of(
+    alloc: Global,
+    against: Against<'_>,
+    doc: &ExecutableDocument,
+    variables: &Variables,
+    name: Option<&str>,
+) -> Made<Items<Breach>>
     requires fragments { against.fragments.now ≡ doc.now.fragments }
     requires built { against.built.now ≡ the_built_in }
     ensures { IfOk result
-        (λ breaches. Lists (IsBreach (terms_in against.entry) doc.now) breaches) }
+        (λ breaches. Lists (IsBreach (terms_in against.entry)
+        (asking variables.now (option_copied name.entry)) doc.now) breaches) }
 {
     let mut found = Items::new(alloc);
     walk_document(alloc, doc, &against, &mut found)?;
+    tell_variables(
+        alloc,
+        &doc.operations,
+        against.site,
+        variables,
+        name,
+        &mut found,
+    )?;
     tell_circular(alloc, &doc.fragments, &mut found)?;
     Ok(sorted_once(found))
 }

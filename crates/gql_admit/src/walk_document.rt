@@ -182,7 +182,7 @@ fn walk_inner(
 
 impl<'a> Site<'a> {
     /// The type at the root of a kind of operation, where there is one.
-    fn root(&self, kind: OperationType) -> Option<&'a SchemaType>
+    pub(crate) fn root(&self, kind: OperationType) -> Option<&'a SchemaType>
         ensures { option_copied result ≡ root_of (terms_of self.now) kind }
     {
         match kind {

@@ -1,5 +1,6 @@
 //! Documents over a small table of types, and what is told of the rules that they break.
 use crate::short_form::error_text;
+use crate::tests::variables;
 use gql_admit::{Site, check_rules};
 use gql_base::{Items, Made, ServerError, TypeRef};
 use gql_doc::parse_query;
@@ -108,13 +109,15 @@ fn union_type(alloc: Global) -> Made<SchemaType> {
     Ok(SchemaType::Union(Union::new(alloc, "U")?.possible_type(alloc, "A")?))
 }
 
-/// The types, without the scalars that are of no field.
+/// The types, with `Boolean` for variables.
 pub fn types(alloc: Global) -> Made<Types> {
     let mut types = Types::new(alloc);
     let int = Scalar::new(alloc, "Int")?.rule(ScalarRule::Int);
     types.register(alloc, SchemaType::Scalar(int))?;
     let text = Scalar::new(alloc, "String")?.rule(ScalarRule::Text);
     types.register(alloc, SchemaType::Scalar(text))?;
+    let truth = Scalar::new(alloc, "Boolean")?.rule(ScalarRule::Bool);
+    types.register(alloc, SchemaType::Scalar(truth))?;
     types.register(alloc, query_type(alloc)?)?;
     types.register(alloc, a_type(alloc)?)?;
     types.register(alloc, union_type(alloc)?)?;
@@ -132,7 +135,9 @@ pub fn errors_text(alloc: Global, errors: &Items<ServerError>) -> Made<String> {
     Ok(out)
 }
 
-fn rules_answer(alloc: Global, types: &Types, text: &str) -> Made<String> {
+/// What is told of a text, where `$on` is true and `$no` is 1.
+pub fn rules_answer(alloc: Global, types: &Types, text: &str, name: Option<&str>) -> Made<String> {
+    let variables = variables(alloc)?;
     let site = Site {
         types,
         query: "Query",
@@ -145,7 +150,7 @@ fn rules_answer(alloc: Global, types: &Types, text: &str) -> Made<String> {
     let Ok(document) = parse_query(alloc, text)? else {
         return String::from_str(alloc, "no document");
     };
-    match check_rules(alloc, &site, &document)? {
+    match check_rules(alloc, &site, &document, &variables, name)? {
         Ok(()) => Ok(String::new(alloc)),
         Err(errors) => errors_text(alloc, &errors),
     }
@@ -158,7 +163,7 @@ pub fn first_wrong(
     table: &[(&'static str, &'static str)],
 ) -> Made<Option<&'static str>> {
     for (text, want) in table {
-        if rules_answer(alloc, types, *text)?.as_str() != *want {
+        if rules_answer(alloc, types, *text, None)?.as_str() != *want {
             return Ok(Some(*text));
         }
     }

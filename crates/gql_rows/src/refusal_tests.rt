@@ -132,6 +132,12 @@ fn fields_and_arguments_that_do_not_fit(rt: HostRuntime) -> Result<(), Fail> {
         ),
         (
             (ADD, TYPES),
+            "query($v: Int!) { add(a: $v) }",
+            r#"Variable \"$v\" has no fitting value."#,
+            7,
+        ),
+        (
+            (ADD, TYPES),
             "{ add(a: null) }",
             r#"Invalid value for argument \"a\", expected type \"Int!\""#,
             7,
