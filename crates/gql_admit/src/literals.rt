@@ -14,8 +14,10 @@ ghost use Rattle.gql_admit.specs.Literals.{literal_fits as fits, wants_one as as
 
 use gql_base::{Pairs, Text, TypeRef};
 use gql_doc::DocValue;
-use gql_schema::{nullable, stands_at_inputs, type_of_items};
-use gql_schema::{InputObject, InputValue, NameSet, ScalarRule, SchemaType, Types};
+use gql_schema::{
+    InputObject, InputValue, NameSet, ScalarRule, SchemaType, Types, nullable, stands_at_inputs,
+    type_of_items,
+};
 
 /// True exactly where a value of a document fits a type of inputs. A variable fits each.
 #[cycle(fitting)]
