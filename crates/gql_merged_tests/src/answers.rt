@@ -1,5 +1,6 @@
 //! A set of resolvers that answer at their second poll, by their numbers and their parents, for
 //! tests. Its objects are numbers.
+use crate::scenes::LISTS;
 use gql_base::{Error, Items, Made, Name, Number, Text, Value};
 use gql_resolve::{Answer, FieldFuture, FieldValue, Polled, ResolverContext, ResolverSet};
 use std::alloc::Global;
@@ -148,6 +149,17 @@ fn gap(alloc: Global) -> Made<FieldValue<u64>> {
     Ok(FieldValue::list(items))
 }
 
+/// The number 5 in so many lists, each in the next.
+fn nested(alloc: Global, levels: usize) -> Made<FieldValue<u64>> {
+    let mut value = number(5);
+    for _ in 0..levels {
+        let mut items = Items::new(alloc);
+        items.push(value)?;
+        value = FieldValue::list(items);
+    }
+    Ok(value)
+}
+
 /// What the resolver of a number gives, but for the one that fails and the one that gives nothing.
 fn value_at(alloc: Global, resolver: u32, own: u64) -> Made<FieldValue<u64>> {
     match resolver {
@@ -162,6 +174,7 @@ fn value_at(alloc: Global, resolver: u32, own: u64) -> Made<FieldValue<u64>> {
         10 => item(alloc, "RED"),
         11 => item(alloc, "BLUE"),
         12 => typed(alloc, 1, "Query"),
+        14 => nested(alloc, LISTS),
         _ => Ok(FieldValue::own(own)),
     }
 }

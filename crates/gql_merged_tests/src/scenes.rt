@@ -24,6 +24,9 @@ use std::alloc::Global;
 /// How many levels beneath that of an operation the sets of a query may lie.
 const DEPTH: usize = 64;
 
+/// How many lists stand around the number of the field `nested`.
+pub const LISTS: usize = 127;
+
 /// Adds a field with this resolver, unless there is one of its name.
 fn with(alloc: Global, object: Object, name: &str, ty: TypeRef, resolver: u32) -> Made<Object> {
     let field = field(alloc, name, ty, resolver)?;
@@ -53,7 +56,18 @@ fn with_lists(alloc: Global, object: Object) -> Made<Object> {
     let gap = TypeRef::named_nn_list(alloc, "Int")?;
     let object = with(alloc, object, "gap", gap, 9)?;
     let flat = TypeRef::named_list(alloc, "Int")?;
-    with(alloc, object, "flat", flat, 2)
+    let object = with(alloc, object, "flat", flat, 2)?;
+    let nested = nested_lists(alloc, LISTS)?;
+    with(alloc, object, "nested", nested, 14)
+}
+
+/// The type of numbers in so many lists, each in the next.
+fn nested_lists(alloc: Global, levels: usize) -> Made<TypeRef> {
+    let mut ty = TypeRef::named(alloc, "Int")?;
+    for _ in 0..levels {
+        ty = ty.list(alloc)?;
+    }
+    Ok(ty)
 }
 
 fn with_objects(alloc: Global, object: Object) -> Made<Object> {

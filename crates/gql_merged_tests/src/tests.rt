@@ -1,8 +1,8 @@
 //! Responses to queries, under turns that take the first task that waits and under such that take
 //! the last.
 use crate::answers::Answers;
-use crate::scenes::response_of;
-use gql_base::NoMemory;
+use crate::scenes::{LISTS, response_of};
+use gql_base::{Made, NoMemory};
 use gql_resolve::Turns;
 use std::alloc::Global;
 use std::test::Fail;
@@ -145,6 +145,20 @@ fn first_without_fault(
     Ok(None)
 }
 
+/// The response of a number in so many lists.
+fn nested_response(alloc: Global, levels: usize) -> Made<String> {
+    let mut text = String::from_str(alloc, "{\"nested\":")?;
+    for _ in 0..levels {
+        text.push_str("[")?;
+    }
+    text.push_str("5")?;
+    for _ in 0..levels {
+        text.push_str("]")?;
+    }
+    text.push_str("}")?;
+    Ok(text)
+}
+
 /// How many resolvers a query starts.
 fn starts_of(alloc: Global, query: &str) -> Result<u64, NoMemory> {
     let mut turns = Ends { last: false };
@@ -177,5 +191,12 @@ fn answers_of_other_types_are_faults(rt: HostRuntime) -> Result<(), Fail> {
 fn a_doubled_key_is_asked_once(rt: HostRuntime) -> Result<(), Fail> {
     assert_eq!(rt; starts_of(rt.alloc(), "{ one { id } one { id name } }")?, 3);
     assert_eq!(rt; starts_of(rt.alloc(), "{ rows { id } x: rows { id } }")?, 6);
+    Ok(())
+}
+
+#[test]
+fn lists_nest_as_deep_as_they_are(rt: HostRuntime) -> Result<(), Fail> {
+    let wanted = nested_response(rt.alloc(), LISTS)?;
+    assert!(rt; has_response(rt.alloc(), "{ nested }", wanted.as_str(), true)?);
     Ok(())
 }
