@@ -10,4 +10,5 @@ pub mod Ready
 pub mod Root
 pub mod Scene
 pub mod Schema
+pub mod SchemaOnly
 pub mod Settings

@@ -1,10 +1,12 @@
 //! The execution of requests (GraphQL, October 2021, section 6).
-ghost use Rattle.std.specs.Prelude.{◌≡◌, ◌<◌, [], false, IfErr, IfOk, OnErr};
+ghost use Rattle.std.specs.Prelude.{◌≡◌, ◌<◌, [], true, false, IfErr, IfOk, OnErr, OnOk};
+ghost use Rattle.std.specs.Option.{ForSome};
 ghost use Rattle.gql_engine.specs.Progress.{seen};
 ghost use Rattle.gql_engine.specs.Steps.{IsCounted};
 ghost use Rattle.gql_exec.specs.Bare.{bare_scene};
 ghost use Rattle.gql_exec.specs.Execution.{asks, Executes, fault_response, HaltsIn, Runs, Stops};
 ghost use Rattle.gql_exec.specs.Scene.{scene_for};
+ghost use Rattle.gql_exec.specs.SchemaOnly.{is_schema_only, StartsNone};
 ghost use Rattle.gql_resolve.specs.Call.{is_mutation};
 
 use crate::dynamic_request::DynamicRequest;
@@ -40,6 +42,9 @@ impl Schema {
         ensures world { R.is_lawful resolvers.old
             → R.world resolvers.new ≡ R.world resolvers.old }
         ensures roots { IfErr result (λ want. want.roots ≡ 0) }
+        ensures starts { is_schema_only self.now request.now.inner ≡ true
+            → R.is_lawful resolvers.old → ForSome (P.state turns.old) (λ s. OnOk result
+            (StartsNone R.ResolverSet resolvers.old resolvers.new)) }
     {
         let blank = Blank::new(1);
         self.execute_on::<R, P, Brand>(alloc, resolvers, hooks, request, turns, blank)
