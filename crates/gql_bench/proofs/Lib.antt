@@ -1,3 +1,5 @@
+mod CellLemmas
 mod FreshLemmas
+mod ReadingLemmas
 mod RecordTextLemmas
 mod SumLemmas

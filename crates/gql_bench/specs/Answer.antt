@@ -1,6 +1,6 @@
 -- What a resolver answers to a call in a world of cells, by its rule.
-use Rattle.std.specs.Prelude.{ℕ, ℤ, List, map, Option, Some, None, Ok, Err, option_and_then}
-use Rattle.std.specs.Prelude.{option_map, slice_get}
+use Rattle.std.specs.Prelude.{ℕ, ℤ, pos, List, map, Option, Some, None, Ok, Err, option_and_then}
+use Rattle.std.specs.Prelude.{option_map, get_or}
 use Rattle.gql_base.specs.Kinds.{object_of}
 use Rattle.gql_base.specs.Pairs.{under}
 use Rattle.gql_base.specs.declared.value.Value.{Value}
@@ -29,10 +29,9 @@ parent_members parent = option_and_then object_of (value_in parent)
 abbrev pub parent_member : List ℕ → FieldValue ℤ → Option (FieldValue ℤ)
 parent_member name parent = option_and_then (given_under name) (parent_members parent)
 
--- the cell at a place, where there is one
-abbrev pub cell_at : ℕ → List ℤ → Option (FieldValue ℤ)
-cell_at place cells =
-    option_map (λ number. given.Value (values.Number number)) (slice_get cells place)
+-- the cell at a place, which is one of the cells
+abbrev pub cell_at : ℕ → List ℤ → FieldValue ℤ
+cell_at place cells = given.Value (values.Number (get_or cells place (pos 0)))
 
 -- what comes by a rule: `bump` answers as `read` does, as long as mutations aren't built
 abbrev pub kind_outcome : RuleKind → Call ℤ → List ℤ → Outcome
@@ -42,8 +41,8 @@ kind_outcome (kinds.Fail message) call cells = Err (plain_error message)
 kind_outcome (kinds.Member name) call cells = Ok (parent_member name call.parent)
 kind_outcome (kinds.Arg name) call cells = Ok (given_under name call.arguments)
 kind_outcome (kinds.Sum paths) call cells = sum_outcome paths call.arguments
-kind_outcome (kinds.Read place) call cells = Ok (cell_at place cells)
-kind_outcome (kinds.Bump place) call cells = Ok (cell_at place cells)
+kind_outcome (kinds.Read place) call cells = Ok (Some (cell_at place cells))
+kind_outcome (kinds.Bump place) call cells = Ok (Some (cell_at place cells))
 
 -- the answer by a rule, with the rule's added errors and its headers
 abbrev pub answer_by : Rule → Call ℤ → List ℤ → Answer ℤ

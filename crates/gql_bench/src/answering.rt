@@ -1,11 +1,12 @@
 //! What a resolver answers to a call in a world of cells, by its rule.
-ghost use Rattle.std.specs.Prelude.{◌≡◌, [], map, option_and_then, IfOk};
+ghost use Rattle.std.specs.Prelude.{◌≡◌, ◌<◌, [], map, option_and_then, IfOk, IsTrue, length};
 ghost use Rattle.std.specs.Option.{option_copied};
 ghost use Rattle.gql_base.specs.Kinds.{object_of};
 ghost use Rattle.gql_resolve.specs.Call.{call_of};
 ghost use Rattle.gql_resolve.specs.FieldValue.{value_in};
 ghost use Rattle.gql_bench.specs.Answer.{answer_by, cell_at, given_under, kind_outcome};
 ghost use Rattle.gql_bench.specs.Answer.{parent_member, parent_members};
+ghost use Rattle.gql_bench.specs.Cells.{kind_below, rule_below};
 ghost use Rattle.gql_bench.specs.Outcome.{plain_error};
 
 use crate::rule::{Rule, RuleKind};
@@ -14,13 +15,15 @@ use gql_base::{Copied, Error, Items, Made, Number, Pairs, Text, Value};
 use gql_resolve::{Answer, FieldValue, ResolverContext};
 use std::alloc::Global;
 
-/// The answer by a rule, with the rule's added errors and its headers.
+/// The answer by a rule, with the rule's added errors and its headers. A cell that the rule names
+/// is one of these.
 pub(crate) fn answer_of(
     alloc: Global,
     rule: &Rule,
     call: &ResolverContext<'_, i64>,
     cells: &[i64],
 ) -> Made<Answer<i64>>
+    requires { IsTrue (rule_below (length cells.now) rule.now) }
     ensures { IfOk result
         (λ answer. answer ≡ answer_by rule.now (call_of call.now) cells.now) }
 {
@@ -52,6 +55,7 @@ fn outcome_of(
     call: &ResolverContext<'_, i64>,
     cells: &[i64],
 ) -> Made<Outcome>
+    requires { IsTrue (kind_below (length cells.now) kind.now) }
     ensures { IfOk result
         (λ outcome. outcome ≡ kind_outcome kind.now (call_of call.now) cells.now) }
 {
@@ -63,7 +67,7 @@ fn outcome_of(
         RuleKind::Member(name) => Ok(Ok(member_of(alloc, name.as_str(), call.parent_value)?)),
         RuleKind::Arg(name) => Ok(Ok(value_under(alloc, name.as_str(), arguments)?)),
         RuleKind::Sum(paths) => sum_of(alloc, paths.as_slice(), arguments),
-        RuleKind::Read(place) | RuleKind::Bump(place) => Ok(Ok(cell_of(*place, cells))),
+        RuleKind::Read(place) | RuleKind::Bump(place) => Ok(Ok(Some(cell_of(*place, cells)))),
     }
 }
 
@@ -97,12 +101,10 @@ fn value_under(alloc: Global, name: &str, members: &Pairs<Value>) -> Made<Option
     }
 }
 
-/// The cell at a place, where there is one.
-fn cell_of(place: u64, cells: &[i64]) -> Option<FieldValue<i64>>
+/// The cell at a place.
+fn cell_of(place: u64, cells: &[i64]) -> FieldValue<i64>
+    requires { place < length cells.now }
     ensures { result ≡ cell_at place cells.now }
 {
-    match cells.get(place as usize) {
-        Some(cell) => Some(FieldValue::Value(Value::Number(Number::from_i64(*cell)))),
-        None => None,
-    }
+    FieldValue::Value(Value::Number(Number::from_i64(cells[place as usize])))
 }

@@ -3,7 +3,8 @@ ghost use Rattle.std.specs.Prelude.{IfOk, MatchResult};
 ghost use Rattle.serde_json.specs.View.{view};
 ghost use Rattle.gql_bench.specs.Found.{HasTables, IsBadAt};
 
-use crate::bench::{Bench, bench_over};
+use crate::bench::Bench;
+use crate::making::bench_over;
 use gql_base::{Made, Text};
 use gql_form::{Command, form_of};
 use serde_json::Value;

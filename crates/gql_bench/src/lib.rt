@@ -9,6 +9,7 @@ mod field_table;
 mod found;
 mod given;
 mod list_turns;
+mod making;
 mod numbers;
 mod record_text;
 mod rule;

@@ -1,6 +1,7 @@
 //! The program's resolver set: the rules of a bench, over its cells.
-ghost use Rattle.std.specs.Prelude.{◌≡◌, IfSome};
+ghost use Rattle.std.specs.Prelude.{◌≡◌, IfSome, length};
 ghost use Rattle.gql_resolve.specs.Lawful.{plain_answer};
+ghost use Rattle.gql_bench.specs.Cells.{AreBelow};
 
 use crate::answering::answer_of;
 use crate::bench::Bench;
@@ -20,6 +21,7 @@ pub struct Table {
     cells: Items<i64>,
     told: Items<RecordEntry>,
     begun: Vec<u64>,
+    ghost placed: { AreBelow (length cells) rules },
 }
 
 /// A resolver of a table that has begun: its number, and how many polls are pending still.
@@ -42,8 +44,10 @@ impl Table {
     pub fn of(alloc: Global, bench: &Bench) -> Made<Table>
         ensures lawful { IfOk result ⟦<Table as ResolverSet>⟧.is_lawful }
         ensures paced { IfOk result ⟦<Table as ResolverSet>⟧.is_paced }
-        ensures rules { IfOk result (λ table. ⟦<Table as ResolverSet>⟧.rules table ≡ bench.now.rules) }
-        ensures world { IfOk result (λ table. ⟦<Table as ResolverSet>⟧.world table ≡ bench.now.cells) }
+        ensures rules { IfOk result
+            (λ table. ⟦<Table as ResolverSet>⟧.rules table ≡ bench.now.rules) }
+        ensures world { IfOk result
+            (λ table. ⟦<Table as ResolverSet>⟧.world table ≡ bench.now.cells) }
         ensures told { IfOk result (λ table. ⟦<Table as ResolverSet>⟧.told table ≡ Some []) }
         ensures begun { IfOk result (λ table. ⟦<Table as ResolverSet>⟧.begun table ≡ Some []) }
     {
@@ -106,7 +110,8 @@ impl Table {
     /// Adds an entry to the record.
     fn tell(&mut self, alloc: Global, call: &ResolverContext<'_, i64>, ready: bool) -> Made<()>
         ensures told { OnOk result (self.new ≡ record self.old { told = self.new.told }) }
-        ensures entry { OnOk result (self.new.told ≡ self.old.told ++ entry_of call.now ready ∷ []) }
+        ensures entry { OnOk result
+            (self.new.told ≡ self.old.told ++ entry_of call.now ready ∷ []) }
         ensures err { OnErr result (self.new ≡ self.old) }
     {
         self.told.push(RecordEntry::of(alloc, call, ready)?)

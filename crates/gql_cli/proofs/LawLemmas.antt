@@ -1,9 +1,12 @@
 -- The bytes of a bench give one thing to a command.
-use Rattle.std.proofs.Common.{◌≡◌, ℕ, ℤ, Bool, true, false, ◌&&◌, List, Option, Some, None, Result, Ok, Err, inl, inr, refl, ap, sym, ◌∙◌, subst}
+use Rattle.std.proofs.Common.{◌≡◌, ℕ, ℤ, Bool, true, false, ◌&&◌, List, length, Option, Some, None, Result, Ok, Err, inl, inr, refl, ap, sym, ◌∙◌, subst}
+use Rattle.std.proofs.Props.{props}
+use mathlib.Core.HLevel.{is_prop→PathP}
 use Rattle.serde_json.specs.Data.{Data}
 use Rattle.gql_admit.specs.Prepared.{Prepared}
 use Rattle.gql_bench.specs.Bench.{IsBenchOf, requests_in}
 use Rattle.gql_bench.specs.Built.{is_built, is_request}
+use Rattle.gql_bench.specs.Cells.{AreBelow}
 use Rattle.gql_bench.specs.Found.{HasTables, IsBadAt, IsReadAs}
 use Rattle.gql_bench.specs.ListTurns.{list_turns}
 use Rattle.gql_bench.specs.Table.{table_delay}
@@ -201,17 +204,20 @@ module _ (form : BenchForm) where
       let table = a.table ∙ sym b.table in
       let settings = a.settings ∙ sym b.settings in
       let builder = one_builder one.builder other.builder table settings in
+      let rules = a.rules ∙ sym b.rules in
+      let cells = a.cells ∙ sym b.cells in
       λ i. record {
         builder = builder i;
-        rules = (a.rules ∙ sym b.rules) i;
+        rules = rules i;
         sources = (a.sources ∙ sym b.sources) i;
-        cells = (a.cells ∙ sym b.cells) i;
+        cells = cells i;
         root = (a.root ∙ sym b.root) i;
         turns = (a.turns ∙ sym b.turns) i;
         log = (a.log ∙ sym b.log) i;
         requests = (a.requests ∙ sym b.requests) i;
         ws = (a.ws ∙ sym b.ws) i;
         built = (a.built ∙ sym b.built) i;
+        placed = is_prop→PathP (λ j. AreBelow (length (cells j)) (rules j)) (λ j. hlevel props) one.placed other.placed i;
       }
 
 first-true : (a b : Bool) → (a && b) ≡ true → a ≡ true
