@@ -2,4 +2,5 @@ mod CellLemmas
 mod FreshLemmas
 mod ReadingLemmas
 mod RecordTextLemmas
+pub mod SendLemmas
 mod SumLemmas

@@ -1,9 +1,26 @@
-//! The public types that hold no values can be moved to threads and shared between them.
-use crate::{ListTurns, TableFuture};
+//! The public types but `Bench` can be moved to threads and shared between them.
+use crate::{ListTurns, Numbers, Rule, RuleKind, Table, TableFuture, TableMaker};
 
 fn shared<T: Send + Sync>() {}
 
 fn public_types() {
     shared::<ListTurns>();
+    shared::<Numbers>();
     shared::<TableFuture>();
+}
+
+fn of_rule() {
+    shared::<Rule>();
+}
+
+fn of_rule_kind() {
+    shared::<RuleKind>();
+}
+
+fn of_table() {
+    shared::<Table>();
+}
+
+fn of_table_maker() {
+    shared::<TableMaker>();
 }
