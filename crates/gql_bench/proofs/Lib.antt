@@ -1,3 +1,4 @@
+mod BenchRows
 mod CellLemmas
 mod FreshLemmas
 mod ReadingLemmas
