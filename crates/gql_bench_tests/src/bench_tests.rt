@@ -121,17 +121,20 @@ fn the_schema_of_a_bench(rt: HostRuntime) -> Result<(), Fail> {
 const BUILT: [(&str, &str, bool); 10] = [
     ("\"types\":[]", "", true),
     (
-        "\"mutation\":\"M\",\"introspection\":\"disabled\",\"types\":[{\"kind\":\"union\",\"name\":\"U\",\"members\":[]}]",
+        "\"mutation\":\"M\",\"introspection\":\"disabled\",\"types\":[{\"kind\":\"union\",\
+\"name\":\"U\",\"members\":[]}]",
         ",\"cells\":[1],\"hooks\":\"none\"",
         true,
     ),
     (
-        "\"types\":[{\"kind\":\"object\",\"name\":\"Q\",\"fields\":[{\"name\":\"f\",\"type\":\"Int\",\"answer\":{\"read\":0}}]}]",
+        "\"types\":[{\"kind\":\"object\",\"name\":\"Q\",\"fields\":[{\"name\":\"f\",\
+\"type\":\"Int\",\"answer\":{\"read\":0}}]}]",
         ",\"cells\":[1]",
         true,
     ),
     (
-        "\"types\":[{\"kind\":\"object\",\"name\":\"Q\",\"fields\":[{\"name\":\"f\",\"type\":\"Int\",\"answer\":{\"bump\":0}}]}]",
+        "\"types\":[{\"kind\":\"object\",\"name\":\"Q\",\"fields\":[{\"name\":\"f\",\
+\"type\":\"Int\",\"answer\":{\"bump\":0}}]}]",
         ",\"cells\":[1]",
         false,
     ),

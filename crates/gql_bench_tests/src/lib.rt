@@ -8,4 +8,6 @@ mod bench_tests;
 #[cfg(test)]
 mod parts;
 #[cfg(test)]
+mod place_tests;
+#[cfg(test)]
 mod table_tests;

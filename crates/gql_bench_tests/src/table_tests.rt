@@ -66,7 +66,9 @@ const ANSWERS: [(&str, &str); 24] = [
 /// The text of a bench whose resolver 0 answers so.
 fn bench_text(alloc: Global, answer: &str) -> Made<String> {
     format!(in alloc;
-        "{{\"schema\":{{\"query\":\"Q\",\"types\":[{{\"kind\":\"object\",\"name\":\"Q\",\"fields\":[{{\"name\":\"f\",\"type\":\"Int\",\"answer\":{answer}}}]}}]}},\"cells\":[4,-9],\"request\":{{}}}}"
+        "{{\"schema\":{{\"query\":\"Q\",\"types\":[{{\"kind\":\"object\",\"name\":\"Q\",\
+\"fields\":[{{\"name\":\"f\",\"type\":\"Int\",\"answer\":{answer}}}]}}]}},\"cells\":[4,-9],\
+\"request\":{{}}}}"
     )
 }
 
