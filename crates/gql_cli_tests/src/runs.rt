@@ -42,7 +42,8 @@ pub(crate) fn text_ends_with(
 /// A bench of an object type with these fields, and this request and turns.
 pub(crate) fn bench_text(alloc: Global, fields: &str, query: &str, turns: &str) -> Made<String> {
     format!(in alloc;
-        "{{\"schema\":{{\"query\":\"Query\",\"types\":[{{\"kind\":\"object\",\"name\":\"Query\",\"fields\":[{fields}]}}]}},\
+        "{{\"schema\":{{\"query\":\"Query\",\"types\":[{{\"kind\":\"object\",\"name\":\"Query\",\
+\"fields\":[{fields}]}}]}},\
 \"request\":{{\"query\":\"{query}\"}}{turns}}}"
     )
 }

@@ -27,7 +27,8 @@ fn the_first_refusal_is_told(rt: HostRuntime) -> Result<(), Fail> {
             "Type \"Float\" is not supported",
         ),
         (
-            "{\"kind\":\"object\",\"name\":\"Q\",\"fields\":[{\"name\":\"a\",\"type\":\"[T]\",\"answer\":{\"none\":true}}]}",
+            "{\"kind\":\"object\",\"name\":\"Q\",\"fields\":[{\"name\":\"a\",\"type\":\"[T]\",\
+\"answer\":{\"none\":true}}]}",
             "Type \"T\" not found",
         ),
         (
@@ -35,7 +36,8 @@ fn the_first_refusal_is_told(rt: HostRuntime) -> Result<(), Fail> {
             "Type \"I\" not found",
         ),
         (
-            "{\"kind\":\"interface\",\"name\":\"I\",\"fields\":[{\"name\":\"f\",\"type\":\"Int\"}]},\
+            "{\"kind\":\"interface\",\"name\":\"I\",\"fields\":[{\"name\":\"f\",\
+\"type\":\"Int\"}]},\
 {\"kind\":\"object\",\"name\":\"O\",\"implements\":[\"I\"],\"fields\":[]}",
             "Object \"O\" does not satisfy interface \"I\" at field \"f\"",
         ),
@@ -48,7 +50,8 @@ fn the_first_refusal_is_told(rt: HostRuntime) -> Result<(), Fail> {
             "Input object \"A\" contains itself",
         ),
         (
-            "{\"kind\":\"input\",\"name\":\"MyInput\",\"oneof\":true,\"fields\":[{\"name\":\"a\",\"type\":\"Int\"},{\"name\":\"b\",\"type\":\"Int!\"}]}",
+            "{\"kind\":\"input\",\"name\":\"MyInput\",\"oneof\":true,\"fields\":[{\"name\":\"a\",\
+\"type\":\"Int\"},{\"name\":\"b\",\"type\":\"Int!\"}]}",
             "Field \"MyInput.b\" must be nullable",
         ),
         (
@@ -63,7 +66,8 @@ fn the_first_refusal_is_told(rt: HostRuntime) -> Result<(), Fail> {
         ),
         (
             "{\"kind\":\"enum\",\"name\":\"E\",\"items\":[\"A\"]},\
-{\"kind\":\"input\",\"name\":\"A\",\"fields\":[{\"name\":\"a\",\"type\":\"E\",\"default\":{\"$enum\":\"B\"}}]}",
+{\"kind\":\"input\",\"name\":\"A\",\"fields\":[{\"name\":\"a\",\"type\":\"E\",\
+\"default\":{\"$enum\":\"B\"}}]}",
             "Default of \"A.a\" does not fit",
         ),
         (
@@ -106,7 +110,8 @@ fn what_is_not_built_is_told_before_a_refusal(rt: HostRuntime) -> Result<(), Fai
 fn has_no_root(alloc: Global, root: &str) -> Made<bool> {
     let input = format!(in alloc;
         "{{\"schema\":{{\"query\":\"{root}\",\"types\":[{{\"kind\":\"object\",\"name\":\"{root}\",\
-\"fields\":[{{\"name\":\"a\",\"type\":\"Int\",\"answer\":{{\"const\":1}}}}]}}]}},\"request\":{{\"query\":\"{{ a }}\"}}}}"
+\"fields\":[{{\"name\":\"a\",\"type\":\"Int\",\"answer\":{{\"const\":1}}}}]}}]}},\
+\"request\":{{\"query\":\"{{ a }}\"}}}}"
     )?;
     let line = "{\"data\":null,\"errors\":[{\"message\":\"Query root not found\"}]}\n";
     text_ends_with(alloc, "record", input.as_str(), 1, line)

@@ -19,7 +19,8 @@ fn the_first_bad_place_is_told(rt: HostRuntime) -> Result<(), Fail> {
         (",\"schema\":[]", "schema"),
         (",\"schema\":{\"query\":\"Q\"}", "schema.types"),
         (
-            ",\"schema\":{\"query\":\"Q\",\"types\":[{\"kind\":\"enum\",\"name\":\"E\",\"items\":[\"A\",1]}]}",
+            ",\"schema\":{\"query\":\"Q\",\"types\":[{\"kind\":\"enum\",\"name\":\"E\",\
+\"items\":[\"A\",1]}]}",
             "schema.types[0].items[1]",
         ),
         (",\"request\":{\"query\":1}", "request"),
@@ -38,7 +39,8 @@ fn the_first_bad_place_is_told(rt: HostRuntime) -> Result<(), Fail> {
     Ok(())
 }
 
-/// A bench of a cell, of the field `a`, which is 1, and of a query for it. Its parts may be changed.
+/// A bench of a cell, of the field `a`, which is 1, and of a query for it. Its parts may be
+/// changed.
 #[derive(Clone, Copy)]
 struct Parts<'a> {
     /// More members of the bench.
@@ -74,7 +76,8 @@ fn parts_end_with(alloc: Global, parts: &Parts<'_>, status: u8, text: &str) -> M
     let bench = parts.bench;
     let input = format!(in alloc;
         "{{\"schema\":{{\"query\":\"Q\",\"types\":[{{\"kind\":\"object\",\"name\":\"Q\",\
-\"fields\":[{{\"name\":\"a\",{field}}}]{object}}}]{schema}}},\"request\":{{\"query\":\"{query}\"{request}}}{bench}}}"
+\"fields\":[{{\"name\":\"a\",{field}}}]{object}}}]{schema}}},\
+\"request\":{{\"query\":\"{query}\"{request}}}{bench}}}"
     )?;
     text_ends_with(alloc, "execute", input.as_str(), status, text)
 }
@@ -257,7 +260,8 @@ fn what_is_built_is_answered(rt: HostRuntime) -> Result<(), Fail> {
         ),
         (
             "field",
-            "\"type\":\"Int\",\"args\":[{\"name\":\"x\",\"type\":\"Int\"}],\"answer\":{\"const\":1}",
+            "\"type\":\"Int\",\"args\":[{\"name\":\"x\",\"type\":\"Int\"}],\
+\"answer\":{\"const\":1}",
             0,
             A_IS_1,
         ),

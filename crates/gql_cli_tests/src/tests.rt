@@ -141,7 +141,8 @@ fn queries_over_leaves(rt: HostRuntime) -> Result<(), Fail> {
 /// Whether a query that is no document gives the line of this fault.
 fn is_faulty(alloc: Global, query: &str, what: &str, column: u32) -> Made<bool> {
     let line = format!(in alloc;
-        "{{\"data\":null,\"errors\":[{{\"message\":\"Syntax error: {what}\",\"locations\":[{{\"line\":1,\"column\":{column}}}]}}]}}\n"
+        "{{\"data\":null,\"errors\":[{{\"message\":\"Syntax error: {what}\",\
+\"locations\":[{{\"line\":1,\"column\":{column}}}]}}]}}\n"
     )?;
     query_ends_with(alloc, query, 1, line.as_str())
 }
