@@ -1,0 +1,2 @@
+pub mod DocumentConflicts
+pub mod Rooted
