@@ -1,1 +1,8 @@
+mod AskingLemmas
+mod BelowLemmas
+pub mod ClassLemmas
+pub mod EachLemmas
+mod FittingLemmas
+mod MarkLemmas
 mod Rows
+mod TestLemmas

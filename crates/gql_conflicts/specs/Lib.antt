@@ -1,2 +1,6 @@
+pub mod Asking
+pub mod Classes
 pub mod DocumentConflicts
+pub mod Marks
+pub mod Proposals
 pub mod Rooted
