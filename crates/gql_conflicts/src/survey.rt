@@ -50,9 +50,7 @@ fn look_at_fragments<'a>(
     fragments: &'a Pairs<Positioned<FragmentDefinition>>,
     survey: &mut Survey<'a>,
 ) -> Made<()> {
-    for _ in 0..fragments.len() {
-        add_set(survey)?;
-    }
+    add_sets(fragments.len(), survey)?;
     for place in 0..fragments.len() {
         let (_, fragment) = fragments.at(place);
         look_at_set(&fragment.node.selection_set, fragments, place, survey)?;
@@ -80,6 +78,14 @@ fn look_at_operation<'a>(
     let root = add_set(survey)?;
     survey.roots.push(root)?;
     look_at_set(&operation.node.selection_set, fragments, root, survey)
+}
+
+/// Adds so many sets, each itself alone.
+fn add_sets(number: usize, survey: &mut Survey<'_>) -> Made<()> {
+    for _ in 0..number {
+        add_set(survey)?;
+    }
+    Ok(())
 }
 
 /// Adds a set that is itself alone, and answers its number.
