@@ -8,13 +8,17 @@
 
 mod alike;
 mod coarse;
+mod collecting;
 mod conflict;
+mod conflict_order;
 mod entry;
 mod fitting;
+mod group;
 mod heads;
 mod marks;
 mod proposal;
 mod proposing;
+mod reader;
 mod rooted_types;
 mod same_written;
 mod survey;
