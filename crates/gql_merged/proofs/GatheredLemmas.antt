@@ -18,19 +18,17 @@ use Rattle.gql_merged.specs.declared.level.Level.{Level}
 use Rattle.gql_merged.specs.declared.parent.Parent.{Parent}
 use Rattle.gql_merged.proofs.TaskLemmas.{members_names, members_values}
 
-present_cons : {P : Type 0} (o : Option P) (rest : List (Option P)) → present (o ∷ rest) ≡ present (o ∷ []) ++ present rest
-present_cons None rest = refl
-present_cons (Some p) rest = refl
+-- an open place in front
+pub present_open : {P : Type 0} (old new : List (Option P)) (o : Option P) (all : List P) → old ≡ o ∷ new → o ≡ None → present old ≡ all → present new ≡ all
+present_open old new o all is none before = ap present (sym (is ∙ ap (λ p. p ∷ new) none)) ∙ before
 
--- one more place is gathered
-pub present_more : {P : Type 0} (made made' all : List P) (its rest : List (Option P)) (o : Option P) → its ≡ o ∷ rest → made' ≡ made ++ present (o ∷ [])
-    → made ++ present its ≡ all → made' ++ present rest ≡ all
-present_more made made' all its rest o is added before =
-    ap (λ ps. ps ++ present rest) added
-    ∙ append_assoc made (present (o ∷ [])) (present rest)
-    ∙ ap (λ ps. made ++ ps) (sym (present_cons o rest))
-    ∙ ap (λ os. made ++ present os) (sym is)
-    ∙ before
+-- a place in front
+pub present_there : {P : Type 0} (old new : List (Option P)) (o : Option P) (place : P) (all : List P) → old ≡ o ∷ new → o ≡ Some place → present old ≡ all → all ≡ place ∷ present new
+present_there old new o place all is some before = sym before ∙ ap present (is ∙ ap (λ p. p ∷ new) some)
+
+-- no place at all
+pub present_none : {P : Type 0} (old : List (Option P)) (all : List P) → old ≡ [] → present old ≡ all → all ≡ []
+present_none old all none before = sym before ∙ ap present none
 
 -- one more open place
 pub open_more : {P : Type 0} (places places' : List (Option P)) → places' ≡ places ++ None ∷ [] → ((k : ℕ) (o : Option P) → slice_get places k ≡ Some o → o ≡ None)

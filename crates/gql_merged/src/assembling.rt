@@ -1,6 +1,6 @@
 //! The places of tasks, put together from the one that was answered last to the first. So the
 //! places beneath a task stand behind all others when it is its turn, and are moved into its own.
-ghost use Rattle.std.specs.Prelude.{ℕ, ◌≡◌, ◌<◌, ◌≤◌, List, [], ◌∷◌, ◌++◌, Some, Option, None};
+ghost use Rattle.std.specs.Prelude.{ℕ, ◌≡◌, ◌<◌, ◌≤◌, List, Some, Option, None};
 ghost use Rattle.std.specs.Prelude.{drop, length, map, slice_get, take, IfOk, OnOk};
 ghost use Rattle.gql_merged.specs.Assembling.{AllHeld, IsRight, members_each, place_made};
 ghost use Rattle.gql_merged.specs.Entries.{laid};
@@ -27,18 +27,19 @@ pub(crate) fn assemble<'a, V: Drop>(
     kept: Vec<Kept<'a, V>>,
     roots: usize,
     count: usize,
-) -> Made<VecDeque<Place>>
+) -> Made<VecDeque<Option<Place>>>
     requires { laid roots (entries_in kept.items) ≡ Some count }
     ensures { (jobs : List (Job V)) (answer : Call V → Answer V) → length jobs ≡ count
         → AllHeld answer jobs (entries_in kept.entry.items)
-        → IfOk result (λ places. Paired (IsRight answer) (take roots jobs) places.items) }
+        → IfOk result (λ places. Paired (IsRight answer) (take roots jobs)
+        (present places.items)) }
 {
     let mut kept = kept;
     let mut places = no_places(alloc, count)?;
     'kept: while let Some(last) = kept.pop() {
         put_place(alloc, last, &mut places)?;
     }
-    all_present(alloc, places)
+    Ok(VecDeque::from_vec(places))
 }
 
 /// So many places that are open.
@@ -74,8 +75,7 @@ fn put_place<'a, V: Drop>(
         count: _,
         filled,
     } = kept;
-    let behind = places.split_off(first)?;
-    let mut own = all_present(alloc, behind)?;
+    let mut own = take_behind(places, first)?;
     let place = place_from(alloc, filled, &mut own)?;
     put_if_open(places, number, place);
     Ok(())
@@ -91,37 +91,23 @@ fn put_if_open(places: &mut Vec<Option<Place>>, number: usize, place: Place)
     }
 }
 
-/// The places that are there.
-#[tactic(auto, using(crate::proofs::GatheredLemmas::present_more))]
-fn all_present(alloc: Global, places: Vec<Option<Place>>) -> Made<VecDeque<Place>>
-    ensures { IfOk result (λ made. made.items ≡ present places.items) }
+/// Takes the places from the one of a number on, and leaves those before it.
+fn take_behind(places: &mut Vec<Option<Place>>, first: usize) -> Made<VecDeque<Option<Place>>>
+    requires { first ≤ length places.old.items }
+    ensures left { OnOk result (places.new.items ≡ take first places.old.items) }
+    ensures behind { IfOk result (λ behind. behind.items ≡ drop first places.old.items) }
 {
-    let mut made = VecDeque::with_capacity(alloc, places.len())?;
-    for place in places {
-        add_present(&mut made, place)?;
-    }
-    Ok(made)
-}
-
-fn add_present(made: &mut VecDeque<Place>, place: Option<Place>) -> Made<()>
-    ensures { OnOk result (made.new.items ≡ made.old.items ++ present (place ∷ [])) }
-{
-    match place {
-        Some(place) => {
-            made.push_back(place)?;
-            Ok(())
-        }
-        None => Ok(()),
-    }
+    let behind = places.split_off(first)?;
+    Ok(VecDeque::from_vec(behind))
 }
 
 /// The place of what a task came to, of the places beneath it.
 fn place_from<'a, V: Drop>(
     alloc: Global,
     filled: Filled<'a, V>,
-    own: &mut VecDeque<Place>,
+    own: &mut VecDeque<Option<Place>>,
 ) -> Made<Place>
-    ensures { IfOk result (λ place. place ≡ place_made filled.entry own.old.items) }
+    ensures { IfOk result (λ place. place ≡ place_made filled.entry (present own.old.items)) }
 {
     let Filled {
         pos,
@@ -147,10 +133,10 @@ fn place_from<'a, V: Drop>(
 fn all_members<'a, V: Drop>(
     alloc: Global,
     parents: &[Rc<Parent<'a, V>>],
-    own: &mut VecDeque<Place>,
+    own: &mut VecDeque<Option<Place>>,
 ) -> Made<VecDeque<Pairs<Place>>>
     ensures { IfOk result (λ members. members.items
-        ≡ members_each (map standing_behind parents.entry.now) own.old.items) }
+        ≡ members_each (map standing_behind parents.entry.now) (present own.old.items)) }
 {
     let mut members = VecDeque::with_capacity(alloc, parents.len())?;
     for parent in parents {

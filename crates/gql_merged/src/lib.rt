@@ -39,5 +39,4 @@ pub use filling::fill;
 pub use group::{Group, Groups};
 pub use level::{Level, Node};
 pub use levels::{fields_beneath, level_of};
-pub use members::members_at;
 pub use run::{run_merged, run_merged_counted};

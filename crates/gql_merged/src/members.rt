@@ -1,5 +1,5 @@
 //! The members of an object, of the places of its fields (GraphQL, October 2021, section 6.3).
-ghost use Rattle.std.specs.Prelude.{◌≡◌, map, IfOk, OnOk};
+ghost use Rattle.std.specs.Prelude.{◌≡◌, [], ◌∷◌, map, IfOk, MatchOption, OnOk};
 ghost use Rattle.std.specs.List.{zip};
 ghost use Rattle.gql_base.specs.Pairs.{names_of};
 ghost use Rattle.gql_merged.specs.Assembled.{absent_place, first_place, other_places, place_of};
@@ -7,6 +7,7 @@ ghost use Rattle.gql_merged.specs.Assembled.{places_behind, places_behind_all, p
 ghost use Rattle.gql_merged.specs.Assembled.{typename_place};
 ghost use Rattle.gql_merged.specs.Groups.{united};
 ghost use Rattle.gql_merged.specs.Levels.{asked_behind};
+ghost use Rattle.gql_merged.specs.Standing.{present};
 
 use crate::asks::Asks;
 use crate::level::{Level, Node};
@@ -17,16 +18,17 @@ use std::collections::VecDeque;
 use std::rc::Rc;
 
 /// The members of an object: each of its fields under its key, where those that ask an answer take
-/// these places from the front, one after another.
-pub fn members_at(
+/// the places that are there from the front, one after another.
+pub(crate) fn members_at(
     alloc: Global,
     level: &Level<'_>,
-    places: &mut VecDeque<Place>,
+    places: &mut VecDeque<Option<Place>>,
 ) -> Made<Pairs<Place>>
     ensures members { IfOk result (λ members. members ≡ zip (names_of level.now.keys)
-        (places_with level.now.object (map asked_behind level.now.nodes.items) places.old.items)) }
-    ensures left { OnOk result (places.new.items
-        ≡ places_behind_all (map asked_behind level.now.nodes.items) places.old.items) }
+        (places_with level.now.object (map asked_behind level.now.nodes.items)
+        (present places.old.items))) }
+    ensures left { OnOk result (present places.new.items
+        ≡ places_behind_all (map asked_behind level.now.nodes.items) (present places.old.items)) }
 {
     let own = places_of(alloc, level.object.as_str(), level.nodes.as_slice(), places)?;
     level.keys.with_values(alloc, own)
@@ -37,12 +39,12 @@ fn places_of(
     alloc: Global,
     object: &str,
     nodes: &[Rc<Node<'_>>],
-    places: &mut VecDeque<Place>,
+    places: &mut VecDeque<Option<Place>>,
 ) -> Made<Vec<Place>>
     ensures own { IfOk result (λ own. own.items
-        ≡ places_with object.now (map asked_behind nodes.now) places.old.items) }
-    ensures left { OnOk result (places.new.items
-        ≡ places_behind_all (map asked_behind nodes.now) places.old.items) }
+        ≡ places_with object.now (map asked_behind nodes.now) (present places.old.items)) }
+    ensures left { OnOk result (present places.new.items
+        ≡ places_behind_all (map asked_behind nodes.now) (present places.old.items)) }
 {
     let mut own = Vec::with_capacity(alloc, nodes.len())?;
     for node in nodes {
@@ -58,11 +60,12 @@ fn place_at(
     alloc: Global,
     object: &str,
     node: &Node<'_>,
-    places: &mut VecDeque<Place>,
+    places: &mut VecDeque<Option<Place>>,
 ) -> Made<Place>
-    ensures place { IfOk result (λ place. place
-        ≡ place_of object.now (united node.now.group).pos node.now.asks places.old.items) }
-    ensures left { OnOk result (places.new.items ≡ places_behind node.now.asks places.old.items) }
+    ensures place { IfOk result (λ place. place ≡ place_of object.now
+        (united node.now.group).pos node.now.asks (present places.old.items)) }
+    ensures left { OnOk result (present places.new.items
+        ≡ places_behind node.now.asks (present places.old.items)) }
 {
     let pos = node.group.first.pos;
     match &node.asks {
@@ -104,12 +107,27 @@ fn place_nothing(alloc: Global, pos: Pos) -> Place
 }
 
 /// The next place.
-fn next_place(alloc: Global, pos: Pos, places: &mut VecDeque<Place>) -> Place
-    ensures first { result ≡ first_place pos places.old.items }
-    ensures left { places.new.items ≡ other_places places.old.items }
+fn next_place(alloc: Global, pos: Pos, places: &mut VecDeque<Option<Place>>) -> Place
+    ensures first { result ≡ first_place pos (present places.old.items) }
+    ensures left { present places.new.items ≡ other_places (present places.old.items) }
 {
-    match places.pop_front() {
+    match next_present(places) {
         Some(place) => place,
         None => place_nothing(alloc, pos),
     }
+}
+
+/// Takes the next place that is there off, or answers none where there is none.
+#[tactic(auto, using(crate::proofs::GatheredLemmas::present_open, crate::proofs::GatheredLemmas::present_there, crate::proofs::GatheredLemmas::present_none))]
+fn next_present(places: &mut VecDeque<Option<Place>>) -> Option<Place>
+    ensures { MatchOption result
+        ((present places.old.items ≡ []) × (present places.new.items ≡ []))
+        (λ place. present places.old.items ≡ place ∷ present places.new.items) }
+{
+    'open: while let Some(next) = places.pop_front() {
+        if let Some(place) = next {
+            return Some(place);
+        }
+    }
+    None
 }

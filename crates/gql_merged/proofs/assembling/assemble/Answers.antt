@@ -1,5 +1,5 @@
-use Rattle.std.proofs.Common.{sym, ◌∙◌}
-use Rattle.std.proofs.lemmas.Result.{IfOk-weaker}
+use Rattle.std.proofs.Common.{ap, sym, ◌∙◌}
+use Rattle.gql_merged.specs.Standing.{present}
 use Rattle.gql_merged.proofs.AssemblyLemmas.{no_length, part_first, part_last, part_less, part_number, part_within}
 use Rattle.gql_merged.proofs.assembling.assemble.Goals as goal
 
@@ -24,6 +24,5 @@ kept-preserved g c =
 pub returns : goal.returns
 returns g c = λ jobs answer same held.
     let none = no_length c.kept.kept.items (sym c.kept.kept.ok.0 ∙ c.in_default.ensures.cases.0) in
-    IfOk-weaker c.all_present.result _ _
-    (λ made is. part_last c.args.roots c.args.count c.args.kept.items c.kept.kept.items c.kept.places.items made.items none is c.kept.invariant jobs answer same held)
-    c.all_present.ensures
+    part_last c.args.roots c.args.count c.args.kept.items c.kept.kept.items c.kept.places.items (present c.from_vec.result.items) none
+    (ap present c.from_vec.ensures.items) c.kept.invariant jobs answer same held

@@ -1,11 +1,12 @@
 use Rattle.std.proofs.Common.{◌≡◌, ◌++◌, drop, map}
 use Rattle.gql_merged.specs.Assembled.{places_behind_all, places_with}
 use Rattle.gql_merged.specs.Levels.{asked_behind}
+use Rattle.gql_merged.specs.Standing.{present}
 use Rattle.gql_merged.proofs.members.places_of.Given as goal
 
 abbrev pub invariant-loop-node : goal.invariant-loop-node
 invariant-loop-node l = record {
-  own : l.own.items ++ places_with l.object (map asked_behind (drop l.node-index l.nodes)) l.places.items
-      ≡ places_with l.object (map asked_behind l.nodes) l.initial.places.items;
-  left : places_behind_all (map asked_behind (drop l.node-index l.nodes)) l.places.items ≡ places_behind_all (map asked_behind l.nodes) l.initial.places.items;
+  own : l.own.items ++ places_with l.object (map asked_behind (drop l.node-index l.nodes)) (present l.places.items)
+      ≡ places_with l.object (map asked_behind l.nodes) (present l.initial.places.items);
+  left : places_behind_all (map asked_behind (drop l.node-index l.nodes)) (present l.places.items) ≡ places_behind_all (map asked_behind l.nodes) (present l.initial.places.items);
 }
