@@ -1,5 +1,5 @@
 -- Places and members, gathered one after another.
-use Rattle.std.proofs.Common.{◌≡◌, ℕ, zero, suc, ◌+◌, ◌<◌, List, [], ◌∷◌, ◌++◌, length, map, drop, get_or, Option, Some, None, slice_get, slice_set, refl, ap, sym, ◌∙◌, append_assoc, inl, inr}
+use Rattle.std.proofs.Common.{◌≡◌, ℕ, zero, suc, ◌+◌, ◌<◌, ◌≤◌, List, [], ◌∷◌, ◌++◌, length, map, take, drop, get_or, Option, Some, None, slice_get, slice_set, refl, ap, sym, ◌∙◌, append_assoc, arith, inl, inr, length-append}
 use Rattle.std.proofs.lemmas.List.{drop_more}
 use Rattle.std.specs.Prelude.{false, is_some, true}
 use Rattle.std.specs.List.{zip}
@@ -29,6 +29,29 @@ present_there old new o place all is some before = sym before ∙ ap present (is
 -- no place at all
 pub present_none : {P : Type 0} (old : List (Option P)) (all : List P) → old ≡ [] → present old ≡ all → all ≡ []
 present_none old all none before = sym before ∙ ap present none
+
+-- what stands before a place of a list, and from it on
+pub cut_front : {X : Type 0} (n : ℕ) (front behind whole : List X) → front ++ behind ≡ whole → length front ≡ n → front ≡ take n whole
+cut_front n front behind whole is long = sym (take_front n front behind long) ∙ ap (take n) is
+  where
+    take_front : {X : Type 0} (n : ℕ) (front behind : List X) → length front ≡ n → take n (front ++ behind) ≡ front
+    take_front zero [] behind long = refl
+    take_front zero (x ∷ front) behind long = absurd (omega arith)
+    take_front (suc n) [] behind long = absurd (omega arith)
+    take_front (suc n) (x ∷ front) behind long = ap (λ xs. x ∷ xs) (take_front n front behind (omega arith))
+
+pub cut_behind : {X : Type 0} (n : ℕ) (front behind whole : List X) → front ++ behind ≡ whole → length front ≡ n → behind ≡ drop n whole
+cut_behind n front behind whole is long = sym (drop_front n front behind long) ∙ ap (drop n) is
+  where
+    drop_front : {X : Type 0} (n : ℕ) (front behind : List X) → length front ≡ n → drop n (front ++ behind) ≡ behind
+    drop_front zero [] behind long = refl
+    drop_front zero (x ∷ front) behind long = absurd (omega arith)
+    drop_front (suc n) [] behind long = absurd (omega arith)
+    drop_front (suc n) (x ∷ front) behind long = drop_front n front behind (omega arith)
+
+-- where fewer are moved than are to be moved, one is left
+pub cut_left : {X : Type 0} (n i : ℕ) (front behind whole : List X) → front ++ behind ≡ whole → length front ≡ i → i < n → n ≤ length whole → 0 < length behind
+cut_left n i front behind whole is long less within = let both = length-append front behind in let all = ap length is in omega arith
 
 -- one more open place
 pub open_more : {P : Type 0} (places places' : List (Option P)) → places' ≡ places ++ None ∷ [] → ((k : ℕ) (o : Option P) → slice_get places k ≡ Some o → o ≡ None)

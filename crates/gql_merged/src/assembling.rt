@@ -1,6 +1,6 @@
 //! The places of tasks, put together from the one that was answered last to the first. So the
 //! places beneath a task stand behind all others when it is its turn, and are moved into its own.
-ghost use Rattle.std.specs.Prelude.{ℕ, ◌≡◌, ◌<◌, ◌≤◌, List, Some, Option, None};
+ghost use Rattle.std.specs.Prelude.{ℕ, ◌≡◌, ◌<◌, ◌≤◌, ◌+◌, List, ◌++◌, Some, Option, None};
 ghost use Rattle.std.specs.Prelude.{drop, length, map, slice_get, take, IfOk, OnOk};
 ghost use Rattle.gql_merged.specs.Assembling.{AllHeld, IsRight, members_each, place_made};
 ghost use Rattle.gql_merged.specs.Entries.{laid};
@@ -19,6 +19,7 @@ use gql_base::{Made, Pairs};
 use gql_place::Place;
 use std::alloc::Global;
 use std::collections::VecDeque;
+use std::mem;
 use std::rc::Rc;
 
 /// The places of the first tasks, from what is kept of all.
@@ -75,7 +76,7 @@ fn put_place<'a, V: Drop>(
         count: _,
         filled,
     } = kept;
-    let mut own = take_behind(places, first)?;
+    let mut own = take_behind(alloc, places, first)?;
     let place = place_from(alloc, filled, &mut own)?;
     put_if_open(places, number, place);
     Ok(())
@@ -91,14 +92,58 @@ fn put_if_open(places: &mut Vec<Option<Place>>, number: usize, place: Place)
     }
 }
 
-/// Takes the places from the one of a number on, and leaves those before it.
-fn take_behind(places: &mut Vec<Option<Place>>, first: usize) -> Made<VecDeque<Option<Place>>>
+/// Takes the places from the one of a number on, and leaves those before it: the fewer of them are
+/// moved.
+fn take_behind(
+    alloc: Global,
+    places: &mut Vec<Option<Place>>,
+    first: usize,
+) -> Made<VecDeque<Option<Place>>>
     requires { first ≤ length places.old.items }
     ensures left { OnOk result (places.new.items ≡ take first places.old.items) }
     ensures behind { IfOk result (λ behind. behind.items ≡ drop first places.old.items) }
 {
-    let behind = places.split_off(first)?;
-    Ok(VecDeque::from_vec(behind))
+    if places.len() - first < first {
+        Ok(VecDeque::from_vec(places.split_off(first)?))
+    } else {
+        keep_first(alloc, places, first)
+    }
+}
+
+/// Takes the places from the one of a number on, and moves those before it.
+#[tactic(auto, using(crate::proofs::GatheredLemmas::cut_front, crate::proofs::GatheredLemmas::cut_behind))]
+fn keep_first(
+    alloc: Global,
+    places: &mut Vec<Option<Place>>,
+    first: usize,
+) -> Made<VecDeque<Option<Place>>>
+    requires { first ≤ length places.old.items }
+    ensures left { OnOk result (places.new.items ≡ take first places.old.items) }
+    ensures behind { IfOk result (λ behind. behind.items ≡ drop first places.old.items) }
+{
+    let mut all = Vec::with_capacity(alloc, first)?;
+    mem::swap(places, &mut all);
+    let mut behind = VecDeque::from_vec(all);
+    for i in 0..first {
+        move_next(&mut behind, places)?;
+    }
+    Ok(behind)
+}
+
+/// Moves the next of some places to the end of others.
+fn move_next(behind: &mut VecDeque<Option<Place>>, places: &mut Vec<Option<Place>>) -> Made<()>
+    requires { 0 < length behind.old.items }
+    ensures whole { OnOk result (places.new.items ++ behind.new.items
+        ≡ places.old.items ++ behind.old.items) }
+    ensures one { OnOk result (length places.new.items ≡ length places.old.items + 1) }
+{
+    match behind.pop_front() {
+        Some(place) => {
+            places.push(place)?;
+            Ok(())
+        }
+        None => unreachable!(),
+    }
 }
 
 /// The place of what a task came to, of the places beneath it.
