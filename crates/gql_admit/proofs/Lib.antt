@@ -1,3 +1,4 @@
+pub mod AddingLemmas
 pub mod AllLemmas
 pub mod AlongLemmas
 pub mod ArgumentLemmas
@@ -5,6 +6,7 @@ pub mod BreachLemmas
 pub mod ChoiceLemmas
 pub mod CircularLemmas
 pub mod CrowdedLemmas
+pub mod DefinedLemmas
 pub mod DefinitionLemmas
 pub mod DepthLemmas
 pub mod FirstLemmas
@@ -22,4 +24,5 @@ pub mod Rows
 pub mod SpreadLemmas
 pub mod ToldLemmas
 pub mod TruthLemmas
+pub mod UseLemmas
 pub mod WalkLemmas

@@ -15,6 +15,7 @@ use crate::circular::tell_circular;
 use crate::definitions::tell_variables;
 use crate::refusals::refuse;
 use crate::site::Site;
+use crate::uses::tell_wrong_uses;
 use crate::walk::Against;
 use crate::walk_document::walk_document;
 use gql_base::{Items, Made, ServerError, Variables};
@@ -79,6 +80,7 @@ fn breaches_of(
         name,
         &mut found,
     )?;
+    tell_wrong_uses(alloc, doc, &against, &mut found)?;
     tell_circular(alloc, &doc.fragments, &mut found)?;
     Ok(sorted_once(found))
 }

@@ -1,0 +1,20 @@
+use Rattle.std.proofs.Common.{List, ℕ, ap, ◌++◌, ◌∙◌}
+use Rattle.std.specs.Option.{option_map}
+use Rattle.gql_doc.specs.declared.document.DocValue.{DocValue}
+use Rattle.gql_schema.specs.Table.{types_of}
+use Rattle.gql_admit.specs.PlaceViews.{value_place_behind}
+use Rattle.gql_admit.specs.Variables.{member_place, told_in_value}
+use Rattle.gql_admit.proofs.ToldLemmas.{flat_step}
+use Rattle.gql_admit.proofs.variables.+uses.Goals as goal
+
+pub tell_in_members-loop-at-preserved : goal.tell_in_members-loop-at-preserved
+tell_in_members-loop-at-preserved t c =
+    let table = types_of c.args.types.now in
+    let definitions = c.args.defined.now.definitions.now in
+    let argument = c.args.argument.now in
+    let place = option_map value_place_behind c.args.place in
+    let name = c.at.result.0.now in
+    let value = c.at.result.1.now in
+    flat_step (λ (member : List ℕ × DocValue). told_in_value table definitions argument member.1 (member_place table member.0 place))
+    c.args.members.now c.loop-at.at (name, value) c.args.found.now c.loop-at.found c.tell_in_value.new.found c.at.ensures c.loop-at.invariant
+    (c.in_ok-tell_in_value.ensures ∙ ap (λ p. c.loop-at.found ++ told_in_value table definitions argument value p) c.member_place-inner.ensures)
