@@ -3,6 +3,7 @@ use Rattle.std.proofs.Common.{arith, ◌≡◌, ◌<◌, zero, suc, List, [], �
 use Rattle.std.specs.List.{Contains, flat_map}
 use Rattle.std.proofs.lemmas.List.Elements.{Contains-append_cases, Contains-append_left, Contains-append_right}
 use Rattle.gql_base.specs.declared.server_error.ServerError.{ServerError}
+use Rattle.gql_doc.specs.Depth.{operations_in}
 use Rattle.gql_doc.specs.declared.document.ExecutableDocument.{ExecutableDocument}
 use Rattle.gql_admit.specs.Asked.{Asked}
 use Rattle.gql_admit.specs.Breaches.{told, told_at}
@@ -13,7 +14,7 @@ use Rattle.gql_admit.specs.Definitions.{told_of_variables}
 use Rattle.gql_admit.specs.Places.{Place, document_places}
 use Rattle.gql_admit.specs.RulesChecked.{IsBreach, at_place, by_use, circular, error_of, of_variable, refused_with}
 use Rattle.gql_admit.specs.Terms.{Terms}
-use Rattle.gql_admit.specs.Uses.{IsWrongUse}
+use Rattle.gql_admit.specs.Uses.{IsWrongUse, WrongUseIn}
 use Rattle.gql_admit.specs.Walking.{tells, terms_in}
 use Rattle.gql_admit.specs.declared.breach.Breach.{Breach}
 use Rattle.gql_admit.specs.declared.walk.Against.{Against}
@@ -60,7 +61,7 @@ module _ {A B : Type 0} (f : A → List B) where
 pub all_listed : (against : Against) (asked : Asked) (document : ExecutableDocument) (told_first told_second used found list : List Breach)
     → Lists (Contains found) list → told_first ≡ [] ++ tells against (document_places (terms_in against) document)
     → told_second ≡ told_first ++ told_of_variables (terms_in against) asked document.operations
-    → against.fragments.now ≡ document.fragments → against.built.now ≡ built_in → Adds (IsWrongUse (terms_in against) document) told_second used
+    → against.fragments.now ≡ document.fragments → against.built.now ≡ built_in → Adds (WrongUseIn (terms_in against) against.fragments.now (operations_in document.operations)) told_second used
     → Adds (IsCircular document.fragments) used found
     → Lists (IsBreach (terms_in against) asked document) list
 all_listed against asked document told_first told_second used found list lists is then fragments built uses adds =
@@ -69,7 +70,10 @@ all_listed against asked document told_first told_second used found list lists i
       exact = λ e. (
         λ h.
             elim (adds.only e ((lists.exact e).0 h)) [
-              | inl at ↦ elim (uses.only e at) [ inl told ↦ among_told e told | inr wrong ↦ by_use wrong ]
+              | inl at ↦ elim (uses.only e at) [
+                | inl told ↦ among_told e told
+                | inr wrong ↦ by_use (subst (λ fs. WrongUseIn (terms_in against) fs (operations_in document.operations) e) fragments wrong)
+              ]
               | inr is_circular ↦ circular is_circular
             ],
         λ breach. (lists.exact e).1 (among e breach),
@@ -105,7 +109,8 @@ all_listed against asked document told_first told_second used found list lists i
         (subst (λ xs. Contains xs e) (sym first) (given_at (told_at built_in terms document.fragments) places place e stands breaks)))))
     among e (of_variable breaks) =
         adds.kept e (uses.kept e (subst (λ xs. Contains xs e) (sym then) (Contains-append_right told_first variables e breaks)))
-    among e (by_use wrong) = adds.kept e (uses.has e wrong)
+    among e (by_use wrong) =
+        adds.kept e (uses.has e (subst (λ fs. WrongUseIn terms fs (operations_in document.operations) e) (sym fragments) wrong))
     among e (circular is_circular) = adds.has e is_circular
 
 -- a list that isn't empty is refused with the errors of all

@@ -1,7 +1,9 @@
 -- Definitions of variables by their names.
-use Rattle.std.proofs.Common.{◌≡◌, ℕ, zero, suc, ◌+◌, Bool, true, false, cond, List, [], ◌∷◌, ◌++◌, map, take, length, Option, Some, None, is_some, slice_get, refl, ap, sym, ◌∙◌, add-one}
+use Rattle.std.proofs.Common.{◌≡◌, ℕ, zero, suc, ◌+◌, Bool, true, false, cond, List, [], ◌∷◌, ◌++◌, map, take, length, Option, Some, None, is_some, slice_get, Bor, refl, ap, sym, ◌∙◌, add-one}
 use Rattle.std.specs.Prelude.{option_and_then}
-use Rattle.std.specs.Option.{option_map}
+use Rattle.std.specs.Slice.{IsItemAt}
+use Rattle.std.proofs.lemmas.Option.{slice_get_past, slice_get_read}
+use Rattle.std.specs.Option.{option_copied, option_map}
 use Rattle.std.specs.Str.{bytes_eq}
 use Rattle.std.specs.Cmp.Lexicographic.{bytes_decides}
 use Rattle.std.proofs.Math.ListN.{length-map}
@@ -10,7 +12,7 @@ use Rattle.gql_base.specs.Pairs.{under}
 use Rattle.gql_base.proofs.NamesLemmas.{length_taken, or_at, place_pushed}
 use Rattle.gql_doc.specs.declared.document.Positioned.{Positioned}
 use Rattle.gql_doc.specs.declared.document.VariableDefinition.{VariableDefinition}
-use Rattle.gql_admit.specs.Defined.{IsIndex, with_place}
+use Rattle.gql_admit.specs.Defined.{IsIndex, IsIndexed, with_place}
 use Rattle.gql_admit.specs.Definitions.{definition_name}
 use Rattle.gql_admit.specs.Variables.{definition_of}
 use Rattle.gql_admit.proofs.AlongLemmas.{map_more}
@@ -75,3 +77,18 @@ definition_at n (d ∷ ds) =
       | true ↦ refl
       | false ↦ next-at d ds (place_of n (map definition_name ds)) ∙ definition_at n ds
     ]
+
+-- an item of a slice, as it is lent
+item_read : {X : Type 0} (xs : List X) (i : ℕ) (r : Option (Bor X)) → IsItemAt xs i r → option_copied r ≡ slice_get xs i
+item_read xs i None (same, (is, (there, (cases, any)))) = sym (slice_get_past xs i cases)
+item_read xs i (Some x) (same, (is, (there, ((within, holds), any)))) = sym (slice_get_read xs (length xs) i x.now refl within is)
+
+-- what is looked up by an index
+pub not_defined : (n : List ℕ) (ds : List (Positioned VariableDefinition)) (index : List (List ℕ × ℕ)) → IsIndex ds index → under n index ≡ None
+    → None ≡ definition_of n ds
+not_defined n ds index are none = ap (option_and_then (slice_get ds)) (sym none ∙ are.same n) ∙ definition_at n ds
+
+pub defined_at : (n : List ℕ) (ds : List (Positioned VariableDefinition)) (index : List (List ℕ × ℕ)) (place : ℕ) (r : Option (Bor (Positioned VariableDefinition)))
+    → IsIndex ds index → under n index ≡ Some place → IsItemAt ds place r → option_copied r ≡ definition_of n ds
+defined_at n ds index place r are found lent =
+    item_read ds place r lent ∙ ap (option_and_then (slice_get ds)) (sym found ∙ are.same n) ∙ definition_at n ds

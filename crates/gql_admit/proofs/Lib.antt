@@ -5,6 +5,7 @@ pub mod ArgumentLemmas
 pub mod BreachLemmas
 pub mod ChoiceLemmas
 pub mod CircularLemmas
+pub mod ConstantLemmas
 pub mod CrowdedLemmas
 pub mod DefinedLemmas
 pub mod DefinitionLemmas
@@ -25,4 +26,5 @@ pub mod SpreadLemmas
 pub mod ToldLemmas
 pub mod TruthLemmas
 pub mod UseLemmas
+pub mod UsePlaceLemmas
 pub mod WalkLemmas

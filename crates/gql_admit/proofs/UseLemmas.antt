@@ -16,13 +16,20 @@ use Rattle.gql_doc.specs.declared.document.VariableDefinition.{VariableDefinitio
 use Rattle.gql_admit.specs.BuiltIn.{built_in}
 use Rattle.gql_admit.specs.Circular.{Adds, AreBelow, AreReached, AreWithin, is_in, led_to}
 use Rattle.gql_admit.specs.Places.{OnCondition, OnDirective, OnField, OnSpread, Place, fragment_places, operation_places}
+use Rattle.gql_admit.specs.PlaceViews.{IsSpread, shown}
 use Rattle.gql_admit.specs.Terms.{Terms}
+use Rattle.gql_admit.specs.UsePlaces.{kept}
 use Rattle.gql_admit.specs.Uses.{IsReached, WrongUseIn, WrongUseOf, fragment_spreads, operation_spreads, own, place_graph, spread, spread_at, spreads_at, uses_told_in}
 use Rattle.gql_admit.specs.Variables.{uses_told, uses_told_at}
 use Rattle.gql_admit.specs.declared.breach.Breach.{Breach}
+use Rattle.gql_admit.specs.declared.built_in.BuiltIn.{BuiltIn}
+use Rattle.gql_admit.specs.declared.spread.Spread.{Spread}
+use Rattle.gql_admit.specs.declared.use_place.UsePlace.{UsePlace}
 use Rattle.gql_admit.proofs.AddingLemmas.{adds_same, adds_then, adds_told}
 use Rattle.gql_admit.proofs.BreachLemmas.{first_in, given_at, given_from, later_in, none_in, one_in}
-use Rattle.gql_admit.proofs.ReachLemmas.{among-append, or-either, or-left, or-right, same_number}
+use Rattle.gql_admit.proofs.MarkLemmas.{reached_within}
+use Rattle.gql_admit.proofs.ReachLemmas.{among-append, among-take, or-either, or-left, or-right, same_number}
+use Rattle.gql_admit.proofs.UsePlaceLemmas.{spreads_kept, uses_kept}
 
 never : false ≡ true → ⊥
 never e = cc
@@ -85,6 +92,27 @@ graph_within terms fragments = record { within = λ from to there. subst (λ n. 
     led (f ∷ fs) zero to there = (spreads_below names (fragment_places terms f)).below to there
     led (f ∷ fs) (suc from) to there = led fs from to there
 
+-- the graph that is made of the places that matter
+graph-of : (terms : Terms) (names : List (List ℕ)) (fs : List (Positioned FragmentDefinition))
+    → map (spreads_at names) (map (λ fragment. kept (fragment_places terms fragment)) fs) ≡ map (λ fragment. spreads_at names (fragment_places terms fragment)) fs
+graph-of terms names [] = refl
+graph-of terms names (f ∷ fs) = λ i. spreads_kept names (fragment_places terms f) i ∷ graph-of terms names fs i
+
+over_shown : {B : Type 0} (f : List Place → B) (lists : List (List UsePlace)) → map (λ places. f (shown places)) lists ≡ map f (map shown lists)
+over_shown f [] = refl
+over_shown f (places ∷ lists) = ap (λ bs. f (shown places) ∷ bs) (over_shown f lists)
+
+pub spread_made : (terms : Terms) (fragments : Fragments) (spread : Spread) (lists : List (List UsePlace)) (graph : List (List ℕ))
+    → map shown lists ≡ map (λ fragment. kept (fragment_places terms fragment)) (values_of fragments)
+    → graph ≡ map (λ places. spreads_at (names_of fragments) (shown places)) lists → spread.places.now ≡ lists → spread.graph.now ≡ graph
+    → IsSpread terms fragments spread
+spread_made terms fragments spread lists graph listed made places_are graph_is = record {
+  places = ap (map shown) places_are ∙ listed;
+  graph =
+      graph_is ∙ made ∙ over_shown (spreads_at (names_of fragments)) lists ∙ ap (map (spreads_at (names_of fragments))) listed
+      ∙ graph-of terms (names_of fragments) (values_of fragments);
+}
+
 -- the places of the fragment at a place
 module _ {A : Type 0} (f : A → List Place) where
   pub record ListedAt (xs : List A) (at : ℕ) (place : Place) : Type 0 where
@@ -117,6 +145,20 @@ module _ (terms : Terms) (fragments : Fragments) where
     tells_spread : List ℕ → List Breach
     tells_spread reached = flat_map (uses_told_in built_in terms definitions (map (fragment_places terms) (values_of fragments))) reached
 
+    -- what is told of the places that matter in the fragment at a place
+    kept_in : (fs : List (Positioned FragmentDefinition)) (at : ℕ)
+        → uses_told_in built_in terms definitions (map (λ fragment. kept (fragment_places terms fragment)) fs) at
+        ≡ uses_told_in built_in terms definitions (map (fragment_places terms) fs) at
+    kept_in [] at = refl
+    kept_in (f ∷ fs) zero = uses_kept built_in terms definitions (fragment_places terms f)
+    kept_in (f ∷ fs) (suc at) = kept_in fs at
+
+    spread_kept : (reached : List ℕ)
+        → flat_map (uses_told_in built_in terms definitions (map (λ fragment. kept (fragment_places terms fragment)) (values_of fragments))) reached
+        ≡ tells_spread reached
+    spread_kept [] = refl
+    spread_kept (at ∷ reached) = λ i. kept_in (values_of fragments) at i ++ spread_kept reached i
+
     own_wrong : (found : Breach) → Contains tells_own found → WrongUseOf terms fragments operation found
     own_wrong found there =
         let from = given_from (uses_told_at built_in terms definitions) (operation_places terms operation) found there in
@@ -147,18 +189,26 @@ module _ (terms : Terms) (fragments : Fragments) where
         (given_at (uses_told_at built_in terms definitions) (slice_index_or lists at []) place found
         (subst (λ ps. Contains ps place) (sym list) there) told))
 
-    -- the uses at all places that an operation reaches
-    pub operation_told : (lists : List (List Place)) (graph : List (List ℕ)) (starts reached : List ℕ) (old now new : List Breach)
-        → lists ≡ map (fragment_places terms) (values_of fragments) → graph ≡ place_graph terms fragments
-        → starts ≡ operation_spreads terms fragments operation → AreReached graph starts reached → now ≡ old ++ tells_own
-        → new ≡ now ++ flat_map (uses_told_in built_in terms definitions lists) reached → Adds (WrongUseOf terms fragments operation) old new
-    operation_told lists graph starts reached old now new listed made begun are first second =
+    -- the uses at all places that an operation reaches, where those are listed that matter
+    pub operation_told : (built : BuiltIn) (places : List Place) (lists : List (List Place)) (graph : List (List ℕ)) (starts reached : List ℕ)
+        (old now new : List Breach) → built ≡ built_in → places ≡ kept (operation_places terms operation)
+        → lists ≡ map (λ fragment. kept (fragment_places terms fragment)) (values_of fragments) → graph ≡ place_graph terms fragments
+        → starts ≡ spreads_at (names_of fragments) places → AreReached graph starts reached → now ≡ old ++ uses_told built terms definitions places
+        → new ≡ now ++ flat_map (uses_told_in built terms definitions lists) reached → Adds (WrongUseOf terms fragments operation) old new
+    operation_told built places lists graph starts reached old now new same own_listed listed made begun are first second =
+        let names : List (List ℕ) = names_of fragments in
+        let spreads : starts ≡ operation_spreads terms fragments operation
+        = begun ∙ ap (spreads_at names) own_listed ∙ spreads_kept names (operation_places terms operation) in
         let reaches : AreReached (place_graph terms fragments) (operation_spreads terms fragments operation) reached
-        = subst (λ g. AreReached g (operation_spreads terms fragments operation) reached) made (subst (λ s. AreReached graph s reached) begun are) in
+        = subst (λ g. AreReached g (operation_spreads terms fragments operation) reached) made (subst (λ s. AreReached graph s reached) spreads are) in
+        let told_own : now ≡ old ++ tells_own
+        = first ∙ (λ i. old ++ uses_told (same i) terms definitions (own_listed i))
+        ∙ ap (λ told. old ++ told) (uses_kept built_in terms definitions (operation_places terms operation)) in
+        let told_spread : new ≡ now ++ tells_spread reached
+        = second ∙ (λ i. now ++ flat_map (uses_told_in (same i) terms definitions (listed i)) reached) ∙ ap (λ told. now ++ told) (spread_kept reached) in
         adds_then (Contains tells_own) (Contains (tells_spread reached)) (WrongUseOf terms fragments operation) old now new own_wrong
         (spread_wrong reached reaches) (λ found wrong. by_either reached reaches found wrong.place wrong.reached wrong.told)
-        (adds_told old tells_own now first)
-        (adds_told now (tells_spread reached) new (second ∙ ap (λ ls. now ++ flat_map (uses_told_in built_in terms definitions ls) reached) listed))
+        (adds_told old tells_own now told_own) (adds_told now (tells_spread reached) new told_spread)
 
   -- no operation yet, and one more
   pub none_wrong : (old : List Breach) → Adds (WrongUseIn terms fragments []) old old
@@ -215,3 +265,34 @@ module _ (terms : Terms) (fragments : Fragments) where
 
       whole : take (i + 1) operations ≡ front ++ operation ∷ []
       whole = ap (λ n. take n operations) (add-one i) ∙ taken_more operations i operation at
+
+-- what an operation starts from and reaches are fragments, whose places are listed
+module _ (terms : Terms) (fragments : Fragments) (spread : Spread) (is : IsSpread terms fragments spread) where
+  graph-long : length spread.graph.now ≡ length (names_of fragments)
+  graph-long =
+      ap length is.graph ∙ length-map (values_of fragments) (fragment_spreads terms fragments) ∙ length-map fragments (λ p. p.1)
+      ∙ sym (length-map fragments (λ p. p.0))
+
+  places-long : length spread.places.now ≡ length (names_of fragments)
+  places-long =
+      sym (length-map spread.places.now shown) ∙ ap length is.places
+      ∙ length-map (values_of fragments) (λ fragment. kept (fragment_places terms fragment)) ∙ length-map fragments (λ p. p.1)
+      ∙ sym (length-map fragments (λ p. p.0))
+
+  pub starts_below : (places : List Place) (starts : List ℕ) → starts ≡ spreads_at (names_of fragments) places → AreBelow (length spread.graph.now) starts
+  starts_below places starts begun = subst (λ n. AreBelow n starts) (sym graph-long) (subst (AreBelow (length (names_of fragments))) (sym begun) (spreads_below (names_of fragments) places))
+
+  pub graph_inside : AreWithin spread.graph.now
+  graph_inside = subst AreWithin (sym is.graph) (graph_within terms fragments)
+
+  pub reached_below : (places : List Place) (starts reached : List ℕ) → starts ≡ spreads_at (names_of fragments) places
+      → AreReached spread.graph.now starts reached → AreBelow (length spread.places.now) reached
+  reached_below places starts reached begun are = record {
+    below = λ k there.
+        subst (λ n. k < n) (graph-long ∙ sym places-long)
+        (reached_within spread.graph.now starts k graph_inside (starts_below places starts begun) (are.sound k there));
+  }
+
+-- a number that was read is below the bound of all
+pub below_at : (bound : ℕ) (ns : List ℕ) (i k : ℕ) → AreBelow bound ns → slice_get ns i ≡ Some k → k < bound
+below_at bound ns i k are at = are.below k (among-take ns i k at)

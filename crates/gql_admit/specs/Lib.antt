@@ -24,6 +24,7 @@ pub mod Refusal
 pub mod RulesChecked
 pub mod Spreads
 pub mod Terms
+pub mod UsePlaces
 pub mod Uses
 pub mod Variables
 pub mod Walked

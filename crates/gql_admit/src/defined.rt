@@ -9,6 +9,7 @@ use gql_doc::{Positioned, VariableDefinition};
 use std::alloc::Global;
 
 /// The definitions of an operation, and the place of the first of each name.
+#[derive(Drop)]
 pub struct Defined<'a> {
     pub definitions: &'a [Positioned<VariableDefinition>],
     pub index: Pairs<usize>,

@@ -1,26 +1,30 @@
-//! The places of a document, listed. Spreads aren't entered.
-ghost use Rattle.std.specs.Prelude.{◌≡◌, ◌++◌, ◌∷◌, [], IfOk, OnOk, map};
+//! The places of a document that matter to the uses of variables, listed. Spreads aren't entered.
+ghost use Rattle.std.specs.Prelude.{◌≡◌, ◌++◌, ◌∷◌, [], IfOk, OnOk, map, true};
 ghost use Rattle.std.specs.List.{flat_map};
 ghost use Rattle.gql_base.specs.Pairs.{values_of};
 ghost use Rattle.gql_doc.specs.Depth.{field_set};
 ghost use Rattle.gql_doc.specs.declared.document.Field.{out-Field};
+ghost use Rattle.gql_admit.specs.FieldTypes.{field_type};
 ghost use Rattle.gql_admit.specs.PlaceViews.{place_behind, shown};
+ghost use Rattle.gql_admit.specs.Places.{OnDirective, OnField};
 ghost use Rattle.gql_admit.specs.Places.{beneath_field, directive_places, field_places};
 ghost use Rattle.gql_admit.specs.Places.{fragment_places as places_in_fragment, inline_places};
 ghost use Rattle.gql_admit.specs.Places.{on_named, operation_places as places_in_operation};
 ghost use Rattle.gql_admit.specs.Places.{rooted_places, selection_places, set_places};
-ghost use Rattle.gql_admit.specs.Places.{under_condition, variable_places};
-ghost use Rattle.gql_admit.specs.FieldTypes.{field_type};
+ghost use Rattle.gql_admit.specs.Places.{under_condition};
 ghost use Rattle.gql_admit.specs.Terms.{terms_of};
-ghost use Rattle.gql_admit.specs.Walking.{spread_places};
+ghost use Rattle.gql_admit.specs.UsePlaces.{kept, kept_at};
+ghost use Rattle.gql_admit.specs.Walking.{field_place, spread_places};
 
+use crate::conditions::is_condition;
+use crate::constants::are_constant;
 use crate::field_type::is_composite_type;
-use crate::place::Place;
 use crate::site::Site;
+use crate::use_place::UsePlace;
 use gql_base::{Items, Made, Name, Pairs};
 use gql_doc::{
     Directive, Field, FragmentDefinition, FragmentSpread, InlineFragment, OperationDefinition,
-    Positioned, Selection, SelectionSet, VariableDefinition,
+    Positioned, Selection, SelectionSet,
 };
 use gql_schema::SchemaType;
 use std::alloc::Global;
@@ -30,9 +34,10 @@ pub fn places_of_fragments<'a>(
     alloc: Global,
     fragments: &'a Pairs<Positioned<FragmentDefinition>>,
     site: &'a Site<'a>,
-) -> Made<Items<Items<Place<'a>>>>
+) -> Made<Items<Items<UsePlace<'a>>>>
     ensures { IfOk result (λ lists. map shown lists
-        ≡ map (places_in_fragment (terms_of site.now)) (values_of fragments.now)) }
+        ≡ map (λ fragment. kept (places_in_fragment (terms_of site.now) fragment))
+        (values_of fragments.now)) }
 {
     let mut lists = Items::with_capacity(alloc, fragments.len())?;
     for at in 0..fragments.len() {
@@ -42,20 +47,19 @@ pub fn places_of_fragments<'a>(
     Ok(lists)
 }
 
+#[tactic(auto, using(crate::proofs::UsePlaceLemmas::kept_fragment))]
 fn places_of_fragment<'a>(
     alloc: Global,
     fragment: &'a Positioned<FragmentDefinition>,
     site: &'a Site<'a>,
-) -> Made<Items<Place<'a>>>
+) -> Made<Items<UsePlace<'a>>>
     ensures { IfOk result (λ places. shown places
-        ≡ places_in_fragment (terms_of site.now) fragment.now) }
+        ≡ kept (places_in_fragment (terms_of site.now) fragment.now)) }
 {
     let mut places = Items::new(alloc);
-    let condition = &fragment.node.type_condition;
-    places.push(Place::Condition(condition))?;
-    list_directives(fragment.node.directives.as_slice(), false, &mut places)?;
     let set = &fragment.node.selection_set.node;
-    list_named(set, condition.node.as_str(), site, &mut places)?;
+    let condition = fragment.node.type_condition.node.as_str();
+    list_named(set, condition, site, &mut places)?;
     Ok(places)
 }
 
@@ -64,9 +68,9 @@ pub fn places_of_operation<'a>(
     alloc: Global,
     operation: &'a Positioned<OperationDefinition>,
     site: &'a Site<'a>,
-) -> Made<Items<Place<'a>>>
+) -> Made<Items<UsePlace<'a>>>
     ensures { IfOk result (λ places. shown places
-        ≡ places_in_operation (terms_of site.now) operation.now) }
+        ≡ kept (places_in_operation (terms_of site.now) operation.now)) }
 {
     match site.root(operation.node.ty) {
         None => Ok(Items::new(alloc)),
@@ -74,52 +78,19 @@ pub fn places_of_operation<'a>(
     }
 }
 
+#[tactic(auto, using(crate::proofs::UsePlaceLemmas::kept_rooted))]
 fn places_on_root<'a>(
     alloc: Global,
     operation: &'a Positioned<OperationDefinition>,
     ty: &'a SchemaType,
     site: &'a Site<'a>,
-) -> Made<Items<Place<'a>>>
+) -> Made<Items<UsePlace<'a>>>
     ensures { IfOk result (λ places. shown places
-        ≡ rooted_places (terms_of site.now) operation.now ty.now) }
+        ≡ kept (rooted_places (terms_of site.now) operation.now ty.now)) }
 {
     let mut places = Items::new(alloc);
-    list_on_variables(operation.node.variable_definitions.as_slice(), &mut places)?;
-    list_directives(operation.node.directives.as_slice(), false, &mut places)?;
     list_set(&operation.node.selection_set.node, ty, site, &mut places)?;
     Ok(places)
-}
-
-fn list_on_variables<'a>(
-    variables: &'a [Positioned<VariableDefinition>],
-    places: &mut Items<Place<'a>>,
-) -> Made<()>
-    ensures { OnOk result (shown places.new ≡ shown places.old ++ variable_places variables.now) }
-{
-    for variable in variables {
-        list_directives(variable.node.directives.as_slice(), false, places)?;
-    }
-    Ok(())
-}
-
-fn list_directives<'a>(
-    directives: &'a [Positioned<Directive>],
-    selects: bool,
-    places: &mut Items<Place<'a>>,
-) -> Made<()>
-    ensures { OnOk result (shown places.new
-        ≡ shown places.old ++ directive_places selects directives.now) }
-{
-    for directive in directives {
-        add_place(Place::Directive(selects, directive), places)?;
-    }
-    Ok(())
-}
-
-fn add_place<'a>(place: Place<'a>, places: &mut Items<Place<'a>>) -> Made<()>
-    ensures { OnOk result (shown places.new ≡ shown places.old ++ place_behind place.entry ∷ []) }
-{
-    places.push(place)
 }
 
 #[cycle(listing)]
@@ -127,10 +98,10 @@ fn list_set<'a>(
     set: &'a SelectionSet,
     ty: &'a SchemaType,
     site: &'a Site<'a>,
-    places: &mut Items<Place<'a>>,
+    places: &mut Items<UsePlace<'a>>,
 ) -> Made<()>
     ensures { OnOk result (shown places.new
-        ≡ shown places.old ++ set_places (terms_of site.now) set.now ty.now) }
+        ≡ shown places.old ++ kept (set_places (terms_of site.now) set.now ty.now)) }
 {
     list_selections(set.items.as_slice(), ty, site, places)
 }
@@ -140,11 +111,11 @@ fn list_selections<'a>(
     selections: &'a [Positioned<Selection>],
     ty: &'a SchemaType,
     site: &'a Site<'a>,
-    places: &mut Items<Place<'a>>,
+    places: &mut Items<UsePlace<'a>>,
 ) -> Made<()>
     ensures { OnOk result (shown places.new ≡ shown places.old
-        ++ flat_map (λ selection. selection_places (terms_of site.now) selection.node ty.now)
-        selections.now) }
+        ++ kept (flat_map (λ selection. selection_places (terms_of site.now) selection.node ty.now)
+        selections.now)) }
 {
     for selection in selections {
         list_selection(&selection.node, ty, site, places)?;
@@ -157,10 +128,10 @@ fn list_selection<'a>(
     selection: &'a Selection,
     ty: &'a SchemaType,
     site: &'a Site<'a>,
-    places: &mut Items<Place<'a>>,
+    places: &mut Items<UsePlace<'a>>,
 ) -> Made<()>
     ensures { OnOk result (shown places.new
-        ≡ shown places.old ++ selection_places (terms_of site.now) selection.now ty.now) }
+        ≡ shown places.old ++ kept (selection_places (terms_of site.now) selection.now ty.now)) }
 {
     match selection {
         Selection::Field(field) => list_field(field, ty, site, places),
@@ -170,32 +141,54 @@ fn list_selection<'a>(
 }
 
 #[cycle(listing)]
+#[tactic(auto, using(crate::proofs::UsePlaceLemmas::kept_both))]
 fn list_field<'a>(
     field: &'a Positioned<Field>,
     ty: &'a SchemaType,
     site: &'a Site<'a>,
-    places: &mut Items<Place<'a>>,
+    places: &mut Items<UsePlace<'a>>,
 ) -> Made<()>
     ensures { OnOk result (shown places.new ≡ shown places.old
-        ++ field_places (terms_of site.now) field.now.node field.now.pos ty.now) }
+        ++ kept (field_places (terms_of site.now) field.now.node field.now.pos ty.now)) }
 {
-    add_place(Place::Field(ty, field), places)?;
-    list_directives(field.node.directives.as_slice(), true, places)?;
+    add_field(field, ty, places)?;
+    list_directives(field.node.directives.as_slice(), places)?;
     list_beneath(field, ty, site, places)
 }
 
-/// Lists the places in the set of a field that is known.
+/// Lists the places in the set of a field, if it has one.
 #[cycle(listing)]
+#[tactic(auto, using(crate::proofs::UsePlaceLemmas::none_beneath))]
 fn list_beneath<'a>(
     field: &'a Positioned<Field>,
     ty: &'a SchemaType,
     site: &'a Site<'a>,
-    places: &mut Items<Place<'a>>,
+    places: &mut Items<UsePlace<'a>>,
 ) -> Made<()>
     ensures { OnOk result (shown places.new ≡ shown places.old
-        ++ beneath_field (terms_of site.now)
+        ++ kept (beneath_field (terms_of site.now)
         (field_type (terms_of site.now) ty.now (out-Field field.now.node).name.node)
-        (set_places (terms_of site.now) (field_set field.now).node)) }
+        (set_places (terms_of site.now) (field_set field.now).node))) }
+{
+    if field.node.selection_set.node.items.is_empty() {
+        Ok(())
+    } else {
+        list_known(field, ty, site, places)
+    }
+}
+
+/// The same, where the field is known.
+#[cycle(listing)]
+fn list_known<'a>(
+    field: &'a Positioned<Field>,
+    ty: &'a SchemaType,
+    site: &'a Site<'a>,
+    places: &mut Items<UsePlace<'a>>,
+) -> Made<()>
+    ensures { OnOk result (shown places.new ≡ shown places.old
+        ++ kept (beneath_field (terms_of site.now)
+        (field_type (terms_of site.now) ty.now (out-Field field.now.node).name.node)
+        (set_places (terms_of site.now) (field_set field.now).node))) }
 {
     match site.field_type(ty, field.node.name.node.as_str()) {
         None => Ok(()),
@@ -207,16 +200,17 @@ fn list_beneath<'a>(
 }
 
 #[cycle(listing)]
+#[tactic(auto, using(crate::proofs::UsePlaceLemmas::kept_both))]
 fn list_inline<'a>(
     inline: &'a InlineFragment,
     ty: &'a SchemaType,
     site: &'a Site<'a>,
-    places: &mut Items<Place<'a>>,
+    places: &mut Items<UsePlace<'a>>,
 ) -> Made<()>
     ensures { OnOk result (shown places.new
-        ≡ shown places.old ++ inline_places (terms_of site.now) inline.now ty.now) }
+        ≡ shown places.old ++ kept (inline_places (terms_of site.now) inline.now ty.now)) }
 {
-    list_directives(inline.directives.as_slice(), true, places)?;
+    list_directives(inline.directives.as_slice(), places)?;
     list_under(&inline.selection_set.node, &inline.type_condition, ty, site, places)
 }
 
@@ -227,18 +221,15 @@ fn list_under<'a>(
     condition: &'a Option<Positioned<Name>>,
     ty: &'a SchemaType,
     site: &'a Site<'a>,
-    places: &mut Items<Place<'a>>,
+    places: &mut Items<UsePlace<'a>>,
 ) -> Made<()>
     ensures { OnOk result (shown places.new ≡ shown places.old
-        ++ under_condition (terms_of site.now) condition.now
-        (set_places (terms_of site.now) set.now) ty.now) }
+        ++ kept (under_condition (terms_of site.now) condition.now
+        (set_places (terms_of site.now) set.now) ty.now)) }
 {
     match condition {
         None => list_set(set, ty, site, places),
-        Some(condition) => {
-            add_place(Place::Condition(condition), places)?;
-            list_named(set, condition.node.as_str(), site, places)
-        }
+        Some(condition) => list_named(set, condition.node.as_str(), site, places),
     }
 }
 
@@ -248,10 +239,11 @@ fn list_named<'a>(
     set: &'a SelectionSet,
     name: &str,
     site: &'a Site<'a>,
-    places: &mut Items<Place<'a>>,
+    places: &mut Items<UsePlace<'a>>,
 ) -> Made<()>
     ensures { OnOk result (shown places.new ≡ shown places.old
-        ++ on_named (terms_of site.now) name.now (set_places (terms_of site.now) set.now)) }
+        ++ kept (on_named (terms_of site.now) name.now
+        (set_places (terms_of site.now) set.now))) }
 {
     match site.types.get(name) {
         None => Ok(()),
@@ -267,10 +259,61 @@ fn list_named<'a>(
 
 fn list_spread<'a>(
     spread: &'a Positioned<FragmentSpread>,
-    places: &mut Items<Place<'a>>,
+    places: &mut Items<UsePlace<'a>>,
 ) -> Made<()>
-    ensures { OnOk result (shown places.new ≡ shown places.old ++ spread_places spread.now) }
+    ensures { OnOk result (shown places.new
+        ≡ shown places.old ++ kept (spread_places spread.now)) }
 {
-    add_place(Place::Spread(spread), places)?;
-    list_directives(spread.node.directives.as_slice(), true, places)
+    add_place(UsePlace::Spread(spread), places)?;
+    list_directives(spread.node.directives.as_slice(), places)
+}
+
+/// Lists directives that stand on a selection.
+fn list_directives<'a>(
+    directives: &'a [Positioned<Directive>],
+    places: &mut Items<UsePlace<'a>>,
+) -> Made<()>
+    ensures { OnOk result (shown places.new
+        ≡ shown places.old ++ kept (directive_places true directives.now)) }
+{
+    for directive in directives {
+        add_directive(directive, places)?;
+    }
+    Ok(())
+}
+
+fn add_directive<'a>(
+    directive: &'a Positioned<Directive>,
+    places: &mut Items<UsePlace<'a>>,
+) -> Made<()>
+    ensures { OnOk result (shown places.new
+        ≡ shown places.old ++ kept_at (OnDirective true directive.now)) }
+{
+    if is_condition(&directive.node) && !are_constant(directive.node.arguments.as_slice()) {
+        add_place(UsePlace::Directive(directive), places)
+    } else {
+        Ok(())
+    }
+}
+
+fn add_field<'a>(
+    field: &'a Positioned<Field>,
+    ty: &'a SchemaType,
+    places: &mut Items<UsePlace<'a>>,
+) -> Made<()>
+    ensures { OnOk result (shown places.new
+        ≡ shown places.old ++ kept_at (OnField (field_place ty.now field.now))) }
+{
+    if are_constant(field.node.arguments.as_slice()) {
+        Ok(())
+    } else {
+        add_place(UsePlace::Field(ty, field), places)
+    }
+}
+
+#[tactic(auto, using(crate::proofs::UsePlaceLemmas::shown_more))]
+fn add_place<'a>(place: UsePlace<'a>, places: &mut Items<UsePlace<'a>>) -> Made<()>
+    ensures { OnOk result (shown places.new ≡ shown places.old ++ place_behind place.entry ∷ []) }
+{
+    places.push(place)
 }

@@ -19,6 +19,7 @@ pub fn reaches_itself(alloc: Global, graph: &[Items<usize>], start: usize) -> Ma
 }
 
 /// The places that are reached from some, and these, each once.
+#[tactic(auto, using(crate::proofs::ReachLemmas::none_reached))]
 pub fn reached_from(
     alloc: Global,
     graph: &[Items<usize>],
@@ -28,6 +29,9 @@ pub fn reached_from(
     requires within { AreWithin graph.now }
     ensures { IfOk result (λ reached. AreReached graph.now starts.now reached) }
 {
+    if starts.is_empty() {
+        return Ok(Items::new(alloc));
+    }
     let mut marks = vec![in alloc; false; graph.len()]?;
     walk_from(alloc, graph, starts, marks.as_mut_slice())
 }

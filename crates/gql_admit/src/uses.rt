@@ -2,51 +2,68 @@
 ghost use Rattle.std.specs.Prelude.{◌≡◌, ◌++◌, IfOk, OnOk, length, map};
 ghost use Rattle.std.specs.List.{flat_map};
 ghost use Rattle.gql_base.specs.Pairs.{names_of, values_of};
+ghost use Rattle.gql_doc.specs.Depth.{operations_in};
 ghost use Rattle.gql_admit.specs.BuiltIn.{built_in as the_built_in};
 ghost use Rattle.gql_admit.specs.Circular.{Adds, AreBelow};
 ghost use Rattle.gql_admit.specs.Defined.{IsIndexed};
 ghost use Rattle.gql_admit.specs.PlaceViews.{IsSpread, place_behind, shown};
-ghost use Rattle.gql_admit.specs.Uses.{IsWrongUse, WrongUseIn, WrongUseOf, spread_at, spreads_at};
+ghost use Rattle.gql_admit.specs.Uses.{WrongUseIn, WrongUseOf, spread_at, spreads_at};
 ghost use Rattle.gql_admit.specs.Uses.{uses_told_in};
 ghost use Rattle.gql_admit.specs.Walking.{terms_in};
 
 use crate::breach::Breach;
 use crate::defined::Defined;
 use crate::listing::{places_of_fragments, places_of_operation};
-use crate::place::Place;
 use crate::reaching::reached_from;
 use crate::spread::Spread;
+use crate::use_place::UsePlace;
 use crate::variables::tell_uses;
 use crate::walk::Against;
 use gql_base::{Items, Made, Pairs};
 use gql_doc::{
-    DocumentOperations, ExecutableDocument, FragmentDefinition, OperationDefinition, Positioned,
+    DocumentOperations, FragmentDefinition, OperationDefinition, Positioned,
 };
 use std::alloc::Global;
 
 /// Tells of the variables that are used wrongly at a place that an operation reaches.
 pub fn tell_wrong_uses(
     alloc: Global,
-    doc: &ExecutableDocument,
+    operations: &DocumentOperations,
     against: &Against<'_>,
     found: &mut Items<Breach>,
 ) -> Made<()>
-    requires fragments { against.now.fragments.now ≡ doc.now.fragments }
     requires built { against.now.built.now ≡ the_built_in }
-    ensures { OnOk result (Adds (IsWrongUse (terms_in against.now) doc.now) found.old found.new) }
+    ensures { OnOk result (Adds (WrongUseIn (terms_in against.now) against.now.fragments.now
+        (operations_in operations.now)) found.old found.new) }
 {
-    let places = places_of_fragments(alloc, &doc.fragments, against.site)?;
-    let graph = graph_of(alloc, places.as_slice(), &doc.fragments)?;
+    let places = places_of_fragments(alloc, against.fragments, against.site)?;
+    let graph = graph_of(alloc, places.as_slice(), against.fragments)?;
     let spread = Spread {
         places: places.as_slice(),
         graph: graph.as_slice(),
     };
-    match &doc.operations {
+    tell_each(alloc, operations, &spread, against, found)
+}
+
+#[tactic(auto, using(crate::proofs::UseLemmas::one_wrong))]
+fn tell_each(
+    alloc: Global,
+    operations: &DocumentOperations,
+    spread: &Spread<'_>,
+    against: &Against<'_>,
+    found: &mut Items<Breach>,
+) -> Made<()>
+    requires built { against.now.built.now ≡ the_built_in }
+    requires spread { IsSpread (terms_in against.now) against.now.fragments.now spread.now }
+    ensures { OnOk result (Adds (WrongUseIn (terms_in against.now) against.now.fragments.now
+        (operations_in operations.now)) found.old found.new) }
+{
+    match operations {
         DocumentOperations::Single(operation) => {
-            tell_operation(alloc, operation, &spread, against, found)
+            tell_operation(alloc, operation, spread, against, found)
         }
         DocumentOperations::Multiple(operations) => {
-            tell_operations(alloc, operations, &spread, against, found)
+            tell_operations(alloc, operations, spread, against, found)
         }
     }
 }
@@ -96,7 +113,7 @@ fn tell_reached(
     alloc: Global,
     reached: &[usize],
     defined: &Defined<'_>,
-    places: &[Items<Place<'_>>],
+    places: &[Items<UsePlace<'_>>],
     against: &Against<'_>,
     found: &mut Items<Breach>,
 ) -> Made<()>
@@ -116,7 +133,7 @@ fn tell_reached(
 /// For the places of each fragment, which fragments are spread there.
 fn graph_of(
     alloc: Global,
-    lists: &[Items<Place<'_>>],
+    lists: &[Items<UsePlace<'_>>],
     fragments: &Pairs<Positioned<FragmentDefinition>>,
 ) -> Made<Items<Items<usize>>>
     ensures { IfOk result (λ graph. graph
@@ -132,7 +149,7 @@ fn graph_of(
 /// The known fragments that are spread at some places.
 fn spreads_in(
     alloc: Global,
-    places: &[Place<'_>],
+    places: &[UsePlace<'_>],
     fragments: &Pairs<Positioned<FragmentDefinition>>,
 ) -> Made<Items<usize>>
     ensures { IfOk result
@@ -146,7 +163,7 @@ fn spreads_in(
 }
 
 fn add_spread(
-    place: &Place<'_>,
+    place: &UsePlace<'_>,
     fragments: &Pairs<Positioned<FragmentDefinition>>,
     spreads: &mut Items<usize>,
 ) -> Made<()>
@@ -154,14 +171,13 @@ fn add_spread(
         ≡ spreads.old ++ spread_at (names_of fragments.now) (place_behind place.now)) }
 {
     match place {
-        Place::Spread(spread) => {
+        UsePlace::Spread(spread) => {
             match fragments.place_of(spread.node.fragment_name.node.as_str()) {
                 Some(at) => spreads.push(at),
                 None => Ok(()),
             }
         }
-        Place::Field(_, _) => Ok(()),
-        Place::Condition(_) => Ok(()),
-        Place::Directive(_, _) => Ok(()),
+        UsePlace::Field(_, _) => Ok(()),
+        UsePlace::Directive(_) => Ok(()),
     }
 }

@@ -22,8 +22,8 @@ use crate::breach::Breach;
 use crate::built_in::BuiltIn;
 use crate::conditions::is_condition;
 use crate::defined::Defined;
-use crate::place::Place;
 use crate::site::Site;
+use crate::use_place::UsePlace;
 use crate::value_place::ValuePlace;
 use crate::variable_fits::fits_place;
 use crate::variable_texts::{misplaced_variable, undefined_variable};
@@ -35,7 +35,7 @@ use std::alloc::Global;
 /// Tells of the variables at some places.
 pub fn tell_uses(
     alloc: Global,
-    places: &[Place<'_>],
+    places: &[UsePlace<'_>],
     defined: &Defined<'_>,
     site: &Site<'_>,
     built: &BuiltIn,
@@ -54,7 +54,7 @@ pub fn tell_uses(
 
 fn tell_uses_at(
     alloc: Global,
-    place: &Place<'_>,
+    place: &UsePlace<'_>,
     defined: &Defined<'_>,
     site: &Site<'_>,
     built: &BuiltIn,
@@ -66,17 +66,16 @@ fn tell_uses_at(
         (place_behind place.now)) }
 {
     match place {
-        Place::Field(ty, field) => tell_in_field(alloc, field, ty, defined, site, built, found),
-        Place::Directive(selects, directive) => {
-            if *selects && is_condition(&directive.node) {
+        UsePlace::Field(ty, field) => tell_in_field(alloc, field, ty, defined, site, built, found),
+        UsePlace::Directive(directive) => {
+            if is_condition(&directive.node) {
                 let arguments = directive.node.arguments.as_slice();
                 tell_in_arguments(alloc, arguments, &built.condition, defined, site.types, found)
             } else {
                 Ok(())
             }
         }
-        Place::Spread(_) => Ok(()),
-        Place::Condition(_) => Ok(()),
+        UsePlace::Spread(_) => Ok(()),
     }
 }
 

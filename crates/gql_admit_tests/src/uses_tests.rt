@@ -8,10 +8,11 @@ use gql_schema::{Field, InputObject, InputValue, Object, Scalar, ScalarRule, Sch
 use std::alloc::Global;
 use std::test::Fail;
 
-/// Documents over a query type with the fields `value: Int`, `a(x: Int): Int`, `b(x: Int!): Int`,
-/// `c(x: Int! = 1): Int`, `l(x: [Int]): Int`, `n(x: In): Int` and `y(x: Any): Int`, where the input
-/// object `In` is `{ x: Int!, d: Int! = 1, l: [Int!] }`, and what is told of them.
-const USES: [(&str, &str); 23] = [
+/// Documents over a query type with the fields `value: Int`, `o: Query`, `a(x: Int): Int`,
+/// `b(x: Int!): Int`, `c(x: Int! = 1): Int`, `l(x: [Int]): Int`, `n(x: In): Int` and
+/// `y(x: Any): Int`, where the input object `In` is `{ x: Int!, d: Int! = 1, l: [Int!] }`, and what
+/// is told of them.
+const USES: [(&str, &str); 29] = [
     ("query($v: Int) { a(x: $v) }", ""),
     ("{ a(x: $v) }", "Variable \"$v\" is not defined. 1:5; "),
     (
@@ -89,6 +90,26 @@ const USES: [(&str, &str); 23] = [
         Fragment condition \"Lost\" is no object, interface or union. 1:24; ",
     ),
     ("mutation { a(x: $v) }", ""),
+    (
+        "query($v: String) { o { a(x: $v) } ... on Query { a(x: $w) } }",
+        "Variable \"$v\" does not fit argument \"x\". 1:27; \
+        Variable \"$w\" is not defined. 1:53; ",
+    ),
+    (
+        "{ o { ...F } ...F } fragment F on Query { a(x: [1, {k: $v}]) }",
+        "Invalid value for argument \"x\", expected type \"Int\" 1:45; \
+        Variable \"$v\" is not defined. 1:45; ",
+    ),
+    (
+        "{ value { a(x: $v) } }",
+        "Field \"value\" of type \"Int\" must not have a selection. 1:3; ",
+    ),
+    ("query($v: Int = null) { c(x: $v) }", ""),
+    (
+        "query($v: [Int]) { n(x: {x: 1, l: $v}) }",
+        "Variable \"$v\" does not fit argument \"x\". 1:22; ",
+    ),
+    ("query($v: [Int!]!) { n(x: {x: 1, l: $v}) l(x: $v) }", ""),
 ];
 
 fn field(alloc: Global, name: &str, input: InputValue) -> Made<Field> {
@@ -108,6 +129,7 @@ fn query_type(alloc: Global) -> Made<SchemaType> {
     let y = InputValue::new(alloc, "x", TypeRef::named(alloc, "Any")?)?;
     let object = Object::new(alloc, "Query")?
         .field(alloc, Field::new(alloc, "value", TypeRef::named(alloc, "Int")?, 0)?)?
+        .field(alloc, Field::new(alloc, "o", TypeRef::named(alloc, "Query")?, 0)?)?
         .field(alloc, field(alloc, "a", a)?)?
         .field(alloc, field(alloc, "b", b)?)?
         .field(alloc, field(alloc, "c", c)?)?
