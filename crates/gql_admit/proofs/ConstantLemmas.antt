@@ -20,9 +20,6 @@ both-so true b e = (refl, e)
 both-so false b e = cc
 
 module _ (table : TypeTable) (definitions : List (Positioned VariableDefinition)) (argument : Argument) where
-  told-in : DocValue → TellsIn
-  told-in = told_in_value table definitions argument
-
   IsSilent : DocValue → Type 0
   IsSilent value = is_constant value ≡ true → (place : Option ValuePlace) → told_in_value table definitions argument value place ≡ []
 

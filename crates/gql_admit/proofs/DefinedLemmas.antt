@@ -80,8 +80,8 @@ definition_at n (d ∷ ds) =
 
 -- an item of a slice, as it is lent
 item_read : {X : Type 0} (xs : List X) (i : ℕ) (r : Option (Bor X)) → IsItemAt xs i r → option_copied r ≡ slice_get xs i
-item_read xs i None (same, (is, (there, (cases, any)))) = sym (slice_get_past xs i cases)
-item_read xs i (Some x) (same, (is, (there, ((within, holds), any)))) = sym (slice_get_read xs (length xs) i x.now refl within is)
+item_read xs i None (same, is, there, cases, any) = sym (slice_get_past xs i cases)
+item_read xs i (Some x) (same, is, there, cases, any) = sym (slice_get_read xs (length xs) i x.now refl cases.0 is)
 
 -- what is looked up by an index
 pub not_defined : (n : List ℕ) (ds : List (Positioned VariableDefinition)) (index : List (List ℕ × ℕ)) → IsIndex ds index → under n index ≡ None

@@ -154,14 +154,6 @@ module _ (graph : List (List ℕ)) (starts : List ℕ) where
     all = λ x reaches. reached-all reached next walk (take_all next reached over) x reaches;
   }
 
--- from nowhere nothing is reached
-none-from : (graph : List (List ℕ)) (k : ℕ) → ReachesFrom graph [] k → is_in k [] ≡ true
-none-from graph _ (at_once to among) = among
-none-from graph _ (further via to before leads) = absurd (none-among graph [] via (none-from graph via before))
-
-pub none_reached : (graph : List (List ℕ)) (starts : List ℕ) → starts ≡ [] → AreReached graph starts []
-none_reached graph starts none = rw none (record { sound = λ k there. absurd (none-among graph [] k there); all = λ k reaches. none-from graph k reaches })
-
 -- the places to which some place leads
 abbrev pub all_led : List (List ℕ) → List ℕ
 all_led [] = []

@@ -102,11 +102,11 @@ over_shown : {B : Type 0} (f : List Place → B) (lists : List (List UsePlace)) 
 over_shown f [] = refl
 over_shown f (places ∷ lists) = ap (λ bs. f (shown places) ∷ bs) (over_shown f lists)
 
-pub spread_made : (terms : Terms) (fragments : Fragments) (spread : Spread) (lists : List (List UsePlace)) (graph : List (List ℕ))
+pub spread_made : (terms : Terms) (fragments : Fragments) (made_of : Spread) (lists : List (List UsePlace)) (graph : List (List ℕ))
     → map shown lists ≡ map (λ fragment. kept (fragment_places terms fragment)) (values_of fragments)
-    → graph ≡ map (λ places. spreads_at (names_of fragments) (shown places)) lists → spread.places.now ≡ lists → spread.graph.now ≡ graph
-    → IsSpread terms fragments spread
-spread_made terms fragments spread lists graph listed made places_are graph_is = record {
+    → graph ≡ map (λ places. spreads_at (names_of fragments) (shown places)) lists → made_of.places.now ≡ lists → made_of.graph.now ≡ graph
+    → IsSpread terms fragments made_of
+spread_made terms fragments made_of lists graph listed made places_are graph_is = record {
   places = ap (map shown) places_are ∙ listed;
   graph =
       graph_is ∙ made ∙ over_shown (spreads_at (names_of fragments)) lists ∙ ap (map (spreads_at (names_of fragments))) listed
@@ -149,7 +149,8 @@ module _ (terms : Terms) (fragments : Fragments) where
     kept_in : (fs : List (Positioned FragmentDefinition)) (at : ℕ)
         → uses_told_in built_in terms definitions (map (λ fragment. kept (fragment_places terms fragment)) fs) at
         ≡ uses_told_in built_in terms definitions (map (fragment_places terms) fs) at
-    kept_in [] at = refl
+    kept_in [] zero = refl
+    kept_in [] (suc at) = refl
     kept_in (f ∷ fs) zero = uses_kept built_in terms definitions (fragment_places terms f)
     kept_in (f ∷ fs) (suc at) = kept_in fs at
 
@@ -267,30 +268,30 @@ module _ (terms : Terms) (fragments : Fragments) where
       whole = ap (λ n. take n operations) (add-one i) ∙ taken_more operations i operation at
 
 -- what an operation starts from and reaches are fragments, whose places are listed
-module _ (terms : Terms) (fragments : Fragments) (spread : Spread) (is : IsSpread terms fragments spread) where
-  graph-long : length spread.graph.now ≡ length (names_of fragments)
+module _ (terms : Terms) (fragments : Fragments) (listed : Spread) (is : IsSpread terms fragments listed) where
+  graph-long : length listed.graph.now ≡ length (names_of fragments)
   graph-long =
       ap length is.graph ∙ length-map (values_of fragments) (fragment_spreads terms fragments) ∙ length-map fragments (λ p. p.1)
       ∙ sym (length-map fragments (λ p. p.0))
 
-  places-long : length spread.places.now ≡ length (names_of fragments)
+  places-long : length listed.places.now ≡ length (names_of fragments)
   places-long =
-      sym (length-map spread.places.now shown) ∙ ap length is.places
+      sym (length-map listed.places.now shown) ∙ ap length is.places
       ∙ length-map (values_of fragments) (λ fragment. kept (fragment_places terms fragment)) ∙ length-map fragments (λ p. p.1)
       ∙ sym (length-map fragments (λ p. p.0))
 
-  pub starts_below : (places : List Place) (starts : List ℕ) → starts ≡ spreads_at (names_of fragments) places → AreBelow (length spread.graph.now) starts
+  pub starts_below : (places : List Place) (starts : List ℕ) → starts ≡ spreads_at (names_of fragments) places → AreBelow (length listed.graph.now) starts
   starts_below places starts begun = subst (λ n. AreBelow n starts) (sym graph-long) (subst (AreBelow (length (names_of fragments))) (sym begun) (spreads_below (names_of fragments) places))
 
-  pub graph_inside : AreWithin spread.graph.now
+  pub graph_inside : AreWithin listed.graph.now
   graph_inside = subst AreWithin (sym is.graph) (graph_within terms fragments)
 
   pub reached_below : (places : List Place) (starts reached : List ℕ) → starts ≡ spreads_at (names_of fragments) places
-      → AreReached spread.graph.now starts reached → AreBelow (length spread.places.now) reached
+      → AreReached listed.graph.now starts reached → AreBelow (length listed.places.now) reached
   reached_below places starts reached begun are = record {
     below = λ k there.
         subst (λ n. k < n) (graph-long ∙ sym places-long)
-        (reached_within spread.graph.now starts k graph_inside (starts_below places starts begun) (are.sound k there));
+        (reached_within listed.graph.now starts k graph_inside (starts_below places starts begun) (are.sound k there));
   }
 
 -- a number that was read is below the bound of all

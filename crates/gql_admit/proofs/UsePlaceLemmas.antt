@@ -106,9 +106,9 @@ module _ (built : BuiltIn) (terms : Terms) (definitions : List (Positioned Varia
   arguments-silent : (declared : List (List ℕ × InputValue)) (arguments : List Argument) → are_constant arguments ≡ true
       → told_in_arguments terms.table definitions declared arguments ≡ []
   arguments-silent declared [] h = refl
-  arguments-silent declared (a ∷ as) h =
-      let parts = both-so (is_constant a.value.node) (are_constant as) h in
-      λ i. constant_silent terms.table definitions a a.value.node parts.0 _ i ++ arguments-silent declared as parts.1 i
+  arguments-silent declared (a ∷ rest) h =
+      let parts = both-so (is_constant a.value.node) (are_constant rest) h in
+      λ i. constant_silent terms.table definitions a a.value.node parts.0 _ i ++ arguments-silent declared rest parts.1 i
 
   field-silent : (arguments : List Argument) (known : Option Declared) → are_constant arguments ≡ true
       → told_in_field terms.table definitions arguments known ≡ []

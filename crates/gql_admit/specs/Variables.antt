@@ -1,6 +1,7 @@
 -- Which variables stand in the arguments of a document, and whether they fit where they stand
 -- (GraphQL, October 2021, sections 5.8.3 and 5.8.5).
-use Rattle.std.specs.Prelude.{ℕ, Bool, true, false, ◌&&◌, ◌||◌, not, List, [], ◌∷◌, Option, Some, None}
+use Rattle.std.specs.Prelude.{ℕ, Bool, true, false, ◌&&◌, ◌||◌, not, List, [], ◌∷◌, Option}
+use Rattle.std.specs.Prelude.{Some, None, map}
 use Rattle.std.specs.Prelude.{find, is_some, if◌then◌else◌}
 use Rattle.std.specs.List.{flat_map}
 use Rattle.std.specs.Option.{option_map}
@@ -147,12 +148,15 @@ module _ (table : TypeTable) where
     -- of the items of a list, and of the members of an object
     abbrev pub told_in_items : Argument → List DocValue → TellsIn
     told_in_items argument items place =
-        flat_map (λ value. told_in_value argument value place) items
+        flat_map (λ tells. tells place) (map (told_in_value argument) items)
+
+    abbrev pub told_in_member : Argument → List ℕ × DocValue → List ℕ × TellsIn
+    told_in_member argument (name, value) = (name, told_in_value argument value)
 
     abbrev pub told_in_members : Argument → List (List ℕ × DocValue) → TellsIn
     told_in_members argument members place =
-        flat_map (λ member. told_in_value argument member.1 (member_place table member.0 place))
-        members
+        flat_map (λ member. member.1 (member_place table member.0 place))
+        (map (told_in_member argument) members)
 
     -- what is told of the variables in an argument
     abbrev pub told_in_argument : List (List ℕ × InputValue) → Argument → List Breach

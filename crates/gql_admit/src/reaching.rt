@@ -14,12 +14,27 @@ pub fn reaches_itself(alloc: Global, graph: &[Items<usize>], start: usize) -> Ma
     ensures { IfOk result (λ reaches. Decides reaches (Reaches graph.now start start)) }
 {
     let mut marks = vec![in alloc; false; graph.len()]?;
-    walk_from(alloc, graph, graph[start].as_slice(), marks.as_mut_slice())?;
+    marks_itself(alloc, graph, start, marks.as_mut_slice())
+}
+
+/// The same, where no place is marked yet.
+fn marks_itself(
+    alloc: Global,
+    graph: &[Items<usize>],
+    start: usize,
+    marks: &mut [bool],
+) -> Made<bool>
+    requires inside { start < length graph.now }
+    requires within { AreWithin graph.now }
+    requires long { length marks.old ≡ length graph.now }
+    requires none { Marks marks.old [] }
+    ensures { IfOk result (λ reaches. Decides reaches (Reaches graph.now start start)) }
+{
+    walk_from(alloc, graph, graph[start].as_slice(), marks)?;
     Ok(marks[start])
 }
 
 /// The places that are reached from some, and these, each once.
-#[tactic(auto, using(crate::proofs::ReachLemmas::none_reached))]
 pub fn reached_from(
     alloc: Global,
     graph: &[Items<usize>],
@@ -29,9 +44,6 @@ pub fn reached_from(
     requires within { AreWithin graph.now }
     ensures { IfOk result (λ reached. AreReached graph.now starts.now reached) }
 {
-    if starts.is_empty() {
-        return Ok(Items::new(alloc));
-    }
     let mut marks = vec![in alloc; false; graph.len()]?;
     walk_from(alloc, graph, starts, marks.as_mut_slice())
 }

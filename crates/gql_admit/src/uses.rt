@@ -1,5 +1,5 @@
 //! The uses of variables at the places that an operation reaches.
-ghost use Rattle.std.specs.Prelude.{◌≡◌, ◌++◌, IfOk, OnOk, length, map};
+ghost use Rattle.std.specs.Prelude.{◌≡◌, ◌++◌, ◌∷◌, [], IfOk, OnOk, length, map};
 ghost use Rattle.std.specs.List.{flat_map};
 ghost use Rattle.gql_base.specs.Pairs.{names_of, values_of};
 ghost use Rattle.gql_doc.specs.Depth.{operations_in};
@@ -37,15 +37,15 @@ pub fn tell_wrong_uses(
         (operations_in operations.now)) found.old found.new) }
 {
     let places = places_of_fragments(alloc, against.fragments, against.site)?;
-    let graph = graph_of(alloc, places.as_slice(), against.fragments)?;
+    let lists = places.as_slice();
+    let graph = graph_of(alloc, lists, against.fragments)?;
     let spread = Spread {
-        places: places.as_slice(),
+        places: lists,
         graph: graph.as_slice(),
     };
     tell_each(alloc, operations, &spread, against, found)
 }
 
-#[tactic(auto, using(crate::proofs::UseLemmas::one_wrong))]
 fn tell_each(
     alloc: Global,
     operations: &DocumentOperations,
@@ -60,12 +60,28 @@ fn tell_each(
 {
     match operations {
         DocumentOperations::Single(operation) => {
-            tell_operation(alloc, operation, spread, against, found)
+            tell_only(alloc, operation, spread, against, found)
         }
         DocumentOperations::Multiple(operations) => {
             tell_operations(alloc, operations, spread, against, found)
         }
     }
+}
+
+/// Tells of the only operation.
+fn tell_only(
+    alloc: Global,
+    operation: &Positioned<OperationDefinition>,
+    spread: &Spread<'_>,
+    against: &Against<'_>,
+    found: &mut Items<Breach>,
+) -> Made<()>
+    requires built { against.now.built.now ≡ the_built_in }
+    requires spread { IsSpread (terms_in against.now) against.now.fragments.now spread.now }
+    ensures { OnOk result (Adds (WrongUseIn (terms_in against.now) against.now.fragments.now
+        (operation.now ∷ [])) found.old found.new) }
+{
+    tell_operation(alloc, operation, spread, against, found)
 }
 
 fn tell_operations(
@@ -100,10 +116,12 @@ fn tell_operation(
     ensures { OnOk result (Adds (WrongUseOf (terms_in against.now) against.now.fragments.now
         operation.now) found.old found.new) }
 {
-    let defined = Defined::new(alloc, operation.node.variable_definitions.as_slice())?;
+    let definitions = operation.node.variable_definitions.as_slice();
+    let defined = Defined::new(alloc, definitions)?;
     let places = places_of_operation(alloc, operation, against.site)?;
-    tell_uses(alloc, places.as_slice(), &defined, against.site, against.built, found)?;
-    let starts = spreads_in(alloc, places.as_slice(), against.fragments)?;
+    let own = places.as_slice();
+    tell_uses(alloc, own, &defined, against.site, against.built, found)?;
+    let starts = spreads_in(alloc, own, against.fragments)?;
     let reached = reached_from(alloc, spread.graph, starts.as_slice())?;
     tell_reached(alloc, reached.as_slice(), &defined, spread.places, against, found)
 }

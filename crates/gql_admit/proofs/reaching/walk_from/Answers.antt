@@ -20,33 +20,33 @@ walk-init c = (
 pub offset_bounds-graph-place : goal.offset_bounds-graph-place
 offset_bounds-graph-place c =
     let graph = c.args.graph.now in
-    let list : c.as_slice-in-walk.result.now ≡ c.walk.reached = cc in
+    let list : c.as_slice.result.now ≡ c.walk.reached = cc in
     let next : c.walk.next < length c.walk.reached = omega arith in
-    let place = get_or c.as_slice-in-walk.result.now c.walk.next 0 in
-    let at : slice_get c.walk.reached c.walk.next ≡ Some place = place_read c.as_slice-in-walk.result.now c.walk.reached c.walk.next list next in
+    let place = get_or c.as_slice.result.now c.walk.next 0 in
+    let at : slice_get c.walk.reached c.walk.next ≡ Some place = place_read c.as_slice.result.now c.walk.reached c.walk.next list next in
     let inside : place < length graph = reached_within graph c.args.starts.now place c.requires.within c.requires.starts (c.walk.invariant.0.sound place (among-take c.walk.reached c.walk.next place at)) in
     search rules
 
 pub bounds-graph-place : goal.bounds-graph-place
 bounds-graph-place c =
     let graph = c.args.graph.now in
-    let list : c.as_slice-in-walk.result.now ≡ c.walk.reached = cc in
+    let list : c.as_slice.result.now ≡ c.walk.reached = cc in
     let next : c.walk.next < length c.walk.reached = omega arith in
-    let place = get_or c.as_slice-in-walk.result.now c.walk.next 0 in
-    let at : slice_get c.walk.reached c.walk.next ≡ Some place = place_read c.as_slice-in-walk.result.now c.walk.reached c.walk.next list next in
+    let place = get_or c.as_slice.result.now c.walk.next 0 in
+    let at : slice_get c.walk.reached c.walk.next ≡ Some place = place_read c.as_slice.result.now c.walk.reached c.walk.next list next in
     let inside : place < length graph = reached_within graph c.args.starts.now place c.requires.within c.requires.starts (c.walk.invariant.0.sound place (among-take c.walk.reached c.walk.next place at)) in
     inside
 
 pub add_all-requires-in-walk-clause-within : goal.add_all-requires-in-walk-clause-within
 add_all-requires-in-walk-clause-within c =
     let graph = c.args.graph.now in
-    let list : c.as_slice-in-walk.result.now ≡ c.walk.reached = cc in
+    let list : c.as_slice.result.now ≡ c.walk.reached = cc in
     let next : c.walk.next < length c.walk.reached = omega arith in
-    let place = get_or c.as_slice-in-walk.result.now c.walk.next 0 in
-    let at : slice_get c.walk.reached c.walk.next ≡ Some place = place_read c.as_slice-in-walk.result.now c.walk.reached c.walk.next list next in
+    let place = get_or c.as_slice.result.now c.walk.next 0 in
+    let at : slice_get c.walk.reached c.walk.next ≡ Some place = place_read c.as_slice.result.now c.walk.reached c.walk.next list next in
     let inside : place < length graph = reached_within graph c.args.starts.now place c.requires.within c.requires.starts (c.walk.invariant.0.sound place (among-take c.walk.reached c.walk.next place at)) in
-    let read : c.as_slice-in-walk-2.result.now ≡ c.index-graph-place.result = cc in
-    let led : c.as_slice-in-walk-2.result.now ≡ led_to graph place = led_is graph place c.index-graph-place.result c.as_slice-in-walk-2.result.now inside c.index-graph-place.is read in
+    let read : c.as_slice-in-walk.result.now ≡ c.index-graph-place.result = cc in
+    let led : c.as_slice-in-walk.result.now ≡ led_to graph place = led_is graph place c.index-graph-place.result c.as_slice-in-walk.result.now inside c.index-graph-place.is read in
     λ k among.
     let within : k < length graph = c.requires.within.within place k (ap (is_in k) (sym led) ∙ among) in
     omega (arith, within, c.requires.long)
@@ -54,26 +54,26 @@ add_all-requires-in-walk-clause-within c =
 pub walk-smaller : goal.walk-smaller
 walk-smaller c =
     let graph = c.args.graph.now in
-    let list : c.as_slice-in-walk.result.now ≡ c.walk.reached = cc in
+    let list : c.as_slice.result.now ≡ c.walk.reached = cc in
     let next : c.walk.next < length c.walk.reached = omega arith in
-    let place = get_or c.as_slice-in-walk.result.now c.walk.next 0 in
-    let at : slice_get c.walk.reached c.walk.next ≡ Some place = place_read c.as_slice-in-walk.result.now c.walk.reached c.walk.next list next in
+    let place = get_or c.as_slice.result.now c.walk.next 0 in
+    let at : slice_get c.walk.reached c.walk.next ≡ Some place = place_read c.as_slice.result.now c.walk.reached c.walk.next list next in
     let inside : place < length graph = reached_within graph c.args.starts.now place c.requires.within c.requires.starts (c.walk.invariant.0.sound place (among-take c.walk.reached c.walk.next place at)) in
-    let read : c.as_slice-in-walk-2.result.now ≡ c.index-graph-place.result = cc in
-    let led : c.as_slice-in-walk-2.result.now ≡ led_to graph place = led_is graph place c.index-graph-place.result c.as_slice-in-walk-2.result.now inside c.index-graph-place.is read in
+    let read : c.as_slice-in-walk.result.now ≡ c.index-graph-place.result = cc in
+    let led : c.as_slice-in-walk.result.now ≡ led_to graph place = led_is graph place c.index-graph-place.result c.as_slice-in-walk.result.now inside c.index-graph-place.is read in
     walk_ends graph c.walk.reached c.add_all-in-walk.new.reached c.walk.next place
     (c.in_ok-add_all-2.ensures.reached ∙ ap (with_numbers c.walk.reached) led) next
 
 pub walk-preserved : goal.walk-preserved
 walk-preserved c =
     let graph = c.args.graph.now in
-    let list : c.as_slice-in-walk.result.now ≡ c.walk.reached = cc in
+    let list : c.as_slice.result.now ≡ c.walk.reached = cc in
     let next : c.walk.next < length c.walk.reached = omega arith in
-    let place = get_or c.as_slice-in-walk.result.now c.walk.next 0 in
-    let at : slice_get c.walk.reached c.walk.next ≡ Some place = place_read c.as_slice-in-walk.result.now c.walk.reached c.walk.next list next in
+    let place = get_or c.as_slice.result.now c.walk.next 0 in
+    let at : slice_get c.walk.reached c.walk.next ≡ Some place = place_read c.as_slice.result.now c.walk.reached c.walk.next list next in
     let inside : place < length graph = reached_within graph c.args.starts.now place c.requires.within c.requires.starts (c.walk.invariant.0.sound place (among-take c.walk.reached c.walk.next place at)) in
-    let read : c.as_slice-in-walk-2.result.now ≡ c.index-graph-place.result = cc in
-    let led : c.as_slice-in-walk-2.result.now ≡ led_to graph place = led_is graph place c.index-graph-place.result c.as_slice-in-walk-2.result.now inside c.index-graph-place.is read in (
+    let read : c.as_slice-in-walk.result.now ≡ c.index-graph-place.result = cc in
+    let led : c.as_slice-in-walk.result.now ≡ led_to graph place = led_is graph place c.index-graph-place.result c.as_slice-in-walk.result.now inside c.index-graph-place.is read in (
       walk_goes graph c.args.starts.now c.walk.reached c.add_all-in-walk.new.reached c.walk.next place c.walk.invariant.0 at
           (c.in_ok-add_all-2.ensures.reached ∙ ap (with_numbers c.walk.reached) led) next,
       c.in_ok-add_all-2.ensures.marks,
