@@ -41,7 +41,7 @@ kept_more names kept m are = record { same = λ n. here n ∙ (λ i. are.same n 
           | false ↦ λ h. among-last n kept m
         ]) refl
 
-map_more : {A B : Type 0} (f : A → B) (xs : List A) (i : ℕ) (x : A) → slice_get xs i ≡ Some x → map f (take (suc i) xs) ≡ map f (take i xs) ++ f x ∷ []
+pub map_more : {A B : Type 0} (f : A → B) (xs : List A) (i : ℕ) (x : A) → slice_get xs i ≡ Some x → map f (take (suc i) xs) ≡ map f (take i xs) ++ f x ∷ []
 map_more f [] i x at = cc
 map_more f (y ∷ ys) zero x at =
     let same : y ≡ x = cc in

@@ -3,6 +3,7 @@ use Rattle.std.proofs.Common.{arith, ◌≡◌, ◌<◌, zero, suc, List, [], �
 use Rattle.std.specs.List.{Contains, flat_map}
 use Rattle.std.proofs.lemmas.List.Elements.{Contains-append_cases, Contains-append_left, Contains-append_right}
 use Rattle.gql_base.specs.declared.server_error.ServerError.{ServerError}
+use Rattle.gql_doc.specs.Depth.{operations_in}
 use Rattle.gql_doc.specs.declared.document.ExecutableDocument.{ExecutableDocument}
 use Rattle.gql_admit.specs.Asked.{Asked}
 use Rattle.gql_admit.specs.Breaches.{told, told_at}
@@ -11,8 +12,9 @@ use Rattle.gql_admit.specs.BreachOrder.{Lists}
 use Rattle.gql_admit.specs.BuiltIn.{built_in}
 use Rattle.gql_admit.specs.Definitions.{told_of_variables}
 use Rattle.gql_admit.specs.Places.{Place, document_places}
-use Rattle.gql_admit.specs.RulesChecked.{IsBreach, at_place, circular, error_of, of_variable, refused_with}
+use Rattle.gql_admit.specs.RulesChecked.{IsBreach, at_place, by_use, circular, error_of, of_variable, refused_with}
 use Rattle.gql_admit.specs.Terms.{Terms}
+use Rattle.gql_admit.specs.Uses.{WrongUseIn}
 use Rattle.gql_admit.specs.Walking.{tells, terms_in}
 use Rattle.gql_admit.specs.declared.breach.Breach.{Breach}
 use Rattle.gql_admit.specs.declared.walk.Against.{Against}
@@ -32,12 +34,12 @@ later_in y x xs at = Contains-append_right (y ∷ []) xs x at
 
 module _ {A B : Type 0} (f : A → List B) where
   -- what some item gives
-  record Given (xs : List A) (b : B) : Type 0 where
-    item : A
-    there : Contains xs item
-    gives : Contains (f item) b
+  pub record Given (xs : List A) (b : B) : Type 0 where
+    pub item : A
+    pub there : Contains xs item
+    pub gives : Contains (f item) b
 
-  given_from : (xs : List A) (b : B) → Contains (flat_map f xs) b → Given xs b
+  pub given_from : (xs : List A) (b : B) → Contains (flat_map f xs) b → Given xs b
   given_from [] b at = none_in b (Given [] b) at
   given_from (x ∷ xs) b at =
       elim (Contains-append_cases (f x) (flat_map f xs) b at) [
@@ -47,7 +49,7 @@ module _ {A B : Type 0} (f : A → List B) where
             record { item = rest.item; there = later_in x rest.item xs rest.there; gives = rest.gives }
       ]
 
-  given_at : (xs : List A) (x : A) (b : B) → Contains xs x → Contains (f x) b → Contains (flat_map f xs) b
+  pub given_at : (xs : List A) (x : A) (b : B) → Contains xs x → Contains (f x) b → Contains (flat_map f xs) b
   given_at [] x b at gives = none_in x (Contains (flat_map f []) b) at
   given_at (y ∷ xs) x b at gives =
       elim (Contains-append_cases (y ∷ []) xs x at) [
@@ -56,18 +58,22 @@ module _ {A B : Type 0} (f : A → List B) where
       ]
 
 -- what is told of all places, of definitions of variables and of circular fragments, listed
-pub all_listed : (against : Against) (asked : Asked) (document : ExecutableDocument) (told_first told_second found list : List Breach)
+pub all_listed : (against : Against) (asked : Asked) (document : ExecutableDocument) (told_first told_second used found list : List Breach)
     → Lists (Contains found) list → told_first ≡ [] ++ tells against (document_places (terms_in against) document)
     → told_second ≡ told_first ++ told_of_variables (terms_in against) asked document.operations
-    → against.fragments.now ≡ document.fragments → against.built.now ≡ built_in → Adds (IsCircular document.fragments) told_second found
+    → against.fragments.now ≡ document.fragments → against.built.now ≡ built_in → Adds (WrongUseIn (terms_in against) against.fragments.now (operations_in document.operations)) told_second used
+    → Adds (IsCircular document.fragments) used found
     → Lists (IsBreach (terms_in against) asked document) list
-all_listed against asked document told_first told_second found list lists is then fragments built adds =
+all_listed against asked document told_first told_second used found list lists is then fragments built uses adds =
     record {
       in_order = lists.in_order;
       exact = λ e. (
         λ h.
             elim (adds.only e ((lists.exact e).0 h)) [
-              | inl at ↦ among_told e at
+              | inl at ↦ elim (uses.only e at) [
+                | inl told ↦ among_told e told
+                | inr wrong ↦ by_use (subst (λ fs. WrongUseIn (terms_in against) fs (operations_in document.operations) e) fragments wrong)
+              ]
               | inr is_circular ↦ circular is_circular
             ],
         λ breach. (lists.exact e).1 (among e breach),
@@ -97,12 +103,14 @@ all_listed against asked document told_first told_second found list lists is the
 
     among : (e : Breach) → IsBreach terms asked document e → Contains found e
     among e (at_place place stands breaks) =
-        adds.kept e
+        adds.kept e (uses.kept e
         (subst (λ xs. Contains xs e) (sym then)
         (Contains-append_left told_first variables e
-        (subst (λ xs. Contains xs e) (sym first) (given_at (told_at built_in terms document.fragments) places place e stands breaks))))
+        (subst (λ xs. Contains xs e) (sym first) (given_at (told_at built_in terms document.fragments) places place e stands breaks)))))
     among e (of_variable breaks) =
-        adds.kept e (subst (λ xs. Contains xs e) (sym then) (Contains-append_right told_first variables e breaks))
+        adds.kept e (uses.kept e (subst (λ xs. Contains xs e) (sym then) (Contains-append_right told_first variables e breaks)))
+    among e (by_use wrong) =
+        adds.kept e (uses.has e (subst (λ fs. WrongUseIn terms fs (operations_in document.operations) e) (sym fragments) wrong))
     among e (circular is_circular) = adds.has e is_circular
 
 -- a list that isn't empty is refused with the errors of all

@@ -1,10 +1,13 @@
+pub mod AddingLemmas
 pub mod AllLemmas
 pub mod AlongLemmas
 pub mod ArgumentLemmas
 pub mod BreachLemmas
 pub mod ChoiceLemmas
 pub mod CircularLemmas
+pub mod ConstantLemmas
 pub mod CrowdedLemmas
+pub mod DefinedLemmas
 pub mod DefinitionLemmas
 pub mod DepthLemmas
 pub mod FirstLemmas
@@ -22,4 +25,6 @@ pub mod Rows
 pub mod SpreadLemmas
 pub mod ToldLemmas
 pub mod TruthLemmas
+pub mod UseLemmas
+pub mod UsePlaceLemmas
 pub mod WalkLemmas

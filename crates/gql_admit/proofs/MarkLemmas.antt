@@ -2,8 +2,9 @@
 use Rattle.std.proofs.Common.{◌≡◌, ℕ, zero, suc, ◌+◌, ◌<◌, Bool, true, false, ◌||◌, List, [], ◌∷◌, ◌++◌, take, length, Some, get_or, slice_get, slice_set, refl, ap, sym, subst, ◌∙◌, add-one}
 use Rattle.std.proofs.lemmas.List.{get_or_read}
 use Rattle.std.proofs.lemmas.Option.{slice_get-get_or}
+use Rattle.std.specs.Bool.{Decides}
 use Rattle.std.specs.Prelude.{◌==◌}
-use Rattle.gql_admit.specs.Circular.{AreWithin, Marks, Reaches, at_once, further, is_in, led_to, with_number, with_numbers}
+use Rattle.gql_admit.specs.Circular.{AreBelow, AreReached, AreWithin, Marks, ReachesFrom, at_once, further, is_in, led_to, with_number, with_numbers}
 use Rattle.gql_admit.proofs.ReachLemmas.{among-append, or-left, or-right, same_number}
 
 -- a marked place is there already
@@ -66,9 +67,16 @@ numbers_more ns ks i k at = rw add-one (more ns ks i k at)
     more ns (x ∷ ks) (suc i) k at = more (with_number ns x) ks i k at
 
 -- what is reached is a place of the graph
-pub reached_within : (graph : List (List ℕ)) (start k : ℕ) → AreWithin graph → Reaches graph start k → k < length graph
-reached_within graph start _ is (at_once to leads) = is.within start to leads
-reached_within graph start _ is (further via to before leads) = is.within via to leads
+pub reached_within : (graph : List (List ℕ)) (starts : List ℕ) (k : ℕ) → AreWithin graph → AreBelow (length graph) starts → ReachesFrom graph starts k
+    → k < length graph
+reached_within graph starts _ is below (at_once to among) = below.below to among
+reached_within graph starts _ is below (further via to before leads) = is.within via to leads
+
+-- a place that is marked is reached
+pub marked_reached : (graph : List (List ℕ)) (starts reached : List ℕ) (marks : List Bool) (place : ℕ) (mark : Bool) → AreReached graph starts reached
+    → Marks marks reached → slice_get marks place ≡ Some mark → Decides mark (ReachesFrom graph starts place)
+marked_reached graph starts reached marks place mark are is at =
+    (λ h. are.sound place (sym (is.marked place mark at) ∙ h), λ reaches. is.marked place mark at ∙ are.all place reaches)
 
 -- the places to which a place leads, as they were read
 pub led_is : (graph : List (List ℕ)) (place : ℕ) (got read : List ℕ) → place < length graph → got ≡ get_or graph place got → read ≡ got → read ≡ led_to graph place

@@ -2,9 +2,8 @@
 use Rattle.std.proofs.Common.{◌≡◌, ◌⊎◌, inl, inr, ℕ, zero, suc, ◌+◌, ◌-◌, ◌≤◌, ◌<◌, Bool, true, false, ◌||◌, cond, List, [], ◌∷◌, ◌++◌, take, length, Some, slice_get, refl, ap, sym, ◌∙◌, add-one, arith, length-append, append-nil, append_assoc}
 use Rattle.std.proofs.lemmas.Bool.{eq-eqb, eqb-true}
 use Rattle.std.proofs.lemmas.List.{take-append-le, take_all}
-use Rattle.std.specs.Bool.{Decides}
 use Rattle.std.specs.Prelude.{◌==◌}
-use Rattle.gql_admit.specs.Circular.{Reaches, at_once, further, is_in, led_to, with_number, with_numbers}
+use Rattle.gql_admit.specs.Circular.{AreReached, ReachesFrom, at_once, further, is_in, led_to, with_number, with_numbers}
 
 pub same_number : (x n : ℕ) → ((x == n) ≡ true → x ≡ n) × (x ≡ n → (x == n) ≡ true)
 same_number x n = (eqb-true x n, eq-eqb x n)
@@ -24,7 +23,7 @@ pub or-left : (a b : Bool) → a ≡ true → (a || b) ≡ true
 or-left true b h = refl
 or-left false b h = cc
 
-or-either : (a b : Bool) → (a || b) ≡ true → (a ≡ true) ⊎ (b ≡ true)
+pub or-either : (a b : Bool) → (a || b) ≡ true → (a ≡ true) ⊎ (b ≡ true)
 or-either true b h = inl refl
 or-either false b h = inr h
 
@@ -84,10 +83,10 @@ grows ns (n ∷ xs) =
     ]) (with_number ns n) refl
 
 -- a walk: the places that were reached, of which the first have been entered
-pub record IsWalk (graph : List (List ℕ)) (start : ℕ) (reached : List ℕ) (next : ℕ) : Type 0 where
+pub record IsWalk (graph : List (List ℕ)) (starts reached : List ℕ) (next : ℕ) : Type 0 where
   pub within : next ≤ length reached
-  pub sound : (x : ℕ) → is_in x reached ≡ true → Reaches graph start x
-  pub first : (x : ℕ) → is_in x (led_to graph start) ≡ true → is_in x reached ≡ true
+  pub sound : (x : ℕ) → is_in x reached ≡ true → ReachesFrom graph starts x
+  pub first : (x : ℕ) → is_in x starts ≡ true → is_in x reached ≡ true
   pub closed : (y x : ℕ) → is_in y (take next reached) ≡ true → is_in x (led_to graph y) ≡ true → is_in x reached ≡ true
 
 pub among-take : (xs : List ℕ) (i : ℕ) (name : ℕ) → slice_get xs i ≡ Some name → is_in name xs ≡ true
@@ -109,20 +108,20 @@ among-more (x ∷ xs) (suc i) name y at there =
     let P : Bool → Type 0 = λ b. (b || is_in y (take (suc i) xs)) ≡ true → ((b || is_in y (take i xs)) ≡ true) ⊎ (y ≡ name) in
     (elim (y == x) as P [ true ↦ λ h. inl refl | false ↦ λ h. among-more xs i name y at h ]) there
 
-module _ (graph : List (List ℕ)) (start : ℕ) where
+module _ (graph : List (List ℕ)) (starts : List ℕ) where
   none-among : (x : ℕ) → is_in x [] ≡ true → ⊥
   none-among x h = cc
 
-  pub walk_starts : (reached : List ℕ) → reached ≡ with_numbers [] (led_to graph start) → IsWalk graph start reached 0
+  pub walk_starts : (reached : List ℕ) → reached ≡ with_numbers [] starts → IsWalk graph starts reached 0
   walk_starts reached made = rw made (record {
     within = omega arith;
-    sound = λ x h. elim (from_all x [] (led_to graph start) h) [ inl nothing ↦ absurd (none-among x nothing) | inr new ↦ at_once x new ];
-    first = λ x h. added_all x [] (led_to graph start) h;
+    sound = λ x h. elim (from_all x [] starts h) [ inl nothing ↦ absurd (none-among x nothing) | inr new ↦ at_once x new ];
+    first = λ x h. added_all x [] starts h;
     closed = λ y x nothing h. absurd (none-among y nothing);
   })
 
-  pub walk_goes : (reached more : List ℕ) (next : ℕ) (name : ℕ) → IsWalk graph start reached next → slice_get reached next ≡ Some name
-      → more ≡ with_numbers reached (led_to graph name) → next < length reached → IsWalk graph start more (next + 1)
+  pub walk_goes : (reached more : List ℕ) (next : ℕ) (name : ℕ) → IsWalk graph starts reached next → slice_get reached next ≡ Some name
+      → more ≡ with_numbers reached (led_to graph name) → next < length reached → IsWalk graph starts more (next + 1)
   walk_goes reached more next name walk at made inside =
       let (rest, is) = grows reached (led_to graph name) in
       let long : length (with_numbers reached (led_to graph name)) ≡ length reached + length rest = ap length is ∙ length-append reached rest in
@@ -143,17 +142,17 @@ module _ (graph : List (List ℕ)) (start : ℕ) where
             ];
       })
 
-  reached-all : (reached : List ℕ) (next : ℕ) → IsWalk graph start reached next → take next reached ≡ reached → (x : ℕ) → Reaches graph start x
+  reached-all : (reached : List ℕ) (next : ℕ) → IsWalk graph starts reached next → take next reached ≡ reached → (x : ℕ) → ReachesFrom graph starts x
       → is_in x reached ≡ true
   reached-all reached next walk whole _ (at_once x need) = walk.first x need
   reached-all reached next walk whole _ (further via x before need) =
       walk.closed via x (ap (is_in via) whole ∙ reached-all reached next walk whole via before) need
 
-  pub walk_tells : (reached : List ℕ) (next : ℕ) (result : Bool) → IsWalk graph start reached next → length reached ≤ next → result ≡ is_in start reached
-      → Decides result (Reaches graph start start)
-  walk_tells reached next result walk over told =
-      let whole : take next reached ≡ reached = take_all next reached over in
-      (λ h. walk.sound start (sym told ∙ h), λ reaches. told ∙ reached-all reached next walk whole start reaches)
+  pub walk_tells : (reached : List ℕ) (next : ℕ) → IsWalk graph starts reached next → length reached ≤ next → AreReached graph starts reached
+  walk_tells reached next walk over = record {
+    sound = walk.sound;
+    all = λ x reaches. reached-all reached next walk (take_all next reached over) x reaches;
+  }
 
 -- the places to which some place leads
 abbrev pub all_led : List (List ℕ) → List ℕ

@@ -27,7 +27,7 @@ flat_step f xs i x start now more at before added =
     added ∙ ap (λ bs. bs ++ f x) before ∙ append_assoc start (flat_map f (take i xs)) (f x)
     ∙ ap (λ bs. start ++ bs) (sym (flat_more f xs i x at)) ∙ ap (λ n. start ++ flat_map f (take n xs)) (sym (add-one i))
 
-flat_of_map : {A B C : Type 0} (f : B → List C) (g : A → B) (xs : List A) → flat_map f (map g xs) ≡ flat_map (λ x. f (g x)) xs
+pub flat_of_map : {A B C : Type 0} (f : B → List C) (g : A → B) (xs : List A) → flat_map f (map g xs) ≡ flat_map (λ x. f (g x)) xs
 flat_of_map f g [] = refl
 flat_of_map f g (x ∷ xs) = ap (λ cs. f (g x) ++ cs) (flat_of_map f g xs)
 

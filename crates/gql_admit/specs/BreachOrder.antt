@@ -27,7 +27,8 @@ kind_place kinds.DoubledArgument = 6
 kind_place kinds.Value = 7
 kind_place kinds.UnknownFragment = 8
 kind_place kinds.CircularFragment = 9
-kind_place kinds.Definition = 10
+kind_place kinds.Variable = 10
+kind_place kinds.Definition = 11
 
 -- texts by their bytes
 abbrev pub text_order : List ℕ → List ℕ → Ordering

@@ -86,3 +86,12 @@ default_text name = codes "Default of variable \"$" ++ (name ++ codes "\" does n
 
 unfoldable pub no_value_text : List ℕ → List ℕ
 no_value_text name = codes "Variable \"$" ++ (name ++ codes "\" has no fitting value.")
+
+-- a variable that an operation doesn't define, and one that doesn't fit its argument
+unfoldable pub undefined_text : List ℕ → List ℕ
+undefined_text name = codes "Variable \"$" ++ (name ++ codes "\" is not defined.")
+
+unfoldable pub misplaced_text : (name argument : List ℕ) → List ℕ
+misplaced_text name argument =
+    codes "Variable \"$"
+    ++ (name ++ (codes "\" does not fit argument \"" ++ (argument ++ codes "\".")))

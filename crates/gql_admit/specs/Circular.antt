@@ -29,11 +29,20 @@ with_numbers ns (k ∷ ks) = with_numbers (with_number ns k) ks
 abbrev pub led_to : List (List ℕ) → ℕ → List ℕ
 led_to graph place = slice_index_or graph place []
 
+-- a place is among those at which a walk starts, or one to which a reached place leads
+pub data ReachesFrom (graph : List (List ℕ)) (starts : List ℕ) : ℕ → Type 0 where
+  at_once : (to : ℕ) → is_in to starts ≡ true → ReachesFrom graph starts to
+  further : (via to : ℕ) → ReachesFrom graph starts via → is_in to (led_to graph via) ≡ true
+      → ReachesFrom graph starts to
+
 -- a place is reached from another, in one step or more
-pub data Reaches (graph : List (List ℕ)) (start : ℕ) : ℕ → Type 0 where
-  at_once : (to : ℕ) → is_in to (led_to graph start) ≡ true → Reaches graph start to
-  further : (via to : ℕ) → Reaches graph start via → is_in to (led_to graph via) ≡ true
-      → Reaches graph start to
+abbrev pub Reaches : List (List ℕ) → ℕ → ℕ → Type 0
+Reaches graph start to = ReachesFrom graph (led_to graph start) to
+
+-- exactly the places that are reached from some
+pub record AreReached (graph : List (List ℕ)) (starts reached : List ℕ) : Type 0 where
+  pub sound : (k : ℕ) → is_in k reached ≡ true → ReachesFrom graph starts k
+  pub all : (k : ℕ) → ReachesFrom graph starts k → is_in k reached ≡ true
 
 -- each place leads to places of the graph
 pub record AreWithin (graph : List (List ℕ)) : Type 0 where

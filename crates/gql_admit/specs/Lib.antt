@@ -8,6 +8,7 @@ pub mod Breaches
 pub mod BuiltIn
 pub mod Choice
 pub mod Circular
+pub mod Defined
 pub mod Definitions
 pub mod FieldTypeViews
 pub mod FieldTypes
@@ -16,11 +17,15 @@ pub mod Known
 pub mod Left
 pub mod Limits
 pub mod Literals
+pub mod PlaceViews
 pub mod Places
 pub mod Prepared
 pub mod Refusal
 pub mod RulesChecked
 pub mod Spreads
 pub mod Terms
+pub mod UsePlaces
+pub mod Uses
+pub mod Variables
 pub mod Walked
 pub mod Walking

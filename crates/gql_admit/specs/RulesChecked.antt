@@ -12,10 +12,11 @@ use Rattle.gql_admit.specs.Definitions.{told_of_variables}
 use Rattle.gql_admit.specs.Places.{Place, document_places}
 use Rattle.gql_admit.specs.Refusal.{refusal}
 use Rattle.gql_admit.specs.Terms.{Terms}
+use Rattle.gql_admit.specs.Uses.{IsWrongUse}
 use Rattle.gql_admit.specs.declared.breach.Breach.{Breach}
 
--- a rule that a document breaks: at one of its places, by a definition of a variable, or by a
--- fragment that reaches itself
+-- a rule that a document breaks: at one of its places, by a definition of a variable or by the use
+-- of one, or by a fragment that reaches itself
 pub data IsBreach (terms : Terms) (asked : Asked) (document : ExecutableDocument) (found : Breach)
     : Type 0 where
   at_place : (place : Place) → Contains (document_places terms document) place
@@ -23,6 +24,7 @@ pub data IsBreach (terms : Terms) (asked : Asked) (document : ExecutableDocument
       → IsBreach terms asked document found
   of_variable : Contains (told_of_variables terms asked document.operations) found
       → IsBreach terms asked document found
+  by_use : IsWrongUse terms document found → IsBreach terms asked document found
   circular : IsCircular document.fragments found → IsBreach terms asked document found
 
 -- the error of a breach: its text, at its place

@@ -24,6 +24,9 @@ pub enum BreachKind {
     UnknownFragment,
     /// A fragment reaches itself by spreads (section 5.5.2.2).
     CircularFragment,
+    /// A variable isn't defined by an operation that reaches it, or doesn't fit where it stands
+    /// (sections 5.8.3 and 5.8.5).
+    Variable,
     /// A variable is defined twice, has no input type, has a default that doesn't fit, or has no
     /// fitting value (sections 5.6.1, 5.8.1, 5.8.2 and 6.1.2).
     Definition,

@@ -31,7 +31,8 @@ fn kind_place(kind: BreachKind) -> u8
         BreachKind::Value => 7,
         BreachKind::UnknownFragment => 8,
         BreachKind::CircularFragment => 9,
-        BreachKind::Definition => 10,
+        BreachKind::Variable => 10,
+        BreachKind::Definition => 11,
     }
 }
 

@@ -2,11 +2,11 @@
 //! specification, the choice of its operation, and what `@skip` and `@include` leave of it
 //! (GraphQL, October 2021, sections 3.13, 5 and 6.1).
 //!
-//! Eleven of thirteen rules are checked: on the types of conditions, unknown fields, sets of leaves
+//! Twelve of thirteen rules are checked: on the types of conditions, unknown fields, sets of leaves
 //! and of other types, directives, arguments that are unknown, wanting or doubled, the literals
-//! that they are given, unknown fragments, fragments that reach themselves, and the definitions of
-//! variables with the values that a request gives them. Those on the use of variables, and on
-//! fields that conflict under one key, aren't yet.
+//! that they are given, unknown fragments, fragments that reach themselves, the definitions of
+//! variables with the values that a request gives them, and the uses of variables. The one on
+//! fields that conflict under one key isn't yet.
 #![tactic(auto)]
 
 mod argument_texts;
@@ -19,7 +19,9 @@ mod built_in;
 mod chosen;
 mod circular;
 mod conditions;
+mod constants;
 mod copied;
+mod defined;
 mod definition_fault;
 mod definition_texts;
 mod definitions;
@@ -28,6 +30,7 @@ mod directives;
 mod field_type;
 mod keeping;
 mod laws;
+mod listing;
 mod literals;
 mod operation;
 mod preparing;
@@ -35,8 +38,15 @@ mod reaching;
 mod refusals;
 mod rules;
 mod site;
+mod spread;
 mod spreads;
 mod telling;
+mod use_place;
+mod uses;
+mod value_place;
+mod variable_fits;
+mod variable_texts;
+mod variables;
 mod walk;
 mod walk_document;
 

@@ -15,6 +15,7 @@ use crate::circular::tell_circular;
 use crate::definitions::tell_variables;
 use crate::refusals::refuse;
 use crate::site::Site;
+use crate::uses::tell_wrong_uses;
 use crate::walk::Against;
 use crate::walk_document::walk_document;
 use gql_base::{Items, Made, ServerError, Variables};
@@ -25,8 +26,9 @@ use std::alloc::Global;
 /// it breaks, in the order of the document, each once (GraphQL, October 2021, section 5). Looked at
 /// are unknown fields, leaves with a set and other types without one, conditions on types that
 /// aren't composite, directives, arguments and the literals that they are given, unknown fragments,
-/// fragments that reach themselves, and the definitions of variables. Of the operation that this
-/// name asks for, or without a name the only one, the values of the variables are looked at.
+/// fragments that reach themselves, the definitions of variables, and their uses at the places that
+/// an operation reaches. Of the operation that this name asks for, or without a name the only one,
+/// the values of the variables are looked at.
 pub fn check_rules(
     alloc: Global,
     site: &Site<'_>,
@@ -79,6 +81,7 @@ fn breaches_of(
         name,
         &mut found,
     )?;
+    tell_wrong_uses(alloc, &doc.operations, &against, &mut found)?;
     tell_circular(alloc, &doc.fragments, &mut found)?;
     Ok(sorted_once(found))
 }

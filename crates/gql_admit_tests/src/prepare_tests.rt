@@ -62,7 +62,7 @@ const REQUESTS: [Asked; 12] = [
         "B: o{ a } , 3 levels",
     ),
     (
-        "query A($on: Boolean) { value @skip(if: $on) o { ...F } } \
+        "query A($on: Boolean!) { value @skip(if: $on) o { ...F } } \
         fragment F on A { a @include(if: $on) __typename @skip(if: $on) }",
         None,
         "A: o{ ...F } F: a , 3 levels",

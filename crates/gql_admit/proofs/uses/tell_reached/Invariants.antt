@@ -1,0 +1,12 @@
+use Rattle.std.proofs.Common.{◌≡◌, ◌++◌, map, take}
+use Rattle.std.specs.List.{flat_map}
+use Rattle.gql_admit.specs.PlaceViews.{shown}
+use Rattle.gql_admit.specs.Uses.{uses_told_in}
+use Rattle.gql_admit.specs.Walking.{terms_in}
+use Rattle.gql_admit.proofs.uses.tell_reached.Given as goal
+
+abbrev pub invariant-loop-at : goal.invariant-loop-at
+invariant-loop-at l =
+    l.found
+    ≡ l.initial.found
+    ++ flat_map (uses_told_in l.against.built.now (terms_in l.against) l.defined.definitions.now (map shown l.places)) (take l.at-index l.reached)
