@@ -1,0 +1,14 @@
+mod AskingLemmas
+mod BelowLemmas
+pub mod ClassLemmas
+pub mod EachLemmas
+mod FittingLemmas
+mod ListedLemmas
+mod MarkLemmas
+mod GroupLemmas
+mod OrderLemmas
+mod Rows
+mod SameFieldLemmas
+mod TestLemmas
+mod WalkLemmas
+mod WalkedLemmas

@@ -1,0 +1,146 @@
+-- What the exact walk tells, step by step.
+use Rattle.std.proofs.Common.{◌≡◌, ℕ, zero, suc, ◌+◌, ◌<◌, ◌≤◌, Bool, true, false, cond, List, [], ◌∷◌, ◌++◌, length, map, take, get_or, Some, None, Ok, Err, OnOk, slice_get, slice_set, refl, ap, sym, subst, ◌∙◌, append_assoc, append-nil, arith}
+use Rattle.std.proofs.lemmas.List.{take_all, take_more}
+use Rattle.std.specs.Prelude.{Result}
+use Rattle.std.specs.Borrow.{Bor}
+use Rattle.std.specs.List.{flat_map, zip}
+use Rattle.std.specs.Option.{option_map}
+use Rattle.std.specs.Str.{bytes_eq}
+use Rattle.gql_base.specs.Names.{AreDistinct, place_of}
+use Rattle.gql_base.specs.Pairs.{HasDistinctNames, names_of, under}
+use Rattle.gql_base.proofs.NamesLemmas.{place_front, place_here}
+use Rattle.gql_doc.specs.declared.document.Field.{Field}
+use Rattle.gql_doc.specs.declared.document.Positioned.{Positioned}
+use Rattle.gql_select.specs.Alike.{alike, name_of}
+use Rattle.gql_select.specs.Collected.{Setting, collect_within, own_selections}
+use Rattle.gql_select.specs.Conflicts.{first_differing}
+use Rattle.gql_select.specs.Documents.{both, reading}
+use Rattle.gql_select.proofs.DocumentLemmas.{is_reading, name_of_both, set_of_both}
+use Rattle.gql_conflicts.specs.Classes.{key_at}
+use Rattle.gql_conflicts.specs.Collecting.{all_behind, setting_by}
+use Rattle.gql_conflicts.specs.DocumentConflicts.{told}
+use Rattle.gql_conflicts.specs.Groups.{AreGroups, Grown, fields_tell, groups_tell, told_of, united, with_others}
+use Rattle.gql_conflicts.specs.Walk.{among_tells, beneath_tells, collected, objects_at, set_tells}
+use Rattle.gql_conflicts.specs.declared.conflict.Conflict.{Conflict}
+use Rattle.gql_conflicts.specs.declared.group.Group.{Group}
+use Rattle.gql_conflicts.specs.declared.reader.Reader.{Reader}
+use Rattle.gql_conflicts.proofs.EachLemmas.{none_of_any}
+use Rattle.gql_conflicts.proofs.GroupLemmas.{behind_append, groups_found, names_long, with_one_more}
+
+module _ {A B : Type 0} (f : A → List B) where
+  -- what one more of some gives
+  pub flat_more : (xs : List A) (i : ℕ) (x : A) → slice_get xs i ≡ Some x → flat_map f (take (suc i) xs) ≡ flat_map f (take i xs) ++ f x
+  flat_more [] i x at = cc
+  flat_more (y ∷ ys) zero x at =
+      let same : y ≡ x = cc in
+      append-nil (f y) ∙ ap f same
+  flat_more (y ∷ ys) (suc i) x at = ap (λ bs. f y ++ bs) (flat_more ys i x at) ∙ sym (append_assoc (f y) (flat_map f (take i ys)) (f x))
+
+name_of_others : (f : Positioned Field) (gs : List (Positioned Field)) → name_of (with_others f gs) ≡ name_of f
+name_of_others f [] = refl
+name_of_others f (g ∷ gs) = name_of_others (both f g) gs ∙ name_of_both f g
+
+-- a group is named as its first occurrence
+pub name_of_united : (group : Group) → name_of (united group) ≡ name_of group.first.now
+name_of_united group = name_of_others group.first.now (all_behind group.more.items)
+
+-- the fields in the set of a united field are those in the one, and then those in the other
+collected_both : (reader : Reader) (object : List ℕ) (f g : Positioned Field)
+    → collected reader object (own_selections (both f g)) ≡ collected reader object (own_selections f) ++ collected reader object (own_selections g)
+collected_both reader object f g =
+    ap (collected reader object) (set_of_both f g)
+    ∙ (is_reading (setting_by reader)).fields_of_both object (own_selections f) (own_selections g)
+
+-- one more behind references
+pub behind_more : {X : Type 0} (xs : List (Bor X)) (i : ℕ) (x : Bor X) → i < length xs → x ≡ get_or xs i x
+    → all_behind (take (i + 1) xs) ≡ all_behind (take i xs) ++ x.now ∷ []
+behind_more xs i x within read =
+    ap all_behind (take_more xs i x within ∙ ap (λ o. take i xs ++ o ∷ []) (sym read)) ∙ behind_append (take i xs) (x ∷ [])
+
+-- the sets of one more occurrence are looked at
+pub beneath_more : (reader : Reader) (object : List ℕ) (first : Positioned Field) (more : List (Bor (Positioned Field))) (i : ℕ) (occurrence : Bor (Positioned Field))
+    (old new : List (Positioned Field)) → i < length more → occurrence ≡ get_or more i occurrence
+    → old ≡ collected reader object (own_selections (with_others first (all_behind (take i more))))
+    → new ≡ old ++ collected reader object (own_selections occurrence.now)
+    → new ≡ collected reader object (own_selections (with_others first (all_behind (take (i + 1) more))))
+beneath_more reader object first more i occurrence old new within read before added =
+    let front = all_behind (take i more) in
+    let next : all_behind (take (i + 1) more) ≡ front ++ occurrence.now ∷ [] = behind_more more i occurrence within read in
+    added
+    ∙ ap (λ fs. fs ++ collected reader object (own_selections occurrence.now)) before
+    ∙ sym (collected_both reader object (with_others first front) occurrence.now)
+    ∙ ap (λ f. collected reader object (own_selections f)) (sym (with_one_more first front occurrence.now))
+    ∙ ap (λ fs. collected reader object (own_selections (with_others first fs))) (sym next)
+
+no_place : {T : Type 0} (name : List ℕ) (ps : List (List ℕ × T)) → under name ps ≡ None → place_of name (names_of ps) ≡ None
+no_place name [] none = refl
+no_place name (p ∷ ps) none =
+    let P : Bool → Type 0 = λ b. cond b (Some p.1) (under name ps) ≡ None
+    → cond b (Some 0) (option_map (λ m. suc m) (place_of name (names_of ps))) ≡ None in
+    (elim (bytes_eq name p.0) as P [ true ↦ λ h. cc | false ↦ λ h. ap (option_map (λ m. suc m)) (no_place name ps h) ]) none
+
+names_differ : {T : Type 0} (ps : List (List ℕ × T)) → HasDistinctNames ps → AreDistinct (names_of ps)
+names_differ [] distinct = tt
+names_differ (p ∷ ps) distinct = (no_place p.0 ps distinct.0, names_differ ps distinct.1)
+
+module _ (setting : Setting) (fields : List (Positioned Field)) (beneath : Positioned Field → List Conflict) where
+  each_tells : (names : List (List ℕ)) (groups : List Group) → length groups ≡ length names
+      → ((i : ℕ) (key : List ℕ) (group : Group) → slice_get names i ≡ Some key → slice_get groups i ≡ Some group
+      → told_of group.unlike ≡ first_differing (reading setting) told (key, united group) fields)
+      → groups_tell beneath groups ≡ flat_map (λ m. first_differing (reading setting) told m fields ++ beneath m.1) (zip names (map united groups))
+  each_tells [] [] paired each = refl
+  each_tells [] (group ∷ groups) paired each = absurd (omega (arith, paired))
+  each_tells (name ∷ names) [] paired each = absurd (omega (arith, paired))
+  each_tells (name ∷ names) (group ∷ groups) paired each =
+      let rest = each_tells names groups (omega (arith, paired)) (λ i key other at there. each (suc i) key other at there) in
+      λ i. (each 0 name group refl refl i ++ beneath (united group)) ++ rest i
+
+  -- the groups of fields tell what the fields tell
+  pub groups_told : (keys : List (List ℕ × Unit {0})) (groups : List Group) → HasDistinctNames keys → AreGroups setting keys groups fields
+      → groups_tell beneath groups ≡ fields_tell setting beneath fields
+  groups_told keys groups distinct are =
+      each_tells (names_of keys) groups (are.paired ∙ sym (names_long keys))
+      (λ i key group at there.
+      are.unlike_is key i group (place_here key (names_of keys) i (place_front (names_of keys) i key (names_differ keys distinct) at) at) there)
+      ∙ ap (flat_map (λ m. first_differing (reading setting) told m fields ++ beneath m.1)) are.united_are
+
+-- another occurrence joins the group of its key
+pub grown_found : {X E : Type 0} (r : Result X E) (keys : List (List ℕ × Unit {0})) (groups : List Group) (field : Bor (Positioned Field)) (p : ℕ) (old new : Group)
+    → place_of (key_at field.now) (names_of keys) ≡ Some p → slice_get groups p ≡ Some old → OnOk r (Grown (alike old.first.now field.now) field old new)
+    → OnOk r ((setting : Setting) (before : List (Positioned Field)) → AreGroups setting keys groups before
+    → AreGroups setting keys (slice_set groups p new) (before ++ field.now ∷ []))
+grown_found (Ok x) keys groups field p old new found stands grown =
+    λ setting before are. groups_found setting keys groups before are field p old new (alike old.first.now field.now) found stands refl grown
+grown_found (Err e) keys groups field p old new found stands grown = tt
+
+-- a setting without anything, for what holds of any
+pub bare : Setting
+bare = record { fragments = []; levels = 0; covers = λ condition object. false; beneath = λ object name. [] }
+
+-- one more occurrence without a set
+pub none_more : (first : Positioned Field) (more : List (Bor (Positioned Field))) (i : ℕ) (occurrence : Bor (Positioned Field)) → i < length more → occurrence ≡ get_or more i occurrence
+    → own_selections (with_others first (all_behind (take i more))) ≡ [] → own_selections occurrence.now ≡ []
+    → own_selections (with_others first (all_behind (take (i + 1) more))) ≡ []
+none_more first more i occurrence within read before this =
+    let front = all_behind (take i more) in
+    ap (λ fs. own_selections (with_others first fs)) (behind_more more i occurrence within read)
+    ∙ ap own_selections (with_one_more first front occurrence.now) ∙ set_of_both (with_others first front) occurrence.now
+    ∙ (λ j. before j ++ this j)
+
+pub none_passed : (first : Positioned Field) (more : List (Bor (Positioned Field))) (i : ℕ) → own_selections (with_others first (all_behind (take i more))) ≡ [] → length more ≤ i
+    → own_selections (with_others first (all_behind more)) ≡ []
+none_passed first more i before over = subst (λ xs. own_selections (with_others first (all_behind xs)) ≡ []) (take_all i more over) before
+
+none_collected : (setting : Setting) (left : ℕ) (object : List ℕ) → collect_within setting left object [] ≡ []
+none_collected setting zero object = refl
+none_collected setting (suc left) object = refl
+
+none_told : (reader : Reader) (left : ℕ) (object : List ℕ) → set_tells reader left [] object ≡ []
+none_told reader zero object = refl
+none_told reader (suc left) object = ap (among_tells reader left object) (none_collected (setting_by reader) reader.levels object)
+
+-- beneath a field without a set is nothing
+pub nothing_beneath : (reader : Reader) (left : ℕ) (object : List ℕ) (field : Positioned Field) → own_selections field ≡ [] → beneath_tells reader left object field ≡ []
+nothing_beneath reader left object field none =
+    none_of_any (set_tells reader left (own_selections field))
+    (λ inner. ap (λ selections. set_tells reader left selections inner) none ∙ none_told reader left inner) (objects_at reader object field)

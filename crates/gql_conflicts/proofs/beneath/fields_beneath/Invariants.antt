@@ -1,0 +1,11 @@
+use Rattle.std.proofs.Common.{◌≡◌, take}
+use Rattle.gql_select.specs.Collected.{own_selections}
+use Rattle.gql_conflicts.specs.Collecting.{all_behind}
+use Rattle.gql_conflicts.specs.Groups.{with_others}
+use Rattle.gql_conflicts.specs.Walk.{collected}
+use Rattle.gql_conflicts.proofs.beneath.fields_beneath.Given as goal
+
+abbrev pub invariant-loop-occurrence : goal.invariant-loop-occurrence
+invariant-loop-occurrence l =
+    all_behind l.fields.items
+    ≡ collected l.reader l.object (own_selections (with_others l.group.first.now (all_behind (take l.occurrence-index l.group.more.items))))

@@ -1,0 +1,10 @@
+use Rattle.std.proofs.Common.{◌≡◌, ◌-◌, suc, arith}
+use Rattle.gql_conflicts.specs.Collecting.{all_behind}
+use Rattle.gql_conflicts.proofs.WalkedLemmas.{walks_set}
+use Rattle.gql_conflicts.proofs.walk.add_in_set.Goals as goal
+
+pub returns : goal.returns
+returns c =
+    let one : c.args.left ≡ suc (c.args.left - 1) = omega (arith, c.if-left-eq0.false) in
+    walks_set c.args.reader.now c.add_among.result c.args.left (c.args.left - 1) c.args.selections.now c.args.object.now
+    (all_behind c.in_ok-fields.fields.items) c.args.walked.now c.add_among.new.walked one c.in_ok-fields.ensures c.add_among.ensures

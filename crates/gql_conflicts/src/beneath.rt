@@ -1,0 +1,115 @@
+//! What stands beneath a field: the objects that are possible there, and the fields of each in the
+//! sets of all occurrences of the field's key.
+ghost use Rattle.std.specs.Prelude.{◌≡◌, [], ◌++◌, IfOk, IsTrue, OnOk};
+ghost use Rattle.gql_select.specs.Collected.{own_selections};
+ghost use Rattle.gql_conflicts.specs.Collecting.{all_behind};
+ghost use Rattle.gql_conflicts.specs.Groups.{united};
+ghost use Rattle.gql_conflicts.specs.Rooted.{is_entities, objects_beneath, rooted_of};
+ghost use Rattle.gql_conflicts.specs.Walk.{collected};
+
+use crate::collecting::add_fields;
+use crate::group::Group;
+use crate::reader::Reader;
+use crate::rooted_types::RootedTypes;
+use gql_base::Made;
+use gql_doc::{Field, Positioned, Selection};
+use gql_schema::NameSet;
+use std::alloc::Global;
+
+/// The objects that are possible beneath the field of a name on an object.
+pub(crate) fn objects_beneath(
+    alloc: Global,
+    rooted: &RootedTypes<'_>,
+    object: &str,
+    name: &str,
+) -> Made<NameSet>
+    ensures { IfOk result (λ objects. objects
+        ≡ objects_beneath (rooted_of rooted.now) object.now name.now) }
+{
+    if is_entities(rooted, object, name) {
+        return rooted.types.possible(alloc, "_Entity");
+    }
+    match rooted.types.field(object, name) {
+        None => Ok(NameSet::new(alloc)),
+        Some(declared) => rooted.types.possible(alloc, declared.ty.type_name()),
+    }
+}
+
+/// True exactly where it is the field `_entities` of the query root, and entities are on.
+fn is_entities(rooted: &RootedTypes<'_>, object: &str, name: &str) -> bool
+    ensures { result ≡ is_entities (rooted_of rooted.now) object.now name.now }
+{
+    rooted.entities && (name == "_entities" && object == rooted.query)
+}
+
+/// The fields of an object in selections.
+pub(crate) fn fields_in<'a>(
+    alloc: Global,
+    reader: &Reader<'a>,
+    object: &str,
+    selections: &'a [Positioned<Selection>],
+) -> Made<Vec<&'a Positioned<Field>>>
+    ensures { IfOk result (λ fields. all_behind fields.items
+        ≡ collected reader.entry.now object.now selections.entry.now) }
+{
+    let mut fields = Vec::new(alloc);
+    add_fields(reader, reader.levels, object, selections, &mut fields)?;
+    Ok(fields)
+}
+
+/// The fields of an object in the sets of all occurrences of a group.
+#[tactic(auto, using(crate::proofs::WalkLemmas::beneath_more))]
+pub(crate) fn fields_beneath<'a>(
+    alloc: Global,
+    reader: &Reader<'a>,
+    object: &str,
+    group: &Group<'a>,
+) -> Made<Vec<&'a Positioned<Field>>>
+    ensures { IfOk result (λ fields. all_behind fields.items
+        ≡ collected reader.entry.now object.now (own_selections (united group.entry.now))) }
+{
+    let first = group.first;
+    let selections = first.node.selection_set.node.items.as_slice();
+    let mut fields = fields_in(alloc, reader, object, selections)?;
+    for occurrence in group.more.as_slice() {
+        add_occurrence_fields(reader, object, occurrence, &mut fields)?;
+    }
+    Ok(fields)
+}
+
+/// Adds the fields of an object in the set of an occurrence.
+fn add_occurrence_fields<'a>(
+    reader: &Reader<'a>,
+    object: &str,
+    occurrence: &'a Positioned<Field>,
+    fields: &mut Vec<&'a Positioned<Field>>,
+) -> Made<()>
+    ensures { OnOk result (all_behind fields.new.items ≡ all_behind fields.old.items
+        ++ collected reader.entry.now object.now (own_selections occurrence.entry.now)) }
+{
+    let selections = occurrence.node.selection_set.node.items.as_slice();
+    add_fields(reader, reader.levels, object, selections, fields)
+}
+
+/// True only where no occurrence of a group has a set.
+#[tactic(auto, using(crate::proofs::WalkLemmas::none_more, crate::proofs::WalkLemmas::none_passed))]
+pub(crate) fn has_no_set(group: &Group<'_>) -> bool
+    ensures { IsTrue result → own_selections (united group.now) ≡ [] }
+{
+    if !is_leaf(group.first) {
+        return false;
+    }
+    for occurrence in group.more.as_slice() {
+        if !is_leaf(occurrence) {
+            return false;
+        }
+    }
+    true
+}
+
+/// True only where a field has no set.
+fn is_leaf(field: &Positioned<Field>) -> bool
+    ensures { IsTrue result → own_selections field.now ≡ [] }
+{
+    field.node.selection_set.node.items.is_empty()
+}

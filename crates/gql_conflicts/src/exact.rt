@@ -1,0 +1,127 @@
+//! All conflicts of a document.
+ghost use Rattle.std.specs.Prelude.{◌≡◌, ◌↔◌, [], IfOk, OnOk};
+ghost use Rattle.std.specs.List.{Contains, flat_map};
+ghost use Rattle.gql_base.specs.Pairs.{values_of};
+ghost use Rattle.gql_doc.specs.Depth.{operations_in};
+ghost use Rattle.gql_conflicts.specs.ConflictOrder.{Lists};
+ghost use Rattle.gql_conflicts.specs.DocumentConflicts.{IsConflict};
+ghost use Rattle.gql_conflicts.specs.Rooted.{rooted_of};
+ghost use Rattle.gql_conflicts.specs.Walk.{operation_tells};
+ghost use Rattle.gql_conflicts.specs.Walked.{Walks};
+ghost use Rattle.gql_conflicts.specs.declared.conflict.Conflict.{Conflict as Told};
+
+use crate::coarse::is_clear;
+use crate::conflict::Conflict;
+use crate::conflict_order::sorted_once;
+use crate::reader::Reader;
+use crate::rooted_types::RootedTypes;
+use crate::roots::root_of;
+use crate::seen::Seen;
+use crate::walk::add_in_set;
+use crate::walked::Walked;
+use gql_base::{Items, Made, Pairs};
+use gql_doc::{DocumentOperations, ExecutableDocument, OperationDefinition, Positioned};
+use std::alloc::Global;
+
+/// The conflicts of a document whose sets nest within so many levels, by place and then by key,
+/// each once. A document that the coarse test clears is not walked through.
+pub fn conflicts_in(
+    alloc: Global,
+    rooted: &RootedTypes<'_>,
+    doc: &ExecutableDocument,
+    levels: usize,
+) -> Made<Items<Conflict>>
+    ensures { IfOk result (Lists (IsConflict (rooted_of rooted.now) doc.now levels)) }
+{
+    if is_clear(alloc, doc)? {
+        return Ok(Items::new(alloc));
+    }
+    let found = walk_document(alloc, rooted, doc, levels)?;
+    Ok(sorted_once(found))
+}
+
+/// What the walk through all operations finds.
+fn walk_document<'a>(
+    alloc: Global,
+    rooted: &'a RootedTypes<'a>,
+    doc: &'a ExecutableDocument,
+    levels: usize,
+) -> Made<Items<Conflict>>
+    ensures { IfOk result (λ found. (conflict : Told) → Contains found conflict
+        ↔ IsConflict (rooted_of rooted.entry.now) doc.entry.now levels conflict) }
+{
+    let fragments = &doc.fragments;
+    let reader = Reader {
+        rooted,
+        fragments,
+        levels,
+    };
+    let mut walked = nothing_walked(alloc);
+    add_operations(alloc, &reader, &doc.operations, &mut walked)?;
+    let Walked { found, seen } = walked;
+    drop(seen);
+    Ok(found)
+}
+
+/// A walk that has told nothing and been through nothing.
+fn nothing_walked<'a>(alloc: Global) -> Walked<'a>
+    ensures found { result.found ≡ [] }
+    ensures seen { result.seen.visits.items ≡ [] }
+{
+    let found = Items::new(alloc);
+    let seen = Seen::new(alloc);
+    Walked { found, seen }
+}
+
+/// Tells the conflicts of all operations.
+fn add_operations<'a>(
+    alloc: Global,
+    reader: &Reader<'a>,
+    operations: &'a DocumentOperations,
+    walked: &mut Walked<'a>,
+) -> Made<()>
+    ensures { OnOk result (Walks reader.entry.now
+        (flat_map (operation_tells reader.entry.now) (operations_in operations.entry.now))
+        walked.old walked.new) }
+{
+    match operations {
+        DocumentOperations::Single(operation) => add_operation(alloc, reader, operation, walked),
+        DocumentOperations::Multiple(operations) => add_several(alloc, reader, operations, walked),
+    }
+}
+
+fn add_several<'a>(
+    alloc: Global,
+    reader: &Reader<'a>,
+    operations: &'a Pairs<Positioned<OperationDefinition>>,
+    walked: &mut Walked<'a>,
+) -> Made<()>
+    ensures { OnOk result (Walks reader.entry.now
+        (flat_map (operation_tells reader.entry.now) (values_of operations.entry.now))
+        walked.old walked.new) }
+{
+    for place in 0..operations.len() {
+        let (_, operation) = operations.at(place);
+        add_operation(alloc, reader, operation, walked)?;
+    }
+    Ok(())
+}
+
+/// Tells the conflicts of an operation, where it has a root.
+fn add_operation<'a>(
+    alloc: Global,
+    reader: &Reader<'a>,
+    operation: &'a Positioned<OperationDefinition>,
+    walked: &mut Walked<'a>,
+) -> Made<()>
+    ensures { OnOk result (Walks reader.entry.now
+        (operation_tells reader.entry.now operation.entry.now) walked.old walked.new) }
+{
+    match root_of(reader.rooted, operation.node.ty) {
+        None => Ok(()),
+        Some(root) => {
+            let selections = operation.node.selection_set.node.items.as_slice();
+            add_in_set(alloc, reader, reader.levels, root, selections, walked)
+        }
+    }
+}

@@ -1,0 +1,9 @@
+use gql_doc::{Field, Positioned};
+
+/// The occurrences of one key that ask what the first one asks, and the first that doesn't, if any.
+#[derive(Drop)]
+pub(crate) struct Group<'a> {
+    pub first: &'a Positioned<Field>,
+    pub more: Vec<&'a Positioned<Field>>,
+    pub unlike: Option<&'a Positioned<Field>>,
+}

@@ -1,0 +1,74 @@
+//! Occurrences of fields in groups, one for each key.
+ghost use Rattle.std.specs.Prelude.{◌≡◌, [], ◌∷◌, ◌++◌, List, IfOk, OnOk, length};
+ghost use Rattle.gql_doc.specs.declared.document.Field.{Field as Asked};
+ghost use Rattle.gql_doc.specs.declared.document.Positioned.{Positioned as Placed};
+ghost use Rattle.gql_select.specs.Alike.{alike};
+ghost use Rattle.gql_select.specs.Collected.{Setting};
+ghost use Rattle.gql_conflicts.specs.Collecting.{all_behind};
+ghost use Rattle.gql_conflicts.specs.Groups.{AreGroups, Grown, fields_tell, groups_tell};
+ghost use Rattle.gql_conflicts.specs.declared.conflict.Conflict.{Conflict as Told};
+
+use crate::alike::alike;
+use crate::group::Group;
+use gql_base::{Made, Name, Pairs};
+use gql_doc::{Field, Positioned};
+use std::alloc::Global;
+
+/// The groups of fields of one object. They tell what the fields tell.
+pub(crate) fn group_fields<'a>(
+    alloc: Global,
+    fields: &[&'a Positioned<Field>],
+) -> Made<Vec<Group<'a>>>
+    ensures { (setting : Setting) (beneath : Placed Asked → List Told) → IfOk result (λ groups.
+        groups_tell beneath groups.items ≡ fields_tell setting beneath (all_behind fields.entry.now)) }
+{
+    let mut keys = Pairs::new(alloc);
+    let mut groups = Vec::new(alloc);
+    for field in fields {
+        add_occurrence(alloc, &mut keys, &mut groups, field)?;
+    }
+    let _distinct = keys.len();
+    Ok(groups)
+}
+
+/// Adds an occurrence to the group of its key, or as a group of its own behind the others.
+fn add_occurrence<'a>(
+    alloc: Global,
+    keys: &mut Pairs<()>,
+    groups: &mut Vec<Group<'a>>,
+    field: &'a Positioned<Field>,
+) -> Made<()>
+    requires { length groups.old.items ≡ length keys.old }
+    ensures { OnOk result ((setting : Setting) (before : List (Placed Asked))
+        → AreGroups setting keys.old groups.old.items before
+        → AreGroups setting keys.new groups.new.items (before ++ field.entry.now ∷ [])) }
+{
+    let key = field.node.response_key().node.as_str();
+    match keys.place_of(key) {
+        Some(place) => add_to(alloc, &mut groups[place], field),
+        None => {
+            keys.add_fresh(Name::new(alloc, key)?, ())?;
+            groups.push(Group {
+                first: field,
+                more: Vec::new(alloc),
+                unlike: None,
+            })?;
+            Ok(())
+        }
+    }
+}
+
+/// Adds an occurrence to a group: to those that ask the same, or as the first that doesn't.
+fn add_to<'a>(alloc: Global, group: &mut Group<'a>, field: &'a Positioned<Field>) -> Made<()>
+    ensures { OnOk result (Grown (alike group.old.first.now field.entry.now) field.entry group.old
+        group.new) }
+{
+    if alike(alloc, group.first, field)? {
+        group.more.push(field)?;
+        return Ok(());
+    }
+    if group.unlike.is_none() {
+        group.unlike = Some(field);
+    }
+    Ok(())
+}

@@ -1,0 +1,38 @@
+//! Conflicts between fields of one key (GraphQL, October 2021, section 5.3.2): which fields of a
+//! document can't be merged, on which of a table's objects whatever.
+//!
+//! Fields are looked at on each object that is possible where they stand, in sets that are merged
+//! with the sets of equal keys. A coarse test clears nearly every document without a conflict in
+//! near-linear time: it merges by keys whatever the conditions on types are.
+#![tactic(auto)]
+
+mod alike;
+mod beneath;
+mod coarse;
+mod collecting;
+mod conflict;
+mod conflict_order;
+mod entry;
+mod exact;
+mod fitting;
+mod group;
+mod grouping;
+mod heads;
+mod marks;
+mod proposal;
+mod proposing;
+mod reader;
+mod rooted_types;
+mod roots;
+mod same_field;
+mod same_written;
+mod seen;
+mod survey;
+mod visit;
+mod walk;
+mod walked;
+
+pub use coarse::is_clear;
+pub use conflict::Conflict;
+pub use exact::conflicts_in;
+pub use rooted_types::RootedTypes;

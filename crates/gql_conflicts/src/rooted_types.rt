@@ -1,0 +1,15 @@
+use gql_schema::Types;
+
+/// A table of types with the names of its roots.
+#[derive(Clone, Copy, Debug)]
+pub struct RootedTypes<'a> {
+    pub types: &'a Types,
+    /// The name of the query root.
+    pub query: &'a str,
+    /// The name of the mutation root, where there is one.
+    pub mutation: Option<&'a str>,
+    /// The name of the subscription root, where there is one.
+    pub subscription: Option<&'a str>,
+    /// Whether the query root has the field `_entities`.
+    pub entities: bool,
+}

@@ -1,0 +1,8 @@
+//! The tests of `gql_conflicts`, in a crate of their own, so that they are proved without proving
+//! that crate again.
+#![tactic(auto)]
+
+#[cfg(test)]
+mod clear_tests;
+#[cfg(test)]
+mod walk_tests;
