@@ -8,11 +8,12 @@ use Rattle.gql_doc.specs.declared.document.ExecutableDocument.{ExecutableDocumen
 use Rattle.gql_admit.specs.Asked.{Asked}
 use Rattle.gql_admit.specs.Breaches.{told, told_at}
 use Rattle.gql_admit.specs.Circular.{Adds, IsCircular}
+use Rattle.gql_admit.specs.Conflicting.{IsConflicting}
 use Rattle.gql_admit.specs.BreachOrder.{Lists}
 use Rattle.gql_admit.specs.BuiltIn.{built_in}
 use Rattle.gql_admit.specs.Definitions.{told_of_variables}
 use Rattle.gql_admit.specs.Places.{Place, document_places}
-use Rattle.gql_admit.specs.RulesChecked.{IsBreach, at_place, by_use, circular, error_of, of_variable, refused_with}
+use Rattle.gql_admit.specs.RulesChecked.{IsBreach, at_place, by_use, circular, conflicting, error_of, of_variable, refused_with}
 use Rattle.gql_admit.specs.Terms.{Terms}
 use Rattle.gql_admit.specs.Uses.{WrongUseIn}
 use Rattle.gql_admit.specs.Walking.{tells, terms_in}
@@ -57,24 +58,27 @@ module _ {A B : Type 0} (f : A → List B) where
         | inr behind ↦ Contains-append_right (f y) (flat_map f xs) b (given_at xs x b behind gives)
       ]
 
--- what is told of all places, of definitions of variables and of circular fragments, listed
-pub all_listed : (against : Against) (asked : Asked) (document : ExecutableDocument) (told_first told_second used found list : List Breach)
+-- what is told of all places, of definitions and uses of variables, of circular fragments and of conflicts, listed
+pub all_listed : (against : Against) (asked : Asked) (document : ExecutableDocument) (told_first told_second used circled found list : List Breach)
     → Lists (Contains found) list → told_first ≡ [] ++ tells against (document_places (terms_in against) document)
     → told_second ≡ told_first ++ told_of_variables (terms_in against) asked document.operations
     → against.fragments.now ≡ document.fragments → against.built.now ≡ built_in → Adds (WrongUseIn (terms_in against) against.fragments.now (operations_in document.operations)) told_second used
-    → Adds (IsCircular document.fragments) used found
+    → Adds (IsCircular document.fragments) used circled → Adds (IsConflicting (terms_in against) document) circled found
     → Lists (IsBreach (terms_in against) asked document) list
-all_listed against asked document told_first told_second used found list lists is then fragments built uses adds =
+all_listed against asked document told_first told_second used circled found list lists is then fragments built uses circles adds =
     record {
       in_order = lists.in_order;
       exact = λ e. (
         λ h.
             elim (adds.only e ((lists.exact e).0 h)) [
-              | inl at ↦ elim (uses.only e at) [
-                | inl told ↦ among_told e told
-                | inr wrong ↦ by_use (subst (λ fs. WrongUseIn (terms_in against) fs (operations_in document.operations) e) fragments wrong)
+              | inl at ↦ elim (circles.only e at) [
+                | inl earlier ↦ elim (uses.only e earlier) [
+                  | inl told ↦ among_told e told
+                  | inr wrong ↦ by_use (subst (λ fs. WrongUseIn (terms_in against) fs (operations_in document.operations) e) fragments wrong)
+                ]
+                | inr is_circular ↦ circular is_circular
               ]
-              | inr is_circular ↦ circular is_circular
+              | inr conflict ↦ conflicting conflict
             ],
         λ breach. (lists.exact e).1 (among e breach),
       );
@@ -103,15 +107,16 @@ all_listed against asked document told_first told_second used found list lists i
 
     among : (e : Breach) → IsBreach terms asked document e → Contains found e
     among e (at_place place stands breaks) =
-        adds.kept e (uses.kept e
+        adds.kept e (circles.kept e (uses.kept e
         (subst (λ xs. Contains xs e) (sym then)
         (Contains-append_left told_first variables e
-        (subst (λ xs. Contains xs e) (sym first) (given_at (told_at built_in terms document.fragments) places place e stands breaks)))))
+        (subst (λ xs. Contains xs e) (sym first) (given_at (told_at built_in terms document.fragments) places place e stands breaks))))))
     among e (of_variable breaks) =
-        adds.kept e (uses.kept e (subst (λ xs. Contains xs e) (sym then) (Contains-append_right told_first variables e breaks)))
+        adds.kept e (circles.kept e (uses.kept e (subst (λ xs. Contains xs e) (sym then) (Contains-append_right told_first variables e breaks))))
     among e (by_use wrong) =
-        adds.kept e (uses.has e (subst (λ fs. WrongUseIn terms fs (operations_in document.operations) e) (sym fragments) wrong))
-    among e (circular is_circular) = adds.has e is_circular
+        adds.kept e (circles.kept e (uses.has e (subst (λ fs. WrongUseIn terms fs (operations_in document.operations) e) (sym fragments) wrong)))
+    among e (circular is_circular) = adds.kept e (circles.has e is_circular)
+    among e (conflicting conflict) = adds.has e conflict
 
 -- a list that isn't empty is refused with the errors of all
 pub some_refused : (breaches : List Breach) (errors : List ServerError) → errors ≡ map error_of breaches → 0 < length breaches

@@ -5,6 +5,7 @@ pub mod ArgumentLemmas
 pub mod BreachLemmas
 pub mod ChoiceLemmas
 pub mod CircularLemmas
+pub mod ConflictingLemmas
 pub mod ConstantLemmas
 pub mod CrowdedLemmas
 pub mod DefinedLemmas

@@ -51,7 +51,8 @@ kind_at (suc (suc (suc (suc (suc (suc (suc zero))))))) = kinds.Value
 kind_at (suc (suc (suc (suc (suc (suc (suc (suc zero)))))))) = kinds.UnknownFragment
 kind_at (suc (suc (suc (suc (suc (suc (suc (suc (suc zero))))))))) = kinds.CircularFragment
 kind_at (suc (suc (suc (suc (suc (suc (suc (suc (suc (suc zero)))))))))) = kinds.Variable
-kind_at (suc (suc (suc (suc (suc (suc (suc (suc (suc (suc (suc k))))))))))) = kinds.Definition
+kind_at (suc (suc (suc (suc (suc (suc (suc (suc (suc (suc (suc zero))))))))))) = kinds.Definition
+kind_at (suc (suc (suc (suc (suc (suc (suc (suc (suc (suc (suc (suc k)))))))))))) = kinds.Conflict
 
 kind_back : (kind : BreachKind) → kind_at (kind_place kind) ≡ kind
 kind_back kinds.Condition = refl
@@ -66,6 +67,7 @@ kind_back kinds.UnknownFragment = refl
 kind_back kinds.CircularFragment = refl
 kind_back kinds.Variable = refl
 kind_back kinds.Definition = refl
+kind_back kinds.Conflict = refl
 
 kind_ties : (one other : BreachKind) → kind_place one ≡ kind_place other → one ≡ other
 kind_ties one other same = sym (kind_back one) ∙ ap kind_at same ∙ kind_back other

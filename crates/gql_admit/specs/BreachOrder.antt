@@ -29,6 +29,7 @@ kind_place kinds.UnknownFragment = 8
 kind_place kinds.CircularFragment = 9
 kind_place kinds.Variable = 10
 kind_place kinds.Definition = 11
+kind_place kinds.Conflict = 12
 
 -- texts by their bytes
 abbrev pub text_order : List ℕ → List ℕ → Ordering

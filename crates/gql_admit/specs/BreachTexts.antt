@@ -95,3 +95,7 @@ unfoldable pub misplaced_text : (name argument : List ℕ) → List ℕ
 misplaced_text name argument =
     codes "Variable \"$"
     ++ (name ++ (codes "\" does not fit argument \"" ++ (argument ++ codes "\".")))
+
+-- a field that can't be merged with the first one of its key
+unfoldable pub conflict_text : List ℕ → List ℕ
+conflict_text key = codes "Fields \"" ++ (key ++ codes "\" conflict.")

@@ -8,6 +8,7 @@ pub mod Breaches
 pub mod BuiltIn
 pub mod Choice
 pub mod Circular
+pub mod Conflicting
 pub mod Defined
 pub mod Definitions
 pub mod FieldTypeViews

@@ -8,6 +8,7 @@ use Rattle.gql_admit.specs.Breaches.{told_at}
 use Rattle.gql_admit.specs.BreachOrder.{Lists}
 use Rattle.gql_admit.specs.BuiltIn.{built_in}
 use Rattle.gql_admit.specs.Circular.{IsCircular}
+use Rattle.gql_admit.specs.Conflicting.{IsConflicting}
 use Rattle.gql_admit.specs.Definitions.{told_of_variables}
 use Rattle.gql_admit.specs.Places.{Place, document_places}
 use Rattle.gql_admit.specs.Refusal.{refusal}
@@ -16,7 +17,7 @@ use Rattle.gql_admit.specs.Uses.{IsWrongUse}
 use Rattle.gql_admit.specs.declared.breach.Breach.{Breach}
 
 -- a rule that a document breaks: at one of its places, by a definition of a variable or by the use
--- of one, or by a fragment that reaches itself
+-- of one, by a fragment that reaches itself, or by fields of one key that can't be merged
 pub data IsBreach (terms : Terms) (asked : Asked) (document : ExecutableDocument) (found : Breach)
     : Type 0 where
   at_place : (place : Place) → Contains (document_places terms document) place
@@ -26,6 +27,7 @@ pub data IsBreach (terms : Terms) (asked : Asked) (document : ExecutableDocument
       → IsBreach terms asked document found
   by_use : IsWrongUse terms document found → IsBreach terms asked document found
   circular : IsCircular document.fragments found → IsBreach terms asked document found
+  conflicting : IsConflicting terms document found → IsBreach terms asked document found
 
 -- the error of a breach: its text, at its place
 abbrev pub error_of : Breach → ServerError

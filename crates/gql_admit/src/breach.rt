@@ -30,6 +30,8 @@ pub enum BreachKind {
     /// A variable is defined twice, has no input type, has a default that doesn't fit, or has no
     /// fitting value (sections 5.6.1, 5.8.1, 5.8.2 and 6.1.2).
     Definition,
+    /// A field can't be merged with the first one of its key (section 5.3.2).
+    Conflict,
 }
 
 /// A rule that a document breaks: where, which, the name that it is about, and what is told of it.

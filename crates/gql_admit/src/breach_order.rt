@@ -33,6 +33,7 @@ fn kind_place(kind: BreachKind) -> u8
         BreachKind::CircularFragment => 9,
         BreachKind::Variable => 10,
         BreachKind::Definition => 11,
+        BreachKind::Conflict => 12,
     }
 }
 

@@ -2,11 +2,11 @@
 //! specification, the choice of its operation, and what `@skip` and `@include` leave of it
 //! (GraphQL, October 2021, sections 3.13, 5 and 6.1).
 //!
-//! Twelve of thirteen rules are checked: on the types of conditions, unknown fields, sets of leaves
-//! and of other types, directives, arguments that are unknown, wanting or doubled, the literals
-//! that they are given, unknown fragments, fragments that reach themselves, the definitions of
-//! variables with the values that a request gives them, and the uses of variables. The one on
-//! fields that conflict under one key isn't yet.
+//! Thirteen rules are checked: on the types of conditions, unknown fields, sets of leaves and of
+//! other types, directives, arguments that are unknown, wanting or doubled, the literals that they
+//! are given, unknown fragments, fragments that reach themselves, the definitions of variables with
+//! the values that a request gives them, the uses of variables, and fields that can't be merged
+//! under one key.
 #![tactic(auto)]
 
 mod argument_texts;
@@ -19,6 +19,7 @@ mod built_in;
 mod chosen;
 mod circular;
 mod conditions;
+mod conflicting;
 mod constants;
 mod copied;
 mod defined;

@@ -12,6 +12,7 @@ use crate::breach::Breach;
 use crate::breach_order::sorted_once;
 use crate::built_in::{BuiltIn, built_in};
 use crate::circular::tell_circular;
+use crate::conflicting::tell_conflicts;
 use crate::definitions::tell_variables;
 use crate::refusals::refuse;
 use crate::site::Site;
@@ -26,9 +27,9 @@ use std::alloc::Global;
 /// it breaks, in the order of the document, each once (GraphQL, October 2021, section 5). Looked at
 /// are unknown fields, leaves with a set and other types without one, conditions on types that
 /// aren't composite, directives, arguments and the literals that they are given, unknown fragments,
-/// fragments that reach themselves, the definitions of variables, and their uses at the places that
-/// an operation reaches. Of the operation that this name asks for, or without a name the only one,
-/// the values of the variables are looked at.
+/// fragments that reach themselves, the definitions of variables, their uses at the places that an
+/// operation reaches, and fields that can't be merged under one key. Of the operation that this
+/// name asks for, or without a name the only one, the values of the variables are looked at.
 pub fn check_rules(
     alloc: Global,
     site: &Site<'_>,
@@ -83,6 +84,7 @@ fn breaches_of(
     )?;
     tell_wrong_uses(alloc, &doc.operations, &against, &mut found)?;
     tell_circular(alloc, &doc.fragments, &mut found)?;
+    tell_conflicts(alloc, against.site, doc, &mut found)?;
     Ok(sorted_once(found))
 }
 

@@ -3,6 +3,8 @@
 #![tactic(auto)]
 
 #[cfg(test)]
+mod conflict_tests;
+#[cfg(test)]
 mod definitions_tests;
 #[cfg(test)]
 mod prepare_tests;

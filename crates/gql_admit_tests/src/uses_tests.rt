@@ -123,13 +123,21 @@ fn one(alloc: Global) -> Made<Value> {
 fn query_type(alloc: Global) -> Made<SchemaType> {
     let a = InputValue::new(alloc, "x", TypeRef::named(alloc, "Int")?)?;
     let b = InputValue::new(alloc, "x", TypeRef::named_nn(alloc, "Int")?)?;
-    let c = InputValue::new(alloc, "x", TypeRef::named_nn(alloc, "Int")?)?.default_value(one(alloc)?);
+    let c = InputValue::new(alloc, "x", TypeRef::named_nn(alloc, "Int")?)?.default_value(one(
+        alloc,
+    )?);
     let l = InputValue::new(alloc, "x", TypeRef::named_list(alloc, "Int")?)?;
     let n = InputValue::new(alloc, "x", TypeRef::named(alloc, "In")?)?;
     let y = InputValue::new(alloc, "x", TypeRef::named(alloc, "Any")?)?;
     let object = Object::new(alloc, "Query")?
-        .field(alloc, Field::new(alloc, "value", TypeRef::named(alloc, "Int")?, 0)?)?
-        .field(alloc, Field::new(alloc, "o", TypeRef::named(alloc, "Query")?, 0)?)?
+        .field(
+            alloc,
+            Field::new(alloc, "value", TypeRef::named(alloc, "Int")?, 0)?,
+        )?
+        .field(
+            alloc,
+            Field::new(alloc, "o", TypeRef::named(alloc, "Query")?, 0)?,
+        )?
         .field(alloc, field(alloc, "a", a)?)?
         .field(alloc, field(alloc, "b", b)?)?
         .field(alloc, field(alloc, "c", c)?)?
@@ -141,7 +149,9 @@ fn query_type(alloc: Global) -> Made<SchemaType> {
 
 fn input_type(alloc: Global) -> Made<SchemaType> {
     let x = InputValue::new(alloc, "x", TypeRef::named_nn(alloc, "Int")?)?;
-    let d = InputValue::new(alloc, "d", TypeRef::named_nn(alloc, "Int")?)?.default_value(one(alloc)?);
+    let d = InputValue::new(alloc, "d", TypeRef::named_nn(alloc, "Int")?)?.default_value(one(
+        alloc,
+    )?);
     let l = InputValue::new(alloc, "l", TypeRef::named_nn_list(alloc, "Int")?)?;
     let input = InputObject::new(alloc, "In")?
         .field(alloc, x)?

@@ -1,0 +1,63 @@
+-- What is told of conflicts.
+use Rattle.std.proofs.Common.{◌≡◌, ℕ, suc, List, [], ◌∷◌, ◌++◌, map, sym, subst, ◌∙◌, inl, inr}
+use Rattle.std.specs.List.{Contains}
+use Rattle.std.proofs.lemmas.List.Elements.{Contains-append_cases}
+use Rattle.gql_doc.specs.declared.document.ExecutableDocument.{ExecutableDocument}
+use Rattle.gql_conflicts.specs.ConflictOrder.{Lists}
+use Rattle.gql_conflicts.specs.DocumentConflicts.{IsConflict}
+use Rattle.gql_conflicts.specs.Rooted.{Rooted}
+use Rattle.gql_conflicts.specs.declared.conflict.Conflict.{Conflict}
+use Rattle.gql_admit.specs.Circular.{Adds}
+use Rattle.gql_admit.specs.Conflicting.{IsConflicting, conflict_breach, rooted_in}
+use Rattle.gql_admit.specs.Terms.{Terms}
+use Rattle.gql_admit.specs.declared.breach.Breach.{Breach}
+use Rattle.gql_admit.proofs.AddingLemmas.{adds_same, adds_told}
+use Rattle.gql_admit.proofs.BreachLemmas.{first_in, later_in, none_in, one_in}
+
+module _ {A B : Type 0} (f : A → B) where
+  -- the item that gives one of a mapped list
+  pub record Image (xs : List A) (b : B) : Type 0 where
+    pub item : A
+    pub there : Contains xs item
+    pub is : b ≡ f item
+
+  pub image_from : (xs : List A) (b : B) → Contains (map f xs) b → Image xs b
+  image_from [] b at = none_in b (Image [] b) at
+  image_from (x ∷ xs) b at =
+      elim (Contains-append_cases (f x ∷ []) (map f xs) b at) [
+        | inl here ↦ record { item = x; there = first_in x xs; is = sym (one_in (f x) b here) }
+        | inr behind ↦
+            let rest = image_from xs b behind in
+            record { item = rest.item; there = later_in x rest.item xs rest.there; is = rest.is }
+      ]
+
+  pub image_at : (xs : List A) (x : A) → Contains xs x → Contains (map f xs) (f x)
+  image_at [] x at = none_in x (Contains (map f []) (f x)) at
+  image_at (y ∷ xs) x at =
+      elim (Contains-append_cases (y ∷ []) xs x at) [
+        | inl here ↦ subst (λ z. Contains (f y ∷ map f xs) (f z)) (one_in y x here) (first_in (f y) (map f xs))
+        | inr behind ↦ later_in (f y) (f x) (map f xs) (image_at xs x behind)
+      ]
+
+-- the conflicts of a document, all told
+pub all_conflicts : (terms : Terms) (document : ExecutableDocument) (rooted : Rooted) (levels : ℕ) (conflicts : List Conflict) (old new : List Breach)
+    → rooted ≡ rooted_in terms → levels ≡ suc terms.depth → Lists (IsConflict rooted document levels) conflicts
+    → new ≡ old ++ map conflict_breach conflicts → Adds (IsConflicting terms document) old new
+all_conflicts terms document rooted levels conflicts old new roots deep lists is =
+    adds_same (Contains (map conflict_breach conflicts)) (IsConflicting terms document) old new to back (adds_told old (map conflict_breach conflicts) new is)
+  where
+    there : (conflict : Conflict) → IsConflict rooted document levels conflict → IsConflict (rooted_in terms) document (suc terms.depth) conflict
+    there conflict = subst (λ (p : Rooted × ℕ). IsConflict p.0 document p.1 conflict) (λ i. (roots i, deep i))
+
+    here : (conflict : Conflict) → IsConflict (rooted_in terms) document (suc terms.depth) conflict → IsConflict rooted document levels conflict
+    here conflict = subst (λ (p : Rooted × ℕ). IsConflict p.0 document p.1 conflict) (sym (λ i. (roots i, deep i)))
+
+    to : (found : Breach) → Contains (map conflict_breach conflicts) found → IsConflicting terms document found
+    to found at =
+        let from = image_from conflict_breach conflicts found at in
+        record { conflict = from.item; stands = there from.item ((lists.exact from.item).0 from.there); is = from.is }
+
+    back : (found : Breach) → IsConflicting terms document found → Contains (map conflict_breach conflicts) found
+    back found meant =
+        subst (λ e. Contains (map conflict_breach conflicts) e) (sym meant.is)
+        (image_at conflict_breach conflicts meant.conflict ((lists.exact meant.conflict).1 (here meant.conflict meant.stands)))

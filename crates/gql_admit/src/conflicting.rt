@@ -1,0 +1,78 @@
+//! Fields that can't be merged with the first one of their key.
+ghost use Rattle.std.specs.Prelude.{◌≡◌, ◌++◌, IfOk, OnOk, map, string_bytes, suc};
+ghost use Rattle.gql_admit.specs.BreachTexts.{conflict_text};
+ghost use Rattle.gql_admit.specs.Circular.{Adds};
+ghost use Rattle.gql_admit.specs.Conflicting.{IsConflicting, conflict_breach, rooted_in};
+ghost use Rattle.gql_admit.specs.Terms.{terms_of};
+ghost use Rattle.gql_conflicts.specs.Rooted.{rooted_of};
+
+use crate::breach::{Breach, BreachKind};
+use crate::breach_texts::breach_of;
+use crate::site::Site;
+use gql_base::{Items, Made};
+use gql_conflicts::{Conflict, RootedTypes, conflicts_in};
+use gql_doc::ExecutableDocument;
+use std::alloc::{AllocError, Global};
+
+/// Tells of each field that can't be merged with the first one of its key.
+#[tactic(auto, using(crate::proofs::ConflictingLemmas::all_conflicts))]
+pub fn tell_conflicts(
+    alloc: Global,
+    site: &Site<'_>,
+    doc: &ExecutableDocument,
+    found: &mut Items<Breach>,
+) -> Made<()>
+    ensures { OnOk result (Adds (IsConflicting (terms_of site.now) doc.now) found.old found.new) }
+{
+    let levels = levels_of(site)?;
+    let conflicts = conflicts_in(alloc, &rooted(site), doc, levels)?;
+    tell_each(alloc, conflicts.as_slice(), found)
+}
+
+/// How many levels of sets may lie in each other. The end of `usize`, which no document comes to,
+/// counts as want of memory.
+fn levels_of(site: &Site<'_>) -> Made<usize>
+    ensures { IfOk result (λ levels. levels ≡ suc (terms_of site.now).depth) }
+{
+    match site.depth.checked_add(1) {
+        Some(levels) => Ok(levels),
+        None => Err(AllocError),
+    }
+}
+
+fn rooted<'a>(site: &Site<'a>) -> RootedTypes<'a>
+    ensures { rooted_of result ≡ rooted_in (terms_of site.entry.now) }
+{
+    RootedTypes {
+        types: site.types,
+        query: site.query,
+        mutation: site.mutation,
+        subscription: site.subscription,
+        entities: site.entities,
+    }
+}
+
+fn tell_each(alloc: Global, conflicts: &[Conflict], found: &mut Items<Breach>) -> Made<()>
+    ensures { OnOk result (found.new ≡ found.old ++ map conflict_breach conflicts.now) }
+{
+    for conflict in conflicts {
+        found.push(conflicting_field(alloc, conflict)?)?;
+    }
+    Ok(())
+}
+
+/// A field that can't be merged.
+fn conflicting_field(alloc: Global, conflict: &Conflict) -> Made<Breach>
+    ensures { IfOk result (λ made. made ≡ conflict_breach conflict.now) }
+{
+    let key = conflict.key.as_str();
+    let text = conflict_message(alloc, key)?;
+    breach_of(alloc, conflict.pos, BreachKind::Conflict, key, text)
+}
+
+#[tactic(auto, unfolding(crate::specs::BreachTexts::conflict_text))]
+fn conflict_message(alloc: Global, key: &str) -> Made<String>
+    ensures { IfOk result (λ text. string_bytes text ≡ conflict_text key.now) }
+{
+    format!(in alloc; "Fields \"{key}\" conflict.")
+}
