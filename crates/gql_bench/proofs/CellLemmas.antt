@@ -1,5 +1,5 @@
 -- The cells that the rules of a bench name lie below the number of its cells, as the bench is read.
-use Rattle.std.proofs.Common.{◌≡◌, ℕ, zero, suc, Bool, true, cond, List, [], ◌∷◌, length, codes, Some, None, Result, Ok, Err, slice_get, refl, ap, sym, ◌∙◌, subst}
+use Rattle.std.proofs.Common.{◌≡◌, ℕ, zero, suc, Bool, true, false, cond, List, [], ◌∷◌, length, codes, Some, None, Result, Ok, Err, slice_get, refl, ap, sym, ◌∙◌, subst}
 use Rattle.std.specs.Prelude.{IsTrue, nat_lt}
 use Rattle.std.proofs.lemmas.List.Folds.{list_all-append, list_all-map}
 use Rattle.std.specs.List.{list_all, flat_map}
@@ -36,7 +36,7 @@ use Rattle.gql_form.specs.declared.type_form.ObjectForm.{ObjectForm}
 use Rattle.gql_form.specs.declared.type_form.TypeForm.{TypeForm}
 use Rattle.gql_form.specs.declared.type_form.TypeForm.TheVariants as types
 use Rattle.gql_bench.specs.Cells.{AreBelow, kind_below, rule_below}
-use Rattle.gql_bench.specs.Rule.{field_rule, rules_in, rules_of}
+use Rattle.gql_bench.specs.Rule.{entity_rules, field_rule, rules_in, rules_of, schema_rules}
 use Rattle.gql_bench.specs.Rule as rules
 use Rattle.gql_bench.specs.declared.rule.Rule.{Rule}
 use Rattle.gql_bench.proofs.ReadingLemmas.{both, each_ok, either_ok, first_holds, listed_many, made_ok, member_ok, named_ok, ok_is, second_holds, then_ok}
@@ -204,11 +204,17 @@ told_ok : (read : Reading BenchForm) (form : BenchForm) → told read ≡ Ok for
 told_ok (Ok bench) form is = ap Ok (let same : bench ≡ form = cc in same)
 told_ok (Err place) form is = cc
 
+-- the entity rule names no cell
+entities_below : (count : ℕ) (set : Bool) → list_all (rule_below count) (entity_rules set) ≡ true
+entities_below count true = refl
+entities_below count false = refl
+
 -- the cells that the rules of a bench name are below the number of its cells
 pub cells_below : (command : Command) (json : Data) (read : Result BenchForm (List ℕ)) (form : BenchForm) → read ≡ form_in command json
-    → read ≡ Ok form → AreBelow (length form.setup.cells) (rules_of form.setup.schema.types)
+    → read ≡ Ok form → AreBelow (length form.setup.cells) (schema_rules form.setup.schema)
 cells_below command json read form is found =
     let count = cell_count json in
     let setup = setup_ok count json form.setup (bench_ok count command json form (told_ok (bench_of count command json) form (sym is ∙ found))) in
-    subst (λ n. AreBelow n (rules_of form.setup.schema.types)) (sym setup.1)
-    (all_flat (rule_below count) rules_in form.setup.schema.types setup.0)
+    subst (λ n. AreBelow n (schema_rules form.setup.schema)) (sym setup.1)
+    (list_all-append (rule_below count) (rules_of form.setup.schema.types) (entity_rules form.setup.schema.settings.entities)
+    ∙ both _ _ (all_flat (rule_below count) rules_in form.setup.schema.types setup.0) (entities_below count form.setup.schema.settings.entities))

@@ -11,6 +11,7 @@ use Rattle.gql_resolve.specs.Lawful.{plain_answer}
 use Rattle.gql_resolve.specs.declared.answer.Answer.{Answer}
 use Rattle.gql_resolve.specs.declared.field_value.FieldValue.{FieldValue}
 use Rattle.gql_resolve.specs.declared.field_value.FieldValue.TheVariants as given
+use Rattle.gql_bench.specs.Entities.{entities_outcome}
 use Rattle.gql_bench.specs.Outcome.{Outcome, plain_error}
 use Rattle.gql_bench.specs.Sum.{sum_outcome}
 use Rattle.gql_bench.specs.declared.rule.Rule.{Rule}
@@ -41,6 +42,7 @@ kind_outcome (kinds.Fail message) call cells = Err (plain_error message)
 kind_outcome (kinds.Member name) call cells = Ok (parent_member name call.parent)
 kind_outcome (kinds.Arg name) call cells = Ok (given_under name call.arguments)
 kind_outcome (kinds.Sum paths) call cells = sum_outcome paths call.arguments
+kind_outcome kinds.Entities call cells = entities_outcome call.arguments
 kind_outcome (kinds.Read place) call cells = Ok (Some (cell_at place cells))
 kind_outcome (kinds.Bump place) call cells = Ok (Some (cell_at place cells))
 

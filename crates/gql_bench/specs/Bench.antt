@@ -9,7 +9,7 @@ use Rattle.gql_request.specs.declared.batch_request.BatchRequest.{BatchRequest}
 use Rattle.gql_request.specs.declared.batch_request.BatchRequest.TheVariants as batch
 use Rattle.gql_bench.specs.Built.{is_built, is_built_form, is_logged}
 use Rattle.gql_bench.specs.Given.{given_of}
-use Rattle.gql_bench.specs.Rule.{rules_of, sources_of}
+use Rattle.gql_bench.specs.Rule.{schema_rules, sources_of}
 use Rattle.gql_bench.specs.SchemaTable.{declared_table}
 use Rattle.gql_bench.specs.Settings.{settings_in}
 use Rattle.gql_bench.specs.declared.bench.Bench.{Bench}
@@ -29,7 +29,7 @@ session_in _ = None
 pub record IsBenchOf (form : BenchForm) (bench : Bench) : Type 0 where
   pub table : table_of bench.builder ≡ declared_table form.setup.schema
   pub settings : settings_of bench.builder ≡ settings_in form.setup.schema
-  pub rules : bench.rules ≡ rules_of form.setup.schema.types
+  pub rules : bench.rules ≡ schema_rules form.setup.schema
   pub sources : bench.sources ≡ sources_of form.setup.schema.types
   pub cells : bench.cells ≡ form.setup.cells
   pub root : bench.root ≡ given_of form.setup.root

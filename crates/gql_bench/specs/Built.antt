@@ -9,7 +9,7 @@ use Rattle.gql_form.specs.declared.type_form.TypeForm.{TypeForm}
 use Rattle.gql_form.specs.declared.type_form.TypeForm.TheVariants as types
 use Rattle.gql_form.specs.declared.work_form.WorkForm.{WorkForm}
 use Rattle.gql_form.specs.declared.work_form.WorkForm.TheVariants as work
-use Rattle.gql_bench.specs.Rule.{rules_of}
+use Rattle.gql_bench.specs.Rule.{schema_rules}
 use Rattle.gql_bench.specs.declared.bench.Bench.{Bench}
 use Rattle.gql_bench.specs.declared.rule.Rule.{Rule}
 use Rattle.gql_bench.specs.declared.rule.RuleKind.{RuleKind}
@@ -25,19 +25,9 @@ abbrev pub is_subscription : TypeForm → Bool
 is_subscription (types.Subscription form) = true
 is_subscription _ = false
 
--- an object with a key
-abbrev pub is_keyed : TypeForm → Bool
-is_keyed (types.Object form) = is_some form.key
-is_keyed _ = false
-
--- a type of one of these two
-abbrev pub is_later_type : TypeForm → Bool
-is_later_type form = is_subscription form || is_keyed form
-
--- a subscription root's name, federation, or the entity rule
-abbrev pub has_later_settings : SchemaForm → Bool
-has_later_settings schema =
-    is_some schema.subscription || (schema.settings.federation || schema.settings.entities)
+-- a subscription root's name, or a type of the kind `subscription`
+abbrev pub has_subscription : SchemaForm → Bool
+has_subscription schema = is_some schema.subscription || list_any is_subscription schema.types
 
 -- the rule `bump`
 abbrev pub is_bump : RuleKind → Bool
@@ -57,13 +47,12 @@ is_request _ = false
 abbrev pub is_built_but_rules : BenchForm → Bool
 is_built_but_rules form =
     (not (is_logged form.setup.hooks) && is_request form.work)
-    && (not (has_later_settings form.setup.schema)
-    && not (list_any is_later_type form.setup.schema.types))
+    && not (has_subscription form.setup.schema)
 
 -- a bench with none of these forms
 abbrev pub is_built_form : BenchForm → Bool
 is_built_form form =
-    is_built_but_rules form && not (list_any bumps (rules_of form.setup.schema.types))
+    is_built_but_rules form && not (list_any bumps (schema_rules form.setup.schema))
 
 -- whether a bench was made of such a form
 abbrev pub is_built : Bench → Bool

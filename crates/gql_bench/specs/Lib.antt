@@ -2,6 +2,7 @@ pub mod Answer
 pub mod Bench
 pub mod Built
 pub mod Cells
+pub mod Entities
 pub mod FieldTable
 pub mod Found
 pub mod Given

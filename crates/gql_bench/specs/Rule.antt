@@ -1,5 +1,6 @@
 -- The rules of a bench's resolvers, and the events of its sources, by their numbers.
-use Rattle.std.specs.Prelude.{ℕ, List, [], map, Option, Some, None}
+use Rattle.std.specs.Prelude.{ℕ, Bool, List, [], ◌∷◌, ◌++◌, map, Option, Some, None}
+use Rattle.std.specs.Prelude.{if◌then◌else◌}
 use Rattle.std.specs.List.{flat_map}
 use Rattle.gql_base.specs.Pairs.{values_of}
 use Rattle.gql_form.specs.declared.answer_form.AnswerForm.{AnswerForm}
@@ -8,6 +9,7 @@ use Rattle.gql_form.specs.declared.fields.FieldForm.{FieldForm}
 use Rattle.gql_form.specs.declared.fields.SubscriptionFieldForm.{SubscriptionFieldForm}
 use Rattle.gql_form.specs.declared.rule_form.RuleForm.{RuleForm}
 use Rattle.gql_form.specs.declared.rule_form.RuleForm.TheVariants as forms
+use Rattle.gql_form.specs.declared.schema_form.SchemaForm.{SchemaForm}
 use Rattle.gql_form.specs.declared.type_form.TypeForm.{TypeForm}
 use Rattle.gql_form.specs.declared.type_form.TypeForm.TheVariants as types
 use Rattle.gql_bench.specs.Given.{given_of}
@@ -48,6 +50,19 @@ rules_in _ = []
 -- the rules of the resolvers of types: the one at a place is that of the resolver of this number
 abbrev pub rules_of : List TypeForm → List Rule
 rules_of forms = flat_map rules_in forms
+
+-- the rule of entities: at once, with nothing beside the answer
+abbrev pub entity_rule : Rule
+entity_rule = record { delay = 0; added = []; headers = []; kind = kinds.Entities }
+
+-- that rule alone, where it is set
+abbrev pub entity_rules : Bool → List Rule
+entity_rules set = if set then entity_rule ∷ [] else []
+
+-- the rules of the resolvers of a schema: those of its types, and behind them the entity rule,
+-- where it is set
+abbrev pub schema_rules : SchemaForm → List Rule
+schema_rules schema = rules_of schema.types ++ entity_rules schema.settings.entities
 
 -- the events of a field of a subscription
 abbrev pub field_events : SubscriptionFieldForm → List EventForm

@@ -9,6 +9,7 @@ ghost use Rattle.gql_bench.specs.Answer.{parent_member, parent_members};
 ghost use Rattle.gql_bench.specs.Cells.{kind_below, rule_below};
 ghost use Rattle.gql_bench.specs.Outcome.{plain_error};
 
+use crate::entities::entities_of;
 use crate::rule::{Rule, RuleKind};
 use crate::sum::{Outcome, message_error, sum_of};
 use gql_base::{Copied, Error, Items, Made, Number, Pairs, Text, Value};
@@ -67,6 +68,7 @@ fn outcome_of(
         RuleKind::Member(name) => Ok(Ok(member_of(alloc, name.as_str(), call.parent_value)?)),
         RuleKind::Arg(name) => Ok(Ok(value_under(alloc, name.as_str(), arguments)?)),
         RuleKind::Sum(paths) => sum_of(alloc, paths.as_slice(), arguments),
+        RuleKind::Entities => entities_of(alloc, arguments),
         RuleKind::Read(place) | RuleKind::Bump(place) => Ok(Ok(Some(cell_of(*place, cells)))),
     }
 }

@@ -17,7 +17,7 @@ pub struct Bench {
     /// resolvers, and fields of subscriptions their sources, by their numbers in the order of the
     /// bench.
     pub builder: SchemaBuilder,
-    /// The rules of the resolvers by their numbers.
+    /// The rules of the resolvers by their numbers. Where the entity rule is set, it is the last.
     pub rules: Items<Rule>,
     /// The events of the sources by their numbers.
     pub sources: Items<Items<EventForm>>,

@@ -1,8 +1,8 @@
 //! Which benches are built.
 ghost use Rattle.std.specs.Prelude.{◌≡◌, ◌&&◌, not, is_some};
 ghost use Rattle.std.specs.List.{list_any};
-ghost use Rattle.gql_bench.specs.Built.{bumps, has_later_settings, is_built_but_rules, is_bump};
-ghost use Rattle.gql_bench.specs.Built.{is_later_type, is_logged, is_request};
+ghost use Rattle.gql_bench.specs.Built.{bumps, has_subscription, is_built_but_rules, is_bump};
+ghost use Rattle.gql_bench.specs.Built.{is_logged, is_request, is_subscription};
 
 use crate::rule::{Rule, RuleKind};
 use gql_form::{BenchForm, HooksForm, SchemaForm, TypeForm, WorkForm};
@@ -11,9 +11,8 @@ use gql_form::{BenchForm, HooksForm, SchemaForm, TypeForm, WorkForm};
 pub(crate) fn is_built_but_rules(form: &BenchForm) -> bool
     ensures { result ≡ is_built_but_rules form.now }
 {
-    let schema = &form.setup.schema;
     let command = !is_logged(form.setup.hooks) && is_request(&form.work);
-    command && (!has_later_settings(schema) && !has_later_type(schema.types.as_slice()))
+    command && !has_subscription(&form.setup.schema)
 }
 
 /// Whether a bench is built that is so but for its rules, which are these.
@@ -50,28 +49,28 @@ fn is_request(work: &WorkForm) -> bool
     }
 }
 
-/// Whether a schema has a subscription root, federation, or the entity rule.
-fn has_later_settings(schema: &SchemaForm) -> bool
-    ensures { result ≡ has_later_settings schema.now }
+/// Whether a schema has the name of a subscription root, or a subscription.
+fn has_subscription(schema: &SchemaForm) -> bool
+    ensures { result ≡ has_subscription schema.now }
 {
-    schema.subscription.is_some() || (schema.settings.federation || schema.settings.entities)
+    schema.subscription.is_some() || has_one(schema.types.as_slice())
 }
 
-/// Whether one of these types isn't built.
-fn has_later_type(types: &[TypeForm]) -> bool
-    ensures { result ≡ list_any is_later_type types.now }
+/// Whether one of these types is a subscription.
+fn has_one(types: &[TypeForm]) -> bool
+    ensures { result ≡ list_any is_subscription types.now }
 {
-    types.iter().any(|form| is_later_type(form))
+    types.iter().any(|form| is_subscription(form))
 }
 
-/// Whether a type is a subscription, or an object with a key.
-fn is_later_type(form: &TypeForm) -> bool
-    ensures { result ≡ is_later_type form.now }
+/// Whether a type is a subscription.
+fn is_subscription(form: &TypeForm) -> bool
+    ensures { result ≡ is_subscription form.now }
 {
     match form {
         TypeForm::Subscription(_) => true,
-        TypeForm::Object(object) => object.key.is_some(),
-        TypeForm::Interface(_)
+        TypeForm::Object(_)
+        | TypeForm::Interface(_)
         | TypeForm::Union(_)
         | TypeForm::Enum(_)
         | TypeForm::Input(_)
@@ -91,6 +90,7 @@ fn bumps(rule: &Rule) -> bool
         | RuleKind::Member(_)
         | RuleKind::Arg(_)
         | RuleKind::Sum(_)
+        | RuleKind::Entities
         | RuleKind::Read(_) => false,
     }
 }

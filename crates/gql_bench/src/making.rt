@@ -4,7 +4,7 @@ ghost use Rattle.gql_bench.specs.Bench.{requests_in, session_in, IsBenchOf};
 ghost use Rattle.gql_bench.specs.Built.{is_logged};
 ghost use Rattle.gql_bench.specs.Cells.{AreBelow};
 ghost use Rattle.gql_bench.specs.Given.{given_of};
-ghost use Rattle.gql_bench.specs.Rule.{rules_of, sources_of};
+ghost use Rattle.gql_bench.specs.Rule.{schema_rules, sources_of};
 
 use crate::bench::Bench;
 use crate::built::{is_built_but_rules, is_built_with, is_logged};
@@ -31,7 +31,7 @@ struct Contents {
 
 /// The bench that was read as this form. What was read is moved.
 pub(crate) fn bench_over(alloc: Global, form: BenchForm) -> Made<Bench>
-    requires { AreBelow (length form.setup.cells) (rules_of form.setup.schema.types) }
+    requires { AreBelow (length form.setup.cells) (schema_rules form.setup.schema) }
     ensures { IfOk result (IsBenchOf form) }
 {
     let builder = builder_of(alloc, &form.setup.schema)?;
@@ -63,7 +63,7 @@ pub(crate) fn bench_over(alloc: Global, form: BenchForm) -> Made<Bench>
 
 /// What a setup has beside its schema.
 fn contents_of(alloc: Global, setup: SetupForm) -> Made<Contents>
-    ensures rules { IfOk result (λ contents. contents.rules ≡ rules_of setup.schema.types) }
+    ensures rules { IfOk result (λ contents. contents.rules ≡ schema_rules setup.schema) }
     ensures sources { IfOk result (λ contents. contents.sources ≡ sources_of setup.schema.types) }
     ensures cells { IfOk result (λ contents. contents.cells ≡ setup.cells) }
     ensures root { IfOk result (λ contents. contents.root ≡ given_of setup.root) }
@@ -78,7 +78,8 @@ fn contents_of(alloc: Global, setup: SetupForm) -> Made<Contents>
         hooks,
     } = setup;
     let root = given_from(alloc, root)?;
-    let RuleTable { rules, sources } = RuleTable::of(alloc, types_of(schema))?;
+    let entities = schema.settings.entities;
+    let RuleTable { rules, sources } = RuleTable::of(alloc, types_of(schema), entities)?;
     Ok(Contents {
         rules,
         sources,

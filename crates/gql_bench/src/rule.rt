@@ -1,6 +1,6 @@
 //! The rules of a bench's resolvers.
 ghost use Rattle.std.specs.Prelude.{◌≡◌, IfOk};
-ghost use Rattle.gql_bench.specs.Rule.{kind_of, rule_of};
+ghost use Rattle.gql_bench.specs.Rule.{entity_rule, kind_of, rule_of};
 
 use crate::given::given_from;
 use gql_base::{Copied, Items, Made, Name, Text};
@@ -37,6 +37,8 @@ pub enum RuleKind {
     Arg(Name),
     /// The sum of the arguments at these paths.
     Sum(Items<Path>),
+    /// The representations of the arguments, each under the name of its type.
+    Entities,
     /// The cell at this place.
     Read(u64),
     /// The cell at this place, to which a root of a mutation adds first.
@@ -60,6 +62,18 @@ pub(crate) fn rule_from(alloc: Global, form: AnswerForm) -> Made<Rule>
         headers,
         kind,
     })
+}
+
+/// The rule of entities.
+pub(crate) fn entity_rule(alloc: Global) -> Rule
+    ensures { result ≡ entity_rule }
+{
+    Rule {
+        delay: 0,
+        added: Items::new(alloc),
+        headers: Items::new(alloc),
+        kind: RuleKind::Entities,
+    }
 }
 
 fn kind_from(alloc: Global, form: RuleForm) -> Made<RuleKind>
@@ -100,6 +114,7 @@ impl Copied for RuleKind {
             RuleKind::Member(name) => Ok(RuleKind::Member(name.try_clone(alloc)?)),
             RuleKind::Arg(name) => Ok(RuleKind::Arg(name.try_clone(alloc)?)),
             RuleKind::Sum(paths) => Ok(RuleKind::Sum(copied_paths(alloc, paths.as_slice())?)),
+            RuleKind::Entities => Ok(RuleKind::Entities),
             RuleKind::Read(place) => Ok(RuleKind::Read(*place)),
             RuleKind::Bump(place) => Ok(RuleKind::Bump(*place)),
         }

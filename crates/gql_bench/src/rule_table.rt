@@ -2,10 +2,9 @@
 //! is moved.
 ghost use Rattle.std.specs.Prelude.{◌≡◌, ◌++◌, map, IfOk, OnOk};
 ghost use Rattle.gql_base.specs.Pairs.{values_of};
-ghost use Rattle.gql_bench.specs.Rule.{field_events, field_rule, rules_in, rules_of};
-ghost use Rattle.gql_bench.specs.Rule.{sources_in, sources_of};
+ghost use Rattle.gql_bench.specs.Rule.{entity_rules, field_events, field_rule};
 
-use crate::rule::{Rule, rule_from};
+use crate::rule::{Rule, entity_rule, rule_from};
 use gql_base::{Items, Made, Pairs};
 use gql_form::{EventForm, FieldForm, SubscriptionFieldForm, TypeForm};
 use std::alloc::Global;
@@ -19,10 +18,23 @@ pub(crate) struct RuleTable {
 
 impl RuleTable {
     ghost use Rattle.std.specs.Prelude.{◌≡◌, ◌++◌, IfOk, OnOk};
-    ghost use Rattle.gql_bench.specs.Rule.{rules_in, rules_of, sources_in, sources_of};
+    ghost use Rattle.gql_bench.specs.Rule.{entity_rules, rules_in, rules_of};
+    ghost use Rattle.gql_bench.specs.Rule.{sources_in, sources_of};
 
-    /// Those of these types, in the order of the bench.
-    pub(crate) fn of(alloc: Global, types: Items<TypeForm>) -> Made<RuleTable>
+    /// Those of these types, in the order of the bench. The entity rule stands behind all others,
+    /// where it is set.
+    pub(crate) fn of(alloc: Global, types: Items<TypeForm>, entities: bool) -> Made<RuleTable>
+        ensures rules { IfOk result
+            (λ table. table.rules ≡ rules_of types ++ entity_rules entities) }
+        ensures sources { IfOk result (λ table. table.sources ≡ sources_of types) }
+    {
+        let mut table = RuleTable::of_types(alloc, types)?;
+        add_entity_rule(alloc, &mut table.rules, entities)?;
+        Ok(table)
+    }
+
+    /// Those of these types alone.
+    fn of_types(alloc: Global, types: Items<TypeForm>) -> Made<RuleTable>
         ensures rules { IfOk result (λ table. table.rules ≡ rules_of types) }
         ensures sources { IfOk result (λ table. table.sources ≡ sources_of types) }
     {
@@ -65,6 +77,17 @@ fn add_rules(alloc: Global, rules: &mut Items<Rule>, fields: Pairs<FieldForm>) -
         rules.push(rule_for(alloc, field)?)?;
     }
     Ok(())
+}
+
+/// Adds the entity rule, where it is set.
+fn add_entity_rule(alloc: Global, rules: &mut Items<Rule>, set: bool) -> Made<()>
+    ensures { OnOk result (rules.new ≡ rules.old ++ entity_rules set) }
+{
+    if set {
+        rules.push(entity_rule(alloc))
+    } else {
+        Ok(())
+    }
 }
 
 /// The rule of a field's resolver.

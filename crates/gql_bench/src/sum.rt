@@ -79,7 +79,7 @@ fn value_at(names: &[Name], value: &Value) -> Option<i64>
 }
 
 /// The member of this name of a value, where that is an object that has it.
-fn member_of<'a>(value: &'a Value, name: &str) -> Option<&'a Value>
+pub(crate) fn member_of<'a>(value: &'a Value, name: &str) -> Option<&'a Value>
     ensures { option_copied result ≡ under name.now (members_of_value value.entry.now) }
 {
     match value {

@@ -145,12 +145,12 @@ const BUILT: [(&str, &str, bool); 10] = [
         "",
         false,
     ),
-    ("\"types\":[],\"federation\":true", "", false),
-    ("\"types\":[],\"entities\":true", "", false),
+    ("\"types\":[],\"federation\":true", "", true),
+    ("\"types\":[],\"entities\":true", "", true),
     (
         "\"types\":[{\"kind\":\"object\",\"name\":\"O\",\"key\":\"id\",\"fields\":[]}]",
         "",
-        false,
+        true,
     ),
 ];
 

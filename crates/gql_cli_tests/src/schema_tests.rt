@@ -96,7 +96,8 @@ fn is_not_built(alloc: Global, types: &str) -> Made<bool> {
 #[test]
 fn what_is_not_built_is_told_before_a_refusal(rt: HostRuntime) -> Result<(), Fail> {
     for types in [
-        "{\"kind\":\"object\",\"name\":\"Float\",\"key\":\"a\",\"fields\":[]}",
+        "{\"kind\":\"object\",\"name\":\"Float\",\"fields\":[]},\
+{\"kind\":\"subscription\",\"name\":\"S\",\"fields\":[]}",
         "{\"kind\":\"subscription\",\"name\":\"S\",\"fields\":[]},\
 {\"kind\":\"interface\",\"name\":\"I\",\"fields\":[{\"name\":\"f\",\"type\":\"S\"}]}",
     ] {

@@ -108,9 +108,6 @@ fn what_is_not_built_is_told(rt: HostRuntime) -> Result<(), Fail> {
     for (part, text) in [
         ("bench", ",\"hooks\":\"log\""),
         ("schema", ",\"subscription\":\"S\""),
-        ("schema", ",\"federation\":true"),
-        ("schema", ",\"entities\":true"),
-        ("object", ",\"key\":\"a\""),
         (
             "object",
             "},{\"kind\":\"subscription\",\"name\":\"S\",\"fields\":[]",
@@ -195,6 +192,9 @@ fn what_is_built_is_answered(rt: HostRuntime) -> Result<(), Fail> {
         ("schema", ",\"limitRecursiveDepth\":32", 0, A_IS_1),
         ("schema", ",\"limitDirectives\":1", 0, A_IS_1),
         ("schema", ",\"introspection\":\"disabled\"", 0, A_IS_1),
+        ("schema", ",\"federation\":true", 0, A_IS_1),
+        ("schema", ",\"entities\":true", 0, A_IS_1),
+        ("object", ",\"key\":\"a\"", 0, A_IS_1),
         (
             "schema",
             ",\"introspection\":\"only\"",

@@ -15,6 +15,8 @@ mod depth_tests;
 #[cfg(test)]
 mod directive_tests;
 #[cfg(test)]
+mod entity_tests;
+#[cfg(test)]
 mod error_tests;
 #[cfg(test)]
 mod fit_tests;

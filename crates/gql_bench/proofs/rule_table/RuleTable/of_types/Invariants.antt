@@ -1,7 +1,7 @@
 use Rattle.std.proofs.Common.{◌≡◌, ◌++◌}
 use Rattle.std.specs.Vec.Iter.{into_iter_items}
 use Rattle.gql_bench.specs.Rule.{rules_of, sources_of}
-use Rattle.gql_bench.proofs.rule_table.RuleTable.of.Given as goal
+use Rattle.gql_bench.proofs.rule_table.RuleTable.of_types.Given as goal
 
 abbrev pub invariant-loop-form : goal.invariant-loop-form
 invariant-loop-form l =
