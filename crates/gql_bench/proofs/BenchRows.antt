@@ -1,5 +1,5 @@
 -- What the definitions of a bench come to on small ones: which are built, their rules and the numbers of these, and what is answered.
-use Rattle.std.proofs.Common.{rules, ◌≡◌, ℕ, ℤ, pos, negsuc, ◌^◌, ◌-◌, true, false, List, [], ◌∷◌, codes, Some, None, Err, refl}
+use Rattle.std.proofs.Common.{rules, ◌≡◌, ℕ, ℤ, pos, negsuc, ◌^◌, ◌-◌, true, false, List, [], ◌∷◌, ◌++◌, codes, Some, None, Ok, Err, refl}
 use Rattle.std.specs.List.{list_all}
 use Rattle.gql_base.specs.declared.type_ref.TypeRef.TheVariants as ref
 use Rattle.gql_base.specs.declared.value.Value.{Value, the_lemmas as value_lemmas}
@@ -13,6 +13,7 @@ use Rattle.gql_form.specs.declared.event_form.OutcomeForm.TheVariants as outcome
 use Rattle.gql_form.specs.declared.fields.FieldForm.{FieldForm}
 use Rattle.gql_form.specs.declared.rule_form.RuleForm.{RuleForm}
 use Rattle.gql_form.specs.declared.rule_form.RuleForm.TheVariants as forms
+use Rattle.gql_form.specs.declared.schema_form.SchemaForm.{SchemaForm}
 use Rattle.gql_form.specs.declared.setup_form.HooksForm.TheVariants as hooks
 use Rattle.gql_form.specs.declared.type_form.TypeForm.{TypeForm}
 use Rattle.gql_form.specs.declared.type_form.TypeForm.TheVariants as types
@@ -26,9 +27,11 @@ use Rattle.gql_resolve.specs.Lawful.{plain_answer}
 use Rattle.gql_resolve.specs.declared.field_value.FieldValue.TheVariants as given
 use Rattle.gql_bench.specs.Built.{is_built_form}
 use Rattle.gql_bench.specs.Cells.{rule_below}
-use Rattle.gql_bench.specs.Outcome.{plain_error}
-use Rattle.gql_bench.specs.Rule.{rule_of, rules_of, sources_of}
+use Rattle.gql_bench.specs.Entities.{entities_outcome}
+use Rattle.gql_bench.specs.Outcome.{Outcome, plain_error}
+use Rattle.gql_bench.specs.Rule.{rule_of, rules_of, schema_rules, sources_of}
 use Rattle.gql_bench.specs.SchemaTable.{after_all, first_numbers}
+use Rattle.gql_bench.specs.Settings.{entities_in}
 use Rattle.gql_bench.specs.Table.{table_answer, table_delay}
 use Rattle.gql_bench.specs.declared.rule.Rule.{Rule}
 use Rattle.gql_bench.specs.declared.rule.RuleKind.{RuleKind}
@@ -124,6 +127,38 @@ module _ (request : Request) where
 a_batch_is_not_built : (batch : BatchRequest) → is_built_form (bench_for (work.Batch batch) (one_field forms.None)) ≡ false
 a_batch_is_not_built batch = refl
 
+-- {"kind":"object","name":"U","key":"a","fields":[{"name":"a","type":"Int","answer":{"member":"a"}}]}
+abbrev keyed : TypeForm
+keyed = types.Object (record { name = codes "U"; interfaces = []; key = Some (codes "a"); fields = (codes "a", field_by (forms.Member (codes "a"))) ∷ [] })
+
+-- a schema with that entity, federation and the entity rule
+abbrev federated : SchemaForm
+federated = record {
+  query = codes "Q";
+  mutation = None;
+  subscription = None;
+  types = one_field forms.None ++ keyed ∷ [];
+  settings = record { depth = None; directives = None; introspection = Enabled; federation = true; entities = true };
+}
+
+abbrev federated_bench : WorkForm → BenchForm
+federated_bench for_work =
+    let bench = bench_for for_work [] in
+    record bench { setup = record bench.setup { schema = federated } }
+
+federation_is_built : (request : Request) → is_built_form (federated_bench (work.One request)) ≡ true
+federation_is_built request = search (rules, answered_lemmas)
+
+entity_rule_comes_last : schema_rules federated ≡ rule_by kinds.None ∷ rule_by (kinds.Member (codes "a")) ∷ rule_by kinds.Entities ∷ []
+entity_rule_comes_last = search (rules, answered_lemmas)
+
+entities_have_its_number : entities_in federated ≡ Some 2
+entities_have_its_number = refl
+
+no_entity_rule_unless_set : schema_rules (record federated { settings = record federated.settings { entities = false } })
+    ≡ rule_by kinds.None ∷ rule_by (kinds.Member (codes "a")) ∷ []
+no_entity_rule_unless_set = search (rules, answered_lemmas)
+
 -- what is asked of a resolver
 abbrev call : ℕ → Call ℤ
 call resolver = record {
@@ -153,6 +188,46 @@ no_delay_without_a_rule = refl
 too_much : table_answer (rule_by (kinds.Sum (record { names = codes "most" ∷ [] } ∷ record { names = codes "o" ∷ codes "n" ∷ [] } ∷ [])) ∷ []) (call 0) cells
     ≡ record { result = Err (plain_error (codes "overflow")); added = []; headers = [] }
 too_much = search (rules, value_lemmas)
+
+-- {"__typename":"U","a":1}
+abbrev representation : Value
+representation = value.Object ((codes "__typename", value.String (codes "U")) ∷ (codes "a", value.Number (pos 1)) ∷ [])
+
+-- what the entity rule gives where the representations are this
+abbrev entities_for : Value → Outcome
+entities_for given = entities_outcome ((codes "representations", given) ∷ [])
+
+abbrev one_entity : Outcome
+one_entity = Ok (Some (given.List (given.WithType (given.Value representation) (codes "U") ∷ [])))
+
+abbrev without_type : Outcome
+without_type = Err (plain_error (codes "internal: key \"__typename\" not found"))
+
+entities_of_a_list : entities_for (value.List (representation ∷ [])) ≡ one_entity
+entities_of_a_list = search (rules, value_lemmas)
+
+one_counts_as_a_list : entities_for representation ≡ one_entity
+one_counts_as_a_list = search (rules, value_lemmas)
+
+no_representations : entities_for (value.List []) ≡ Ok (Some (given.List []))
+no_representations = search (rules, value_lemmas)
+
+one_lacks_its_type : entities_for (value.List (representation ∷ value.Object [] ∷ [])) ≡ without_type
+one_lacks_its_type = search (rules, value_lemmas)
+
+a_type_that_is_no_text : entities_for (value.List (value.Object ((codes "__typename", value.Number (pos 1)) ∷ []) ∷ [])) ≡ without_type
+a_type_that_is_no_text = search (rules, value_lemmas)
+
+null_is_no_representation : entities_for value.Null ≡ without_type
+null_is_no_representation = search (rules, value_lemmas)
+
+nothing_is_given : entities_outcome [] ≡ without_type
+nothing_is_given = refl
+
+-- the field beneath an entity has the representation as its parent
+member_of_an_entity : table_answer (rule_by (kinds.Member (codes "a")) ∷ []) (record (call 0) { parent = given.Value representation }) cells
+    ≡ plain_answer (Some (given.Value (value.Number (pos 1))))
+member_of_an_entity = search (rules, value_lemmas)
 
 -- the cells of a bench of two
 within_two : list_all (rule_below 2) three_rules ≡ true

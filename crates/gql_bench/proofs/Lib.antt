@@ -1,5 +1,6 @@
 mod BenchRows
 mod CellLemmas
+mod EntityLaws
 mod FreshLemmas
 mod ReadingLemmas
 mod RecordTextLemmas
