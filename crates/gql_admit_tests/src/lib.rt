@@ -15,5 +15,3 @@ mod shared;
 mod short_form;
 #[cfg(test)]
 mod tests;
-#[cfg(test)]
-mod uses_tests;
