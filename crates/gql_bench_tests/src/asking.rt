@@ -89,38 +89,8 @@ fn push_given(out: &mut String, given: &FieldValue<i64>) -> Made<()> {
     match given {
         FieldValue::Value(value) => push_json(out, value),
         FieldValue::Own(own) => push_own(out, *own),
-        FieldValue::List(items) => push_list(out, items.as_slice()),
-        FieldValue::WithType { value, ty } => push_typed(out, ty.as_str(), value.get()),
-    }
-}
-
-/// How many items there are, and each.
-fn push_list(out: &mut String, items: &[FieldValue<i64>]) -> Made<()> {
-    push_count(out, items.len())?;
-    for item in items {
-        out.push_str("; ")?;
-        push_item(out, item)?;
-    }
-    Ok(())
-}
-
-/// An item: of a list within, how long it is.
-fn push_item(out: &mut String, item: &FieldValue<i64>) -> Made<()> {
-    match item {
-        FieldValue::Value(value) => push_json(out, value),
-        FieldValue::Own(own) => push_own(out, *own),
         FieldValue::List(items) => push_count(out, items.len()),
-        FieldValue::WithType { value, ty } => push_typed(out, ty.as_str(), value.get()),
-    }
-}
-
-/// What is given with a type: of anything but a value, that there is more.
-fn push_typed(out: &mut String, ty: &str, given: &FieldValue<i64>) -> Made<()> {
-    push_word(out, "a ", ty)?;
-    out.push_str(" of ")?;
-    match given {
-        FieldValue::Value(value) => push_json(out, value),
-        _ => out.push_str("more"),
+        FieldValue::WithType { value: _, ty } => push_word(out, "a ", ty.as_str()),
     }
 }
 

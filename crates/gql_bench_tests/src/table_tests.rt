@@ -21,14 +21,8 @@ const ARGUMENTS: &str = "{\"n\":5,\"o\":{\"p\":{\"q\":-7}},\"most\":922337203685
 const ANSWERS: [(&str, &str); 24] = [
     ("{\"const\":{\"a\":[1,true]}}", "now {\"a\":[1,true]}"),
     ("{\"const\":{\"$own\":-3}}", "now own -3"),
-    (
-        "{\"const\":{\"$list\":[1,{\"$own\":2}]}}",
-        "now list of 2; 1; own 2",
-    ),
-    (
-        "{\"const\":{\"$type\":\"T\",\"of\":null}}",
-        "now a T of null",
-    ),
+    ("{\"const\":{\"$list\":[1,{\"$own\":2}]}}", "now list of 2"),
+    ("{\"const\":{\"$type\":\"T\",\"of\":null}}", "now a T"),
     ("{\"none\":true}", "now none"),
     ("{\"fail\":\"oops\"}", "0 error oops"),
     ("{\"member\":\"name\"}", "now \"Ann\""),
@@ -96,7 +90,7 @@ fn value(alloc: Global, text: &str) -> Made<Option<Value>> {
 }
 
 /// The members of an object.
-pub fn members(alloc: Global, text: &str) -> Made<Option<Pairs<Value>>> {
+fn members(alloc: Global, text: &str) -> Made<Option<Pairs<Value>>> {
     match value(alloc, text)? {
         Some(Value::Object(members)) => Ok(Some(members)),
         _ => Ok(None),
