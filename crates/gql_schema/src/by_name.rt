@@ -86,14 +86,15 @@ impl<T: Named + Drop> ByName<T> {
         self.pairs.add(name, item)
     }
 
-    /// Adds an item whose name isn't there yet, at the end.
-    #[tactic(auto, using(crate::proofs::ByNameLemmas::put_fresh))]
+    /// Adds an item whose name isn't there yet, at the end, and looks no name up.
+    #[tactic(auto, using(crate::proofs::ByNameLemmas::added_keyed))]
     pub fn add(&mut self, alloc: Global, item: T) -> Made<()>
         requires { under (T.name_of item) self.old ≡ None }
         ensures added { OnOk result (self.new ≡ self.old ++ (T.name_of item, item) ∷ []) }
         ensures err { OnErr result (self.new ≡ self.old) }
     {
-        self.put(alloc, item)
+        let name = Name::new(alloc, item.own_name())?;
+        self.pairs.add_fresh(name, item)
     }
 }
 
