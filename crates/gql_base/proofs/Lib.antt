@@ -1,6 +1,7 @@
 pub mod SendLemmas
 pub mod PairLemmas
 pub mod NamesLemmas
+pub mod ChainLemmas
 pub mod PlacesLemmas
 pub mod SeparatedLemmas
 pub mod JsonLemmas

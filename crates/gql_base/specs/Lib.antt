@@ -12,6 +12,7 @@ pub mod PathSegment
 pub mod Kinds
 pub mod Names
 pub mod NamesKept
+pub mod Chains
 pub mod Places
 pub mod ErrorExtensionValues
 pub mod ErrorExtensions

@@ -2,6 +2,7 @@
 #![tactic(auto)]
 
 mod boxed;
+mod chains;
 mod copied;
 mod equal;
 mod error;

@@ -108,7 +108,7 @@ impl Names {
     {
         match &self.kept {
             Kept::Few(list) => place_in(list.as_slice(), name),
-            Kept::Many(indexed) => indexed.places.get(name),
+            Kept::Many(indexed) => indexed.places.get(indexed.list.as_slice(), name),
         }
     }
 
@@ -122,7 +122,7 @@ impl Names {
 
     /// Adds a name that isn't there, at the end, and looks no name up. Where memory is wanting the
     /// names stay as they were.
-    #[tactic(auto, using(crate::proofs::NamesLemmas::distinct_added, crate::proofs::NamesLemmas::distinct_pushed, crate::proofs::PlacesLemmas::bounded_less))]
+    #[tactic(auto, using(crate::proofs::NamesLemmas::distinct_added, crate::proofs::NamesLemmas::distinct_pushed))]
     pub fn add_fresh(&mut self, name: Name) -> Made<()>
         requires { place_of name self.old ≡ None }
         ensures ok { OnOk result (self.new ≡ self.old ++ name ∷ []) }
@@ -153,7 +153,7 @@ impl Names {
     }
 }
 
-/// A copy keeps the index of places, and looks no name up.
+/// A copy puts its names into an index of its own, and looks no name up.
 impl Copied for Names {
     fn try_clone(&self, alloc: Global) -> Made<Names> {
         let list = copies(alloc, self.as_slice())?;
@@ -162,7 +162,7 @@ impl Copied for Names {
                 kept: Kept::Few(list),
             }),
             Kept::Many(indexed) => {
-                let places = indexed.places.try_clone()?;
+                let places = Places::of(alloc, list.as_slice())?;
                 let indexed = Box::new(alloc, Indexed { list, places })?;
                 Ok(Names {
                     kept: Kept::Many(indexed),

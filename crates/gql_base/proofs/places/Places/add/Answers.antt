@@ -1,8 +1,9 @@
-use Rattle.std.proofs.Common.{length, refl}
-use Rattle.gql_base.proofs.PlacesLemmas.{index_pushed}
+use Rattle.std.proofs.Common.{subst}
+use Rattle.gql_base.specs.Places.{IsIndex}
+use Rattle.gql_base.proofs.PlacesLemmas.{tree_more}
 use Rattle.gql_base.proofs.places.Places.add.Goals as goal
 
-pub returns-clause-ok : goal.returns-clause-ok
-returns-clause-ok c =
-    index_pushed c.make_room.new.self c.insert.new.self c.args.names.now c.args.name.now (length c.args.names.now) refl c.requires.fresh
-    c.in_ok-make_room.ensures.places c.in_ok-make_room.ensures.bound c.in_ok-insert.ensures.ok c.in_ok-insert.ensures.form
+pub returns-in-Ordered-clause-ok : goal.returns-in-Ordered-clause-ok
+returns-in-Ordered-clause-ok c =
+    tree_more c.insert.result c.in-Ordered.tree c.insert.new.tree c.args.names.now c.args.name.now c.requires.fresh
+    (subst (λ places. IsIndex places c.args.names.now) c.in-Ordered.is c.in_ok-make_room.ensures) c.insert.ensures.ok
