@@ -1,6 +1,8 @@
 ghost use Rattle.std.specs.Prelude.{◌≡◌, [], ◌∷◌, ◌++◌, ◌<◌, length, slice_get, IfOk, IfSome, OnOk};
 ghost use Rattle.std.specs.Prelude.{OnErr, Some, None};
 ghost use Rattle.gql_base.specs.Names.{place_of, AreDistinct};
+ghost use Rattle.std.specs.Arc.{arc_value};
+ghost use Rattle.gql_base.specs.NamesKept.{IsKept, kept_names};
 ghost use Rattle.gql_base.specs.Places.{IsIndex};
 
 use crate::copied::{Copied, copies};
@@ -9,7 +11,7 @@ use crate::name::Name;
 use crate::places::Places;
 use std::alloc::Global;
 use std::marker::Model;
-use std::mem;
+use std::sync::Arc;
 
 /// The most names that are searched in order.
 const FEW: usize = 8;
@@ -20,11 +22,13 @@ pub struct Names {
     kept: Kept,
 }
 
-/// A few names are searched in order; more stand beside an index of their places.
+/// A few names are searched in order, whether copies share them or not; more stand beside an index
+/// of their places, and copies share both.
 #[derive(Debug, Drop)]
 enum Kept {
-    Few(Vec<Name>),
-    Many(Box<Indexed>),
+    Own(Vec<Name>),
+    Shared(Arc<Vec<Name>>),
+    Many(Arc<Indexed>),
 }
 
 /// Names beside the place of each.
@@ -56,7 +60,7 @@ impl Names {
         ensures { result ≡ [] }
     {
         Names {
-            kept: Kept::Few(Vec::new(alloc)),
+            kept: Kept::Own(Vec::new(alloc)),
         }
     }
 
@@ -66,17 +70,46 @@ impl Names {
     {
         let list = Vec::with_capacity(alloc, room)?;
         Ok(Names {
-            kept: Kept::Few(list),
+            kept: Kept::Own(list),
         })
     }
 
-    /// Takes room for more names.
+    /// Takes room for more names, where no copy shares these.
     pub fn reserve(&mut self, more: usize) -> Made<()>
         ensures { self.new ≡ self.old }
     {
         match &mut self.kept {
-            Kept::Few(list) => list.reserve(more),
-            Kept::Many(indexed) => indexed.list.reserve(more),
+            Kept::Own(list) => list.reserve(more),
+            Kept::Shared(_) | Kept::Many(_) => Ok(()),
+        }
+    }
+
+    /// The same names, which copies share from here on.
+    pub fn shared(self, alloc: Global) -> Made<Names>
+        ensures { IfOk result (λ names. names ≡ self) }
+    {
+        match self.kept {
+            Kept::Own(list) => Ok(Names {
+                kept: Kept::Shared(Arc::new(alloc, list)?),
+            }),
+            kept => Ok(Names { kept }),
+        }
+    }
+
+    /// The names in order, moved, or copies of them where others share them.
+    pub fn into_vec(self, alloc: Global) -> Made<Vec<Name>>
+        ensures { IfOk result (λ names. names.items ≡ self) }
+    {
+        match self.kept {
+            Kept::Own(list) => Ok(list),
+            Kept::Shared(list) => match Arc::try_unwrap(list) {
+                Ok(list) => Ok(list),
+                Err(list) => copies(alloc, list.as_slice()),
+            },
+            Kept::Many(indexed) => match Arc::try_unwrap(indexed) {
+                Ok(indexed) => Ok(indexed.list),
+                Err(indexed) => copies(alloc, indexed.list.as_slice()),
+            },
         }
     }
 
@@ -86,7 +119,8 @@ impl Names {
         ensures distinct { AreDistinct self.now }
     {
         match &self.kept {
-            Kept::Few(list) => list.len(),
+            Kept::Own(list) => list.len(),
+            Kept::Shared(list) => list.len(),
             Kept::Many(indexed) => indexed.list.len(),
         }
     }
@@ -96,7 +130,8 @@ impl Names {
         ensures { result.now ≡ self.now }
     {
         match &self.kept {
-            Kept::Few(list) => list.as_slice(),
+            Kept::Own(list) => list.as_slice(),
+            Kept::Shared(list) => list.as_slice(),
             Kept::Many(indexed) => indexed.list.as_slice(),
         }
     }
@@ -107,7 +142,8 @@ impl Names {
         ensures within { IfSome result (λ place. place < length self.now) }
     {
         match &self.kept {
-            Kept::Few(list) => place_in(list.as_slice(), name),
+            Kept::Own(list) => place_in(list.as_slice(), name),
+            Kept::Shared(list) => place_in(list.as_slice(), name),
             Kept::Many(indexed) => indexed.places.get(indexed.list.as_slice(), name),
         }
     }
@@ -129,46 +165,34 @@ impl Names {
         ensures err { OnErr result (self.new ≡ self.old) }
     {
         match &mut self.kept {
-            Kept::Few(list) => {
-                if list.len() < FEW {
-                    list.push(name)?;
-                    return Ok(());
-                }
-                let alloc = *list.allocator();
-                let places = Places::of(alloc, list.as_slice())?;
-                let mut indexed = Box::new(
-                    alloc,
-                    Indexed {
-                        list: Vec::new(alloc),
-                        places,
-                    },
-                )?;
-                mem::swap(&mut indexed.list, list);
-                let added = indexed.add(name);
-                self.kept = Kept::Many(indexed);
-                added
+            Kept::Own(list) if list.len() < FEW => {
+                list.push(name)?;
+                Ok(())
             }
-            Kept::Many(indexed) => indexed.add(name),
+            Kept::Own(list) => {
+                let alloc = *list.allocator();
+                self.kept = kept_with(alloc, copies(alloc, list.as_slice())?, name)?;
+                Ok(())
+            }
+            Kept::Shared(list) => {
+                let alloc = *list.allocator();
+                self.kept = kept_with(alloc, copies(alloc, list.as_slice())?, name)?;
+                Ok(())
+            }
+            Kept::Many(indexed) => add_to(indexed, name),
         }
     }
 }
 
-/// A copy puts its names into an index of its own, and looks no name up.
+/// A copy shares names that are shared.
 impl Copied for Names {
     fn try_clone(&self, alloc: Global) -> Made<Names> {
-        let list = copies(alloc, self.as_slice())?;
-        match &self.kept {
-            Kept::Few(_) => Ok(Names {
-                kept: Kept::Few(list),
-            }),
-            Kept::Many(indexed) => {
-                let places = Places::of(alloc, list.as_slice())?;
-                let indexed = Box::new(alloc, Indexed { list, places })?;
-                Ok(Names {
-                    kept: Kept::Many(indexed),
-                })
-            }
-        }
+        let kept = match &self.kept {
+            Kept::Own(list) => Kept::Own(copies(alloc, list.as_slice())?),
+            Kept::Shared(list) => Kept::Shared(Arc::try_clone(list)?),
+            Kept::Many(indexed) => Kept::Many(Arc::try_clone(indexed)?),
+        };
+        Ok(Names { kept })
     }
 }
 
@@ -188,6 +212,16 @@ impl PartialEq for Names {
 }
 
 impl Indexed {
+    /// Some names with an index of their places.
+    fn of(alloc: Global, list: Vec<Name>) -> Made<Indexed>
+        requires { AreDistinct list.items }
+        ensures list { IfOk result (λ indexed. indexed.list.items ≡ list.items) }
+        ensures index { IfOk result (λ indexed. IsIndex indexed.places list.items) }
+    {
+        let places = Places::of(alloc, list.as_slice())?;
+        Ok(Indexed { list, places })
+    }
+
     /// Adds a name that isn't there, with its place.
     fn add(&mut self, name: Name) -> Made<()>
         requires fresh { place_of name self.old.list.items ≡ None }
@@ -202,6 +236,45 @@ impl Indexed {
         self.places.add(alloc, self.list.as_slice(), name.as_str())?;
         self.list.push_reserved(name);
         Ok(())
+    }
+}
+
+/// Names that differ, with one more that differs from them.
+fn kept_with(alloc: Global, mut list: Vec<Name>, name: Name) -> Made<Kept>
+    requires fresh { place_of name list.items ≡ None }
+    requires distinct { AreDistinct list.items }
+    ensures names { IfOk result (λ kept. kept_names kept ≡ list.items ++ name ∷ []) }
+    ensures kept { IfOk result IsKept }
+{
+    if list.len() < FEW {
+        list.push(name)?;
+        return Ok(Kept::Own(list));
+    }
+    let mut indexed = Indexed::of(alloc, list)?;
+    indexed.add(name)?;
+    Ok(Kept::Many(Arc::new(alloc, indexed)?))
+}
+
+/// Adds a name that isn't there. Where copies share the names, they are copied first.
+fn add_to(indexed: &mut Arc<Indexed>, name: Name) -> Made<()>
+    requires fresh { place_of name (arc_value indexed.old).list.items ≡ None }
+    requires distinct { AreDistinct (arc_value indexed.old).list.items }
+    requires index { IsIndex (arc_value indexed.old).places (arc_value indexed.old).list.items }
+    ensures ok { OnOk result ((arc_value indexed.new).list.items
+        ≡ (arc_value indexed.old).list.items ++ name ∷ []) }
+    ensures err { OnErr result ((arc_value indexed.new).list.items
+        ≡ (arc_value indexed.old).list.items) }
+    ensures index { IsIndex (arc_value indexed.new).places (arc_value indexed.new).list.items }
+{
+    match Arc::get_mut(indexed) {
+        Some(own) => own.add(name),
+        None => {
+            let alloc = *indexed.list.allocator();
+            let mut own = Indexed::of(alloc, copies(alloc, indexed.list.as_slice())?)?;
+            own.add(name)?;
+            *indexed = Arc::new(alloc, own)?;
+            Ok(())
+        }
     }
 }
 

@@ -137,6 +137,15 @@ impl<T> Pairs<T> {
 }
 
 impl<T: Drop> Pairs<T> {
+    /// The same pairs, whose names copies share from here on.
+    pub fn shared(self, alloc: Global) -> Made<Pairs<T>>
+        ensures { IfOk result (λ pairs. pairs ≡ self) }
+    {
+        let Pairs { names, values } = self;
+        let names = names.shared(alloc)?;
+        Ok(Pairs { names, values })
+    }
+
     /// No pair at all, with room for some.
     pub fn with_capacity(alloc: Global, room: usize) -> Made<Pairs<T>>
         ensures { IfOk result (λ made. made ≡ []) }

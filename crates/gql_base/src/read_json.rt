@@ -122,7 +122,7 @@ fn read_any(alloc: Global, form: EnumForm, json: &serde_json::Value) -> Result<V
                 return read_enum(alloc, members);
             }
             let pairs = read_members(alloc, form, members)?;
-            Ok(Value::Object(pairs))
+            Ok(Value::Object(pairs.shared(alloc)?))
         }
     }
 }
