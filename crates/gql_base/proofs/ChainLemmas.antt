@@ -137,7 +137,7 @@ pub linked_added : (heads before new_heads new_before : List (Option ℕ)) (name
 linked_added heads before new_heads new_before names name chain last set linked chained first heads_are set_is before_is =
     let more = linked_more heads before names name last linked (ap (slice_get heads) (sym chained) ∙ first) in
     let whole : slice_set heads (chain_of name (length heads)) (Some (length names)) ≡ new_heads =
-        ap (λ k. slice_set heads k (Some (length names))) (sym chained) ∙ ap (slice_set heads chain) (sym set_is) ∙ sym heads_are in
+    ap (λ k. slice_set heads k (Some (length names))) (sym chained) ∙ ap (slice_set heads chain) (sym set_is) ∙ sym heads_are in
     subst (λ hs. AreLinked hs new_before (names ++ name ∷ [])) whole
     (subst (λ bs. AreLinked (slice_set heads (chain_of name (length heads)) (Some (length names))) bs (names ++ name ∷ [])) (sym before_is) more)
 
@@ -201,7 +201,7 @@ place_named name (other ∷ names) place found =
     → slice_get (other ∷ names) place ≡ Some name in
     (elim (bytes_eq name other) as P [
       | true ↦ λ same h. (let zeroth : 0 ≡ place = some_same 0 place h in
-      subst (λ p. slice_get (other ∷ names) p ≡ Some name) zeroth (ap Some (sym (same refl))))
+          subst (λ p. slice_get (other ∷ names) p ≡ Some name) zeroth (ap Some (sym (same refl))))
       | false ↦ λ same h. place_behind name other names place (place_of name names) (λ k is. place_named name names k is) h
     ]) (bytes_decides name other).0 found
 

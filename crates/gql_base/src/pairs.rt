@@ -124,6 +124,14 @@ impl<T> Pairs<T> {
         (names, values)
     }
 
+    /// Names and as many values, moved: each value stands under the name in its place.
+    pub fn from_parts(names: Names, values: Vec<T>) -> Pairs<T>
+        requires { length values.items ≡ length names }
+        ensures { result ≡ zip names values.items }
+    {
+        Pairs { names, values }
+    }
+
     /// The same names with other values, each in the place of the one it stands for. No name is
     /// looked up.
     pub fn with_values<U: Drop>(&self, alloc: Global, values: Vec<U>) -> Made<Pairs<U>>

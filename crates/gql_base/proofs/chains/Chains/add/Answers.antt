@@ -11,6 +11,6 @@ returns-clause-ok c =
     let within : c.chain_of-chain.result < length c.args.self.now.heads.items = search rules in
     let read : c.replace-last.result ≡ slice_index_or c.args.self.now.heads.items c.chain_of-chain.result c.replace-last.result = search rules in
     let first =
-        slice_get_read c.args.self.now.heads.items (length c.args.self.now.heads.items) c.chain_of-chain.result c.replace-last.result refl within read in
+    slice_get_read c.args.self.now.heads.items (length c.args.self.now.heads.items) c.chain_of-chain.result c.replace-last.result refl within read in
     linked_added c.args.self.now.heads.items c.args.self.now.before.items _ _ c.args.names.now c.args.name.now c.chain_of-chain.result c.replace-last.result
     c.replace-last.new.dest c.requires chained first refl (search rules) (search rules)
