@@ -107,7 +107,10 @@ const USES: [(&str, &str); 29] = [
         "query($v: [Int]) { n(x: {x: 1, l: $v}) }",
         "Variable \"$v\" does not fit argument \"x\". 1:22; ",
     ),
-    ("query($v: [Int!]! = [1]) { n(x: {x: 1, l: $v}) l(x: $v) }", ""),
+    (
+        "query($v: [Int!]! = [1]) { n(x: {x: 1, l: $v}) l(x: $v) }",
+        "",
+    ),
 ];
 
 /// The name of an argument or a field of the input object, its type, and whether 1 is its default.
