@@ -15,3 +15,5 @@ mod shared;
 mod short_form;
 #[cfg(test)]
 mod tests;
+#[cfg(test)]
+mod uses_tests;

@@ -172,5 +172,5 @@ fn respond<R: ResolverSet, P: Turns, S: Ledger>(
         steps.old steps.new }
 {
     let place = run_merged_counted(alloc, scene, resolvers, hooks, turns, steps)?;
-    Ok(response_at(alloc, &place)?)
+    Ok(response_at(alloc, place)?)
 }

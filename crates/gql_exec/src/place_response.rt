@@ -3,18 +3,18 @@ ghost use Rattle.std.specs.Prelude.{◌≡◌, IfOk};
 ghost use Rattle.gql_exec.specs.PlaceResponse.{response_at};
 
 use gql_base::{ErrorExtensionValues, Made};
-use gql_place::{Place, faults, header_ops, raise};
+use gql_place::{Place, faults, header_ops, raise_moved};
 use gql_request::Response;
 use std::alloc::Global;
 
-/// The response of a place: the data that is raised from it, its errors, and what its places do to
-/// the headers of the HTTP response (GraphQL, October 2021, sections 6.4.4 and 7.1).
-pub fn response_at(alloc: Global, place: &Place) -> Made<Response>
-    ensures { IfOk result (λ response. response ≡ response_at place.now) }
+/// The response of a place, which is used up: the data that is raised from it, its errors, and what
+/// its places do to the headers of the HTTP response (GraphQL, October 2021, sections 6.4.4 and 7.1).
+pub fn response_at(alloc: Global, place: Place) -> Made<Response>
+    ensures { IfOk result (λ response. response ≡ response_at place) }
 {
-    let errors = faults(alloc, place)?;
-    let headers = header_ops(alloc, place)?;
-    let result = raise(alloc, place)?;
+    let errors = faults(alloc, &place)?;
+    let headers = header_ops(alloc, &place)?;
+    let result = raise_moved(alloc, place)?;
     Ok(Response {
         result,
         extensions: ErrorExtensionValues::new(alloc),

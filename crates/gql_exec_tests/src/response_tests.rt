@@ -32,14 +32,14 @@ fn object(alloc: Global) -> Made<Place> {
 }
 
 /// The JSON of the response of a place.
-fn json_of_place(alloc: Global, place: &Place) -> Made<Text> {
+fn json_of_place(alloc: Global, place: Place) -> Made<Text> {
     response_at(alloc, place)?.json(alloc)
 }
 
 #[test]
 fn an_item_that_failed(rt: HostRuntime) -> Result<(), Fail> {
     let made = object(rt.alloc())?;
-    let json = json_of_place(rt.alloc(), &made)?;
+    let json = json_of_place(rt.alloc(), made)?;
     assert_eq!(rt;
         json.as_str(),
         "{\"data\":{\"values\":null},\"errors\":[{\"message\":\"bad\",\

@@ -48,38 +48,9 @@ ops_of_object members = search (rules, the_lemmas, members-ops)
 pub ops_of_list : (items : List Place) → tree_ops (tree.List items) ≡ flat_map ops_of items
 ops_of_list items = search (rules, the_lemmas, flat_map_of_map (λ ops. ops) ops_of items)
 
-wanting_behind : (o : Option Value) (rest : List (Option Value)) → all_items rest ≡ None → all_items (o ∷ rest) ≡ None
-wanting_behind None rest none = refl
-wanting_behind (Some v) rest none = ap (with_first v) none
-
--- values, of which one is wanting
-pub some_wanting : {A : Type 0} (f : A → Option Value) (xs : List A) (i : ℕ) (x : A) → slice_get xs i ≡ Some x → f x ≡ None → all_items (map f xs) ≡ None
-some_wanting f [] i x at none = cc
-some_wanting f (y ∷ ys) zero x at none =
-    let same : y ≡ x = cc in
-    let here : f y ≡ None = ap f same ∙ none in
-    ap (λ o. all_items (o ∷ map f ys)) here
-some_wanting f (y ∷ ys) (suc i) x at none = wanting_behind (f y) (map f ys) (some_wanting f ys i x at none)
-
-first_end : (w v : Value) (rest : Option (List Value)) → with_first w (option_map (λ vs. vs ++ v ∷ []) rest) ≡ option_map (λ vs. vs ++ v ∷ []) (with_first w rest)
-first_end w v None = refl
-first_end w v (Some vs) = refl
-
-all_end : (os : List (Option Value)) (v : Value) → all_items (os ++ Some v ∷ []) ≡ option_map (λ vs. vs ++ v ∷ []) (all_items os)
-all_end [] v = refl
-all_end (None ∷ os) v = refl
-all_end (Some w ∷ os) v = ap (with_first w) (all_end os v) ∙ first_end w v (all_items os)
-
 map_end : {A B : Type 0} (f : A → B) (xs : List A) (x : A) → map f (xs ++ x ∷ []) ≡ map f xs ++ f x ∷ []
 map_end f [] x = refl
 map_end f (y ∷ ys) x = ap (λ rest. f y ∷ rest) (map_end f ys x)
-
--- one more value that is there
-pub next_there : {A : Type 0} (f : A → Option Value) (xs : List A) (i : ℕ) (x : A) (vs ws : List Value) (v : Value) → slice_get xs i ≡ Some x
-    → all_items (map f (take i xs)) ≡ Some vs → f x ≡ Some v → ws ≡ vs ++ v ∷ [] → all_items (map f (take (i + 1) xs)) ≡ Some ws
-next_there f xs i x vs ws v at before here step =
-    ap (λ ys. all_items (map f ys)) (next_item xs i x at) ∙ ap all_items (map_end f (take i xs) x ∙ ap (λ o. map f (take i xs) ++ o ∷ []) here)
-    ∙ all_end (map f (take i xs)) v ∙ ap (option_map (λ us. us ++ v ∷ [])) before ∙ ap Some (sym step)
 
 names_kept : (ms : List (List ℕ × Place)) → names_of (map (λ m. (m.0, value_at m.1)) ms) ≡ names_of ms
 names_kept [] = refl

@@ -16,5 +16,5 @@ pub use joining::join;
 pub use place::{Place, Tree};
 pub use place_faults::faults;
 pub use place_headers::header_ops;
-pub use raising::raise;
+pub use raising::{raise, raise_moved};
 pub use shape::Shape;

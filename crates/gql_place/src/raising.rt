@@ -1,7 +1,7 @@
-ghost use Rattle.std.specs.Prelude.{◌≡◌, IfOk};
-ghost use Rattle.gql_place.specs.Raised.{raised, value_at as value_of, tree_value as value_of_tree};
+ghost use Rattle.std.specs.Prelude.{◌≡◌, IfOk, map, option_map};
+ghost use Rattle.gql_place.specs.Raised.{all_items, raised, value_at as value_of};
 ghost use Rattle.gql_place.specs.Raised.{member_values as values_of_members};
-ghost use Rattle.gql_place.specs.Raised.{item_values as values_of_items};
+ghost use Rattle.gql_place.specs.Raised.{tree_value as value_of_tree};
 
 use crate::place::{Place, Tree};
 use gql_base::{Copied, Items, Made, Pairs, Value};
@@ -12,6 +12,13 @@ use std::alloc::Global;
 pub fn raise(alloc: Global, place: &Place) -> Made<Value>
     ensures { IfOk result (λ value. value ≡ raised place.now) }
 {
+    raise_moved(alloc, place.try_clone(alloc)?)
+}
+
+/// The same of a place that is used up: the values in it are moved and not copied.
+pub fn raise_moved(alloc: Global, place: Place) -> Made<Value>
+    ensures { IfOk result (λ value. value ≡ raised place) }
+{
     match value_at(alloc, place)? {
         Some(value) => Ok(value),
         None => Ok(Value::Null),
@@ -20,10 +27,10 @@ pub fn raise(alloc: Global, place: &Place) -> Made<Value>
 
 /// The value of a place, or none where it fails and can't be null.
 #[cycle(raise)]
-fn value_at(alloc: Global, place: &Place) -> Made<Option<Value>>
-    ensures { IfOk result (λ value. value ≡ value_of place.now) }
+fn value_at(alloc: Global, place: Place) -> Made<Option<Value>>
+    ensures { IfOk result (λ value. value ≡ value_of place) }
 {
-    match tree_value(alloc, &place.tree)? {
+    match tree_value(alloc, place.tree)? {
         Some(value) => Ok(Some(value)),
         None if place.non_null => Ok(None),
         None => Ok(Some(Value::Null)),
@@ -31,46 +38,44 @@ fn value_at(alloc: Global, place: &Place) -> Made<Option<Value>>
 }
 
 #[cycle(raise)]
-fn tree_value(alloc: Global, tree: &Tree) -> Made<Option<Value>>
-    ensures { IfOk result (λ value. value ≡ value_of_tree tree.now) }
+fn tree_value(alloc: Global, tree: Tree) -> Made<Option<Value>>
+    ensures { IfOk result (λ value. value ≡ value_of_tree tree) }
 {
     match tree {
         Tree::Absent => Ok(Some(Value::Null)),
-        Tree::Leaf(value) => Ok(Some(value.try_clone(alloc)?)),
+        Tree::Leaf(value) => Ok(Some(value)),
         Tree::Fault(_) => Ok(None),
         Tree::Object(members) => match member_values(alloc, members)? {
             Some(values) => Ok(Some(Value::Object(values))),
             None => Ok(None),
         },
-        Tree::List(items) => match item_values(alloc, items.as_slice())? {
-            Some(values) => Ok(Some(Value::List(values))),
+        Tree::List(items) => match values_in(alloc, items.into_vec())? {
+            Some(values) => Ok(Some(Value::List(Items::from_vec(values)))),
             None => Ok(None),
         },
     }
 }
 
 #[cycle(raise)]
-fn member_values(alloc: Global, members: &Pairs<Place>) -> Made<Option<Pairs<Value>>>
-    ensures { IfOk result (λ values. values ≡ values_of_members members.now) }
+fn member_values(alloc: Global, members: Pairs<Place>) -> Made<Option<Pairs<Value>>>
+    ensures { IfOk result (λ values. values ≡ values_of_members members) }
 {
-    let mut values = Vec::new(alloc);
-    for index in 0..members.len() {
-        let (_, member) = members.at(index);
-        match value_at(alloc, member)? {
-            Some(value) => values.push(value)?,
-            None => return Ok(None),
-        }
+    let (names, places) = members.into_parts();
+    match values_in(alloc, places)? {
+        Some(values) => Ok(Some(Pairs::from_parts(names, values))),
+        None => Ok(None),
     }
-    Ok(Some(members.with_values(alloc, values)?))
 }
 
+/// The values of some places, all or none.
 #[cycle(raise)]
-fn item_values(alloc: Global, items: &[Place]) -> Made<Option<Items<Value>>>
-    ensures { IfOk result (λ values. values ≡ values_of_items items.now) }
+fn values_in(alloc: Global, places: Vec<Place>) -> Made<Option<Vec<Value>>>
+    ensures { IfOk result (λ values. option_map (λ v. v.items) values
+        ≡ all_items (map value_of places.items)) }
 {
-    let mut values = Items::new(alloc);
-    for item in items {
-        match value_at(alloc, item)? {
+    let mut values = Vec::with_capacity(alloc, places.len())?;
+    for place in places {
+        match value_at(alloc, place)? {
             Some(value) => values.push(value)?,
             None => return Ok(None),
         }

@@ -21,6 +21,8 @@ mod error_tests;
 #[cfg(test)]
 mod fit_tests;
 #[cfg(test)]
+mod many_tests;
+#[cfg(test)]
 mod object_tests;
 #[cfg(test)]
 mod record_tests;

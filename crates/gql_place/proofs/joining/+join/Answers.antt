@@ -3,7 +3,8 @@ use Rattle.std.specs.Vec.Iter.{into_iter_items}
 use Rattle.std.proofs.Math.ListN.{length-set}
 use Rattle.gql_base.specs.Pairs.{names_of, unite, unite_all, values_of}
 use Rattle.gql_place.specs.Join.{join, join_items}
-use Rattle.gql_place.proofs.JoinStepLemmas.{items_weight, joining_ended, joining_step, joined_alone, joined_there, next_left, next_weighs, no_length, nothing_left, object_weighs, tree_weight, uniting_begun, uniting_ended, uniting_over, uniting_step, weight}
+use Rattle.gql_place.proofs.JoinStepLemmas.{joining_ended, joining_step, joined_alone, joined_there, next_left, no_length, nothing_left, uniting_begun, uniting_ended, uniting_over, uniting_step}
+use Rattle.gql_place.proofs.WeightLemmas.{items_weight, next_weighs, object_weighs, tree_weight, weight}
 use Rattle.gql_place.proofs.joining.+join.Goals as goal
 use Rattle.gql_place.proofs.joining.+join.Goals.{join_members-in-Some-get_mut+in_ok-join_onto-in-Some-get_mut, join_members-in-None+in_ok-new-in-None+in_ok-add_fresh-in-None}
 

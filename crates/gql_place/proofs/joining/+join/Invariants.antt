@@ -2,7 +2,8 @@ use Rattle.std.proofs.Common.{◌≡◌, ◌+◌, length, drop}
 use Rattle.std.specs.Vec.Iter.{into_iter_items}
 use Rattle.gql_base.specs.Pairs.{names_of, unite_all, values_of}
 use Rattle.gql_place.specs.Join.{join, join_items}
-use Rattle.gql_place.proofs.JoinStepLemmas.{IsJoining, IsUniting, items_weight, members_weight, tree_weight, weight}
+use Rattle.gql_place.proofs.JoinStepLemmas.{IsJoining, IsUniting}
+use Rattle.gql_place.proofs.WeightLemmas.{items_weight, members_weight, tree_weight, weight}
 use Rattle.gql_place.proofs.joining.+join.Given as goal
 
 abbrev pub invariant-join_members-loop-index : goal.invariant-join_members-loop-index
