@@ -1,5 +1,6 @@
 -- What was run of a request's scene is the execution of the request.
-use Rattle.std.proofs.Common.{◌≡◌, ◌⊎◌, Result, Ok, Err, IfOk, OnErr, inl, inr, refl, ap, sym, ◌∙◌, subst}
+use Rattle.std.proofs.Common.{◌≡◌, ◌⊎◌, Result, Ok, Err, IfErr, IfOk, inl, inr, refl, ap, sym, ◌∙◌, subst}
+use Rattle.gql_base.specs.declared.no_memory.NoMemory.{NoMemory}
 use Rattle.gql_engine.specs.Progress.{Seen}
 use Rattle.gql_engine.specs.declared.scene.Scene.{Scene}
 use Rattle.gql_exec.specs.Bare.{bare_scene}
@@ -30,13 +31,15 @@ module _ {R Own World Future P : Type 0} (set : Resolving R Own World Future) (t
     }
     executes (Err want) runs = tt
 
-    pub halts : (result : Result Response E) → (set.is_lawful old.set → OnErr result (HaltsIn set turns old new (bare_scene scene)))
-        → OnErr result (Stops set turns old new ask)
+  module _ (env : QueryEnv) (object : Object) (scene : Scene Own) (is : IsSet env object scene) where
+    pub halts : (result : Result Response NoMemory)
+        → (set.is_lawful old.set → IfErr result (λ want. HaltsIn set turns old new (bare_scene scene) want.roots))
+        → IfErr result (λ want. Stops set turns old new ask want.roots)
     halts (Ok response) halted = tt
     halts (Err want) halted = inr record {
       env = env;
       object = object;
       ready = is.ready;
       root = is.root;
-      told = λ lawful. subst (λ s. HaltsIn set turns old new s) is.same (halted lawful);
+      told = λ lawful. subst (λ s. HaltsIn set turns old new s want.roots) is.same (halted lawful);
     }
