@@ -1,5 +1,5 @@
 -- The record of a mutation, phase after phase, is one of what its references show.
-use Rattle.std.proofs.Common.{◌≡◌, ◌≤◌, ◌⊎◌, ℕ, zero, suc, List, [], ◌∷◌, ◌++◌, map, length, take, Option, Some, None, option_map, slice_get, inl, inr, refl, ap, sym, ◌∙◌, subst}
+use Rattle.std.proofs.Common.{◌≡◌, ◌≤◌, ◌⊎◌, ℕ, zero, suc, List, [], ◌∷◌, ◌++◌, map, length, take, Option, Some, None, option_map, slice_get, inl, inr, refl, ap, sym, ◌∙◌, subst, arith}
 use Rattle.std.proofs.lemmas.List.{map-append, length-map}
 use Rattle.std.proofs.lemmas.Option.{slice_get-map}
 use Rattle.std.specs.Option.{ForSome}
@@ -14,7 +14,8 @@ use Rattle.gql_exec.proofs.RecordLemmas.{mapped, ran-mapped, staged, stopped-map
 use Rattle.gql_exec.specs.Bare.{bare_job, bare_scene}
 use Rattle.gql_merged.specs.Jobs.{Job}
 use Rattle.gql_merged.specs.Run.{job_subject}
-use Rattle.gql_merged.specs.Serial.{key_jobs, key_work}
+use Rattle.gql_merged.proofs.SerialLemmas.{last_past}
+use Rattle.gql_merged.specs.Serial.{key_jobs, key_work, last_world_of}
 use Rattle.gql_resolve.specs.declared.record_entry.RecordEntry.{RecordEntry}
 use Rattle.gql_resolve.specs.declared.resolver_set.ResolverSet.{Ghosts as Resolving}
 use Rattle.gql_resolve.specs.declared.turns.Turns.{Ghosts as Choosing}
@@ -52,6 +53,10 @@ module _ {V W State : Type 0} (serving : Serving V W) (choice : Choice State) wh
       at k u later None stands is = cc
       at k u later (Some job) stands is = let e : bare_job job ≡ u = cc in since.paced k job later stands ∙ ap (λ j. pending_then_ready (pace j)) e
 
+  so-far-bare : (first : ℕ) (root : Job V) (entries : List RecordEntry) → PacedSinceSoFar first pace root entries
+      → PacedSinceSoFar first pace (bare_job root) entries
+  so-far-bare first root entries since = record { earlier = since.earlier; paced = since.paced }
+
   module _ (world : W) (root : Job V) (old : Stage (Job V) State) where
     phase-bare : (new : Stage (Job V) State) → IsPhase serving job_subject choice world root old new
         → IsPhase serving job_subject choice world (bare_job root) (staged bare_job old) (staged bare_job new)
@@ -70,7 +75,7 @@ module _ {V W State : Type 0} (serving : Serving V W) (choice : Choice State) wh
       stopped = stopped-mapped choice (story world root) (story world root) bare_job (λ job. refl) (λ job. refl) (below world root) (with_root old root)
           (after_root (mapped bare_job old.made) (bare_job root)) (root-staged old.made root) told starts phase.stopped;
       paces = λ keeps before is. subst (λ first. PacedSinceSoFar first pace (bare_job root) phase.stopped.entries)
-          (sym (length-map old.made.tasks bare_job)) (phase.paces keeps before is);
+          (sym (length-map old.made.tasks bare_job)) (so-far-bare (length old.made.tasks) root phase.stopped.entries (phase.paces keeps before is));
     }
 
   phases-bare : (world : W) (roots : List (Job V)) (old new : Stage (Job V) State) → Phases serving job_subject choice world roots old new
@@ -136,3 +141,16 @@ module _ {R Own World Future P : Type 0} (set : Resolving R Own World Future) (t
             ∙ ap (world_past serving job_subject (set.world old.set)) (map-take bare_job roots (key_jobs scene))
             ∙ past-bare serving (choice_by turns) (set.world old.set) (take roots (key_jobs scene)));
       }
+
+  take-all : {A : Type 0} (xs : List A) → take (length xs) xs ≡ xs
+  take-all [] = refl
+  take-all (x ∷ xs) = ap (λ ys. x ∷ ys) (take-all xs)
+
+  -- where all root keys have their effect, as many stand
+  pub all_stand : (roots : ℕ) → roots ≡ length (key_jobs scene) → set.world new.set ≡ last_world_of scene (set.effect (set.rules old.set)) (set.world old.set)
+      → RootsStand set turns (key_work scene) old new roots
+  all_stand roots all world = record {
+    within = let e : roots ≡ length (key_jobs scene) = all in omega arith;
+    world = world ∙ sym (last_past scene serving (set.world old.set))
+        ∙ sym (ap (world_past serving job_subject (set.world old.set)) (ap (λ n. take n (key_jobs scene)) all ∙ take-all (key_jobs scene)));
+  }

@@ -106,7 +106,7 @@ module _ {Task Other State : Type 0} (choice : Choice State) (one : Story Task) 
     (resolvers : (task : Task) → other.resolver (f task) ≡ one.resolver task) (paths : (task : Task) → other.path (f task) ≡ one.path task)
     (beneath : (task : Task) → other.beneath (f task) ≡ map f (one.beneath task)) (old : Stage Task State) (made : Made Other)
     (begun : mapped f old.made ≡ made) where
-  pub ran-mapped : (new : Stage Task State) → Ran choice one old new → Ran choice other (with_made old made) (staged f new)
+  abbrev pub ran-mapped : (new : Stage Task State) → Ran choice one old new → Ran choice other (with_made old made) (staged f new)
   ran-mapped new ran = record {
     entries = ran.entries;
     told_is = ran.told_is;
@@ -123,7 +123,7 @@ module _ {Task Other State : Type 0} (choice : Choice State) (one : Story Task) 
         ∙ ap (λ m. made_at other m ran.entries) begun;
   }
 
-  pub stopped-mapped : (told : Option (List RecordEntry)) (starts : Option (List ℕ)) → Stopped choice one old told starts
+  abbrev pub stopped-mapped : (told : Option (List RecordEntry)) (starts : Option (List ℕ)) → Stopped choice one old told starts
       → Stopped choice other (with_made old made) told starts
   stopped-mapped told starts stopped = record {
     entries = stopped.entries;

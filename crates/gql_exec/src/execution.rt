@@ -194,7 +194,10 @@ fn respond_at_once<R: ResolverSet, P: Turns, S: Ledger>(
         steps.old steps.new }
 {
     let place = run_merged_counted(alloc, scene, resolvers, hooks, turns, steps)?;
-    Ok(response_at(alloc, place)?)
+    match response_at(alloc, place) {
+        Ok(response) => Ok(response),
+        Err(_) => Err(NoMemory { roots: 0 }),
+    }
 }
 
 /// The same of a mutation, whose root keys are answered one after another.
