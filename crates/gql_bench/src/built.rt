@@ -79,7 +79,7 @@ fn is_subscription(form: &TypeForm) -> bool
 }
 
 /// Whether a rule changes a cell.
-fn bumps(rule: &Rule) -> bool
+pub(crate) fn bumps(rule: &Rule) -> bool
     ensures { result ≡ bumps rule.now }
 {
     match &rule.kind {

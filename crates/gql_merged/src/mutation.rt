@@ -28,10 +28,11 @@ use std::collections::VecDeque;
 use std::rc::Rc;
 use std::sync::ledger::Ledger;
 
-/// The place of the whole response of a mutation, and how many root keys have their effect: each is
-/// answered alone, with its effect on the world, and then all beneath it in the world that it leaves;
-/// the next one goes on from there, also after a failure. Want of memory tells how many root keys
-/// have their effect by then.
+/// The place of the whole response of a mutation, and the number of its root keys that asked an
+/// answer: whoever goes on from there can tell which effects stand. Each root key is answered alone,
+/// with its effect on the world, and then all beneath it in the world that it leaves; the next one
+/// goes on from there, also after a failure. Want of memory tells how many root keys have their
+/// effect.
 pub fn run_mutation_counted<R: ResolverSet, H: Rounds, P: Turns, S: Ledger>(
     alloc: Global,
     scene: &Scene<'_, R::Own>,
@@ -42,10 +43,10 @@ pub fn run_mutation_counted<R: ResolverSet, H: Rounds, P: Turns, S: Ledger>(
 ) -> Result<(Place, u64), NoMemory>
     requires { is_mutation scene.now.env.now.operation.node.ty ≡ true }
     ensures places { R.is_lawful resolvers.old → H.are_quiet hooks.old → (n : ℕ)
-        → Nests scene.now n → IfOk result (λ done. done.0
+        → Nests scene.now n → IfOk result (λ run. run.0
         ≡ serial_response scene.now (R.answer (R.rules resolvers.old))
         (R.effect (R.rules resolvers.old)) (R.world resolvers.old) n) }
-    ensures keys { IfOk result (λ done. done.1 ≡ length (key_work scene.now).first) }
+    ensures count { IfOk result (λ run. run.1 ≡ length (key_work scene.now).first) }
     ensures rules { R.rules resolvers.new ≡ R.rules resolvers.old }
     ensures lawful { R.is_lawful resolvers.old → R.is_lawful resolvers.new }
     ensures world { R.is_lawful resolvers.old → H.are_quiet hooks.old → OnOk result
@@ -80,23 +81,23 @@ pub fn run_mutation_counted<R: ResolverSet, H: Rounds, P: Turns, S: Ledger>(
     place_of_keys(alloc, scene.env.operation.pos, &root, own)
 }
 
-/// The place of the root, of the places of its keys, and how many they are.
+/// The place of the root, of the places of its keys, and their number.
 fn place_of_keys<'a, V: Drop>(
     alloc: Global,
     pos: Pos,
     root: &Rc<Parent<'a, V>>,
     own: Vec<Option<Place>>,
 ) -> Result<(Place, u64), NoMemory>
-    ensures place { IfOk result (λ done. done.0 ≡ root_place pos
+    ensures place { IfOk result (λ run. run.0 ≡ root_place pos
         (members_with (standing_behind root.entry.now).spot.object
         (standing_behind root.entry.now).members (present own.items))) }
-    ensures keys { IfOk result (λ done. done.1 ≡ length own.items) }
+    ensures count { IfOk result (λ run. run.1 ≡ length own.items) }
     ensures roots { IfErr result (λ want. want.roots ≡ length own.items) }
 {
-    let keys = own.len() as u64;
+    let roots = own.len() as u64;
     let mut own = VecDeque::from_vec(own);
     match members_at(alloc, root.level.as_ref(), &mut own) {
-        Ok(members) => Ok((root_with(alloc, pos, members), keys)),
-        Err(_) => Err(NoMemory { roots: keys }),
+        Ok(members) => Ok((root_with(alloc, pos, members), roots)),
+        Err(_) => Err(NoMemory { roots }),
     }
 }

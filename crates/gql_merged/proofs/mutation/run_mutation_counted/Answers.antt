@@ -125,13 +125,14 @@ returns-clause-places g c = λ law calm n nests.
     ∙ ap (λ (s : Standing g.row.R-Own.Denot). root_place scene.env.now.operation.pos (members_with s.spot.object s.members (present c.in_ok-own.own.items))) c.in_ok-root.ensures.stands
     ∙ ap (root_place scene.env.now.operation.pos) (members_in_turn scene serving world c.in_ok-own.own.items n nests placed)) c.place_of_keys.ensures.place
 
-pub returns-clause-keys : goal.returns-clause-keys
-returns-clause-keys g c =
+pub returns-clause-count : goal.returns-clause-count
+returns-clause-count g c =
+    let e = root_parts g.R.ResolverSet (Rattle.gql_merged.specs.contracts.tree_plan.TreePlanPlan.TheImpl.ghosts g.row.R-Own g.R.Own.Destruct-dict) g.H.Rounds g.P.Turns in
     let scene = c.args.scene.now in
     let asked : jobs_in c.from_vec-keys.result.items ≡ key_jobs scene
     = ap jobs_in c.from_vec-keys.ensures.items ∙ c.in_ok-make_tasks.ensures ∙ ap (λ (ts : List (Task g.row.R-Own.Denot)). jobs_in ts ++ jobs_here c.in_ok-root.root.value) c.new-tasks.ensures.items
     ∙ c.in_ok-root.ensures.jobs ∙ mutation_jobs scene c.requires in
-    IfOk-weaker c.place_of_keys.result _ _ (λ done is. is ∙ c.in_ok-own.ensures.count ∙ ap length asked) c.place_of_keys.ensures.keys
+    IfOk-weaker c.place_of_keys.result _ _ (λ run is. is ∙ c.in_ok-own.ensures.count ∙ ap length asked) c.place_of_keys.ensures.count
 
 pub returns-clause-world : goal.returns-clause-world
 returns-clause-world g c = λ law calm.
