@@ -27,7 +27,7 @@ returns-in-Err-clause-halts g c = λ lawful.
     let scene = c.args.scene.now in
     halts_by g.R.ResolverSet g.P.Turns old new (bare_scene scene) true c.requires _
     (stand-bare g.R.ResolverSet g.P.Turns scene old new _
-    (all_stand g.R.ResolverSet g.P.Turns scene old new _ c.in_ok-place.ensures.keys (c.in_ok-place.ensures.world lawful tt)))
+    (all_stand g.R.ResolverSet g.P.Turns scene old new _ c.in_ok-place.ensures.count (c.in_ok-place.ensures.world lawful tt)))
     (inr (in-turn-bare g.R.ResolverSet g.P.Turns scene old new (c.in_ok-place.ensures.«record» lawful tt)))
 
 pub returns-in-Ok-clause-runs : goal.returns-in-Ok-clause-runs
