@@ -77,7 +77,7 @@ pub fn level_of<'a>(
     let nodes = nodes_of(alloc, basis, object, groups)?;
     Ok(Level {
         object: Name::new(alloc, object)?,
-        keys,
+        keys: keys.shared(alloc)?,
         nodes,
     })
 }
