@@ -204,7 +204,7 @@ fn prepare_chosen(
     } = chosen;
     let variables = request.variables.try_clone(alloc)?;
     let definitions = operation.node.variable_definitions.as_slice();
-    let fragments = keep_fragments(alloc, &fragments, definitions, &variables)?;
+    let fragments = keep_fragments(alloc, fragments, definitions, &variables)?;
     let operation = keep_operation(alloc, operation, &variables)?;
     Ok(Ok(QueryEnv::new(
         variables,
@@ -249,22 +249,35 @@ fn keep_operation(
 }
 
 /// The fragments of which the sets are kept.
+#[tactic(auto, using(crate::proofs::FragmentLemmas::kept_whole, crate::proofs::FragmentLemmas::kept_long))]
 fn keep_fragments(
     alloc: Global,
-    fragments: &Pairs<Positioned<FragmentDefinition>>,
+    fragments: Pairs<Positioned<FragmentDefinition>>,
     definitions: &[Positioned<VariableDefinition>],
     variables: &Variables,
 ) -> Made<Pairs<Positioned<FragmentDefinition>>>
     ensures { IfOk result (λ kept. kept
-        ≡ kept_fragments (variable_value variables.now definitions.now) fragments.now) }
+        ≡ kept_fragments (variable_value variables.now definitions.now) fragments) }
+{
+    let (names, fragments) = fragments.into_parts();
+    let kept = keep_each(alloc, fragments, definitions, variables)?;
+    Ok(Pairs::from_parts(names, kept))
+}
+
+fn keep_each(
+    alloc: Global,
+    fragments: Vec<Positioned<FragmentDefinition>>,
+    definitions: &[Positioned<VariableDefinition>],
+    variables: &Variables,
+) -> Made<Vec<Positioned<FragmentDefinition>>>
+    ensures { IfOk result (λ kept. kept.items
+        ≡ map (kept_fragment (variable_value variables.now definitions.now)) fragments.items) }
 {
     let mut kept = Vec::with_capacity(alloc, fragments.len())?;
-    for place in 0..fragments.len() {
-        let (_, fragment) = fragments.at(place);
-        let copy = fragment.try_clone(alloc)?;
-        kept.push(keep_fragment(alloc, copy, definitions, variables)?)?;
+    for fragment in fragments {
+        kept.push(keep_fragment(alloc, fragment, definitions, variables)?)?;
     }
-    fragments.with_values(alloc, kept)
+    Ok(kept)
 }
 
 /// A fragment of which the set is kept.

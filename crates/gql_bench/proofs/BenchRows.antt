@@ -118,8 +118,8 @@ module _ (request : Request) where
   reading_is_built : is_built_form (bench_for (work.One request) (one_field (forms.Read (record { place = 1 })))) ≡ true
   reading_is_built = search (rules, answered_lemmas)
 
-  raising_is_not_built : is_built_form (bench_for (work.One request) (one_field (forms.Bump (record { place = 1 })))) ≡ false
-  raising_is_not_built = search (rules, answered_lemmas)
+  raising_is_built : is_built_form (bench_for (work.One request) (one_field (forms.Bump (record { place = 1 })))) ≡ true
+  raising_is_built = search (rules, answered_lemmas)
 
   a_subscription_is_not_built : is_built_form (bench_for (work.One request) three_types) ≡ false
   a_subscription_is_not_built = refl

@@ -1,4 +1,5 @@
 mod BenchRows
+mod BumpLemmas
 mod CellLemmas
 mod FreshLemmas
 mod ReadingLemmas

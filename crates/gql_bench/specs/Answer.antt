@@ -1,6 +1,6 @@
 -- What a resolver answers to a call in a world of cells, by its rule.
 use Rattle.std.specs.Prelude.{ℕ, ℤ, pos, List, map, Option, Some, None, Ok, Err, option_and_then}
-use Rattle.std.specs.Prelude.{option_map, get_or}
+use Rattle.std.specs.Prelude.{option_map, get_or, if◌then◌else◌}
 use Rattle.gql_base.specs.Kinds.{object_of}
 use Rattle.gql_base.specs.Pairs.{under}
 use Rattle.gql_base.specs.declared.value.Value.{Value}
@@ -11,6 +11,7 @@ use Rattle.gql_resolve.specs.Lawful.{plain_answer}
 use Rattle.gql_resolve.specs.declared.answer.Answer.{Answer}
 use Rattle.gql_resolve.specs.declared.field_value.FieldValue.{FieldValue}
 use Rattle.gql_resolve.specs.declared.field_value.FieldValue.TheVariants as given
+use Rattle.gql_bench.specs.Bump.{bump_outcome}
 use Rattle.gql_bench.specs.Entities.{entities_outcome}
 use Rattle.gql_bench.specs.Outcome.{Outcome, plain_error}
 use Rattle.gql_bench.specs.Sum.{sum_outcome}
@@ -34,7 +35,13 @@ parent_member name parent = option_and_then (given_under name) (parent_members p
 abbrev pub cell_at : ℕ → List ℤ → FieldValue ℤ
 cell_at place cells = given.Value (values.Number (get_or cells place (pos 0)))
 
--- what comes by a rule: `bump` answers as `read` does, as long as mutations aren't built
+-- what comes of the cell that `bump` names: a root of a mutation raises it, others read it
+abbrev pub bump_or_read : ℕ → Call ℤ → List ℤ → Outcome
+bump_or_read place call cells =
+    if call.is_root then bump_outcome call.arguments (get_or cells place (pos 0))
+    else Ok (Some (cell_at place cells))
+
+-- what comes by a rule
 abbrev pub kind_outcome : RuleKind → Call ℤ → List ℤ → Outcome
 kind_outcome (kinds.Const value) call cells = Ok (Some value)
 kind_outcome kinds.None call cells = Ok None
@@ -44,7 +51,7 @@ kind_outcome (kinds.Arg name) call cells = Ok (given_under name call.arguments)
 kind_outcome (kinds.Sum paths) call cells = sum_outcome paths call.arguments
 kind_outcome kinds.Entities call cells = entities_outcome call.arguments
 kind_outcome (kinds.Read place) call cells = Ok (Some (cell_at place cells))
-kind_outcome (kinds.Bump place) call cells = Ok (Some (cell_at place cells))
+kind_outcome (kinds.Bump place) call cells = bump_or_read place call cells
 
 -- the answer by a rule, with the rule's added errors and its headers
 abbrev pub answer_by : Rule → Call ℤ → List ℤ → Answer ℤ

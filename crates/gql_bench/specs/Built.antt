@@ -9,7 +9,6 @@ use Rattle.gql_form.specs.declared.type_form.TypeForm.{TypeForm}
 use Rattle.gql_form.specs.declared.type_form.TypeForm.TheVariants as types
 use Rattle.gql_form.specs.declared.work_form.WorkForm.{WorkForm}
 use Rattle.gql_form.specs.declared.work_form.WorkForm.TheVariants as work
-use Rattle.gql_bench.specs.Rule.{schema_rules}
 use Rattle.gql_bench.specs.declared.bench.Bench.{Bench}
 use Rattle.gql_bench.specs.declared.rule.Rule.{Rule}
 use Rattle.gql_bench.specs.declared.rule.RuleKind.{RuleKind}
@@ -29,7 +28,7 @@ is_subscription _ = false
 abbrev pub has_subscription : SchemaForm → Bool
 has_subscription schema = is_some schema.subscription || list_any is_subscription schema.types
 
--- the rule `bump`
+-- the rule `bump`, by which a resolver may change a cell
 abbrev pub is_bump : RuleKind → Bool
 is_bump (kinds.Bump place) = true
 is_bump _ = false
@@ -43,16 +42,11 @@ abbrev pub is_request : WorkForm → Bool
 is_request (work.One request) = true
 is_request _ = false
 
--- a bench with none of these forms, whatever its rules are
-abbrev pub is_built_but_rules : BenchForm → Bool
-is_built_but_rules form =
-    (not (is_logged form.setup.hooks) && is_request form.work)
-    && not (has_subscription form.setup.schema)
-
 -- a bench with none of these forms
 abbrev pub is_built_form : BenchForm → Bool
 is_built_form form =
-    is_built_but_rules form && not (list_any bumps (schema_rules form.setup.schema))
+    (not (is_logged form.setup.hooks) && is_request form.work)
+    && not (has_subscription form.setup.schema)
 
 -- whether a bench was made of such a form
 abbrev pub is_built : Bench → Bool

@@ -1,6 +1,7 @@
 pub mod Answer
 pub mod Bench
 pub mod Built
+pub mod Bump
 pub mod Cells
 pub mod Entities
 pub mod FieldTable

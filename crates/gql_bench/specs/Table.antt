@@ -3,6 +3,7 @@ use Rattle.std.specs.Prelude.{ℕ, ℤ, List, slice_get}
 use Rattle.gql_resolve.specs.Call.{Call}
 use Rattle.gql_resolve.specs.declared.answer.Answer.{Answer}
 use Rattle.gql_bench.specs.Answer.{rule_answer}
+use Rattle.gql_bench.specs.Bump.{rule_effect}
 use Rattle.gql_bench.specs.Rule.{rule_delay}
 use Rattle.gql_bench.specs.declared.rule.Rule.{Rule}
 
@@ -10,9 +11,9 @@ use Rattle.gql_bench.specs.declared.rule.Rule.{Rule}
 abbrev pub table_answer : List Rule → Call ℤ → List ℤ → Answer ℤ
 table_answer rules call cells = rule_answer (slice_get rules call.resolver) call cells
 
--- the world after a call in a world: as long as mutations aren't built, no rule changes a cell
+-- the world after a call in a world
 abbrev pub table_effect : List Rule → Call ℤ → List ℤ → List ℤ
-table_effect rules call cells = cells
+table_effect rules call cells = rule_effect (slice_get rules call.resolver) call cells
 
 -- the delay of a resolver
 abbrev pub table_delay : List Rule → ℕ → ℕ

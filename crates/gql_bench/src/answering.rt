@@ -4,11 +4,12 @@ ghost use Rattle.std.specs.Option.{option_copied};
 ghost use Rattle.gql_base.specs.Kinds.{object_of};
 ghost use Rattle.gql_resolve.specs.Call.{call_of};
 ghost use Rattle.gql_resolve.specs.FieldValue.{value_in};
-ghost use Rattle.gql_bench.specs.Answer.{answer_by, cell_at, given_under, kind_outcome};
-ghost use Rattle.gql_bench.specs.Answer.{parent_member, parent_members};
+ghost use Rattle.gql_bench.specs.Answer.{answer_by, bump_or_read, cell_at, given_under};
+ghost use Rattle.gql_bench.specs.Answer.{kind_outcome, parent_member, parent_members};
 ghost use Rattle.gql_bench.specs.Cells.{kind_below, rule_below};
 ghost use Rattle.gql_bench.specs.Outcome.{plain_error};
 
+use crate::bump::{bump_of, is_root};
 use crate::entities::entities_of;
 use crate::rule::{Rule, RuleKind};
 use crate::sum::{Outcome, message_error, sum_of};
@@ -69,7 +70,26 @@ fn outcome_of(
         RuleKind::Arg(name) => Ok(Ok(value_under(alloc, name.as_str(), arguments)?)),
         RuleKind::Sum(paths) => sum_of(alloc, paths.as_slice(), arguments),
         RuleKind::Entities => entities_of(alloc, arguments),
-        RuleKind::Read(place) | RuleKind::Bump(place) => Ok(Ok(Some(cell_of(*place, cells)))),
+        RuleKind::Read(place) => Ok(Ok(Some(cell_of(*place, cells)))),
+        RuleKind::Bump(place) => bump_or_read(alloc, *place, call, cells),
+    }
+}
+
+/// What comes of the cell that `bump` names: a root of a mutation raises it, others read it.
+fn bump_or_read(
+    alloc: Global,
+    place: u64,
+    call: &ResolverContext<'_, i64>,
+    cells: &[i64],
+) -> Made<Outcome>
+    requires { place < length cells.now }
+    ensures { IfOk result
+        (λ outcome. outcome ≡ bump_or_read place (call_of call.now) cells.now) }
+{
+    if is_root(call) {
+        bump_of(alloc, call.args.as_index_map(), cells[place as usize])
+    } else {
+        Ok(Ok(Some(cell_of(place, cells))))
     }
 }
 

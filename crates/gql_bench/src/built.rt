@@ -1,32 +1,18 @@
 //! Which benches are built.
 ghost use Rattle.std.specs.Prelude.{◌≡◌, ◌&&◌, not, is_some};
 ghost use Rattle.std.specs.List.{list_any};
-ghost use Rattle.gql_bench.specs.Built.{bumps, has_subscription, is_built_but_rules, is_bump};
-ghost use Rattle.gql_bench.specs.Built.{is_logged, is_request, is_subscription};
+ghost use Rattle.gql_bench.specs.Built.{bumps, has_subscription, is_built_form, is_logged};
+ghost use Rattle.gql_bench.specs.Built.{is_request, is_subscription};
 
 use crate::rule::{Rule, RuleKind};
 use gql_form::{BenchForm, HooksForm, SchemaForm, TypeForm, WorkForm};
 
-/// Whether a bench is built, where no rule of it changes a cell.
-pub(crate) fn is_built_but_rules(form: &BenchForm) -> bool
-    ensures { result ≡ is_built_but_rules form.now }
+/// Whether a bench is built.
+pub(crate) fn is_built_form(form: &BenchForm) -> bool
+    ensures { result ≡ is_built_form form.now }
 {
     let command = !is_logged(form.setup.hooks) && is_request(&form.work);
     command && !has_subscription(&form.setup.schema)
-}
-
-/// Whether a bench is built that is so but for its rules, which are these.
-pub(crate) fn is_built_with(so_far: bool, rules: &[Rule]) -> bool
-    ensures { result ≡ so_far && not (list_any bumps rules.now) }
-{
-    so_far && !has_bump(rules)
-}
-
-/// Whether one of these rules changes a cell.
-fn has_bump(rules: &[Rule]) -> bool
-    ensures { result ≡ list_any bumps rules.now }
-{
-    rules.iter().any(|rule| bumps(rule))
 }
 
 /// Whether hooks log each stage.
@@ -79,7 +65,7 @@ fn is_subscription(form: &TypeForm) -> bool
 }
 
 /// Whether a rule changes a cell.
-fn bumps(rule: &Rule) -> bool
+pub(crate) fn bumps(rule: &Rule) -> bool
     ensures { result ≡ bumps rule.now }
 {
     match &rule.kind {

@@ -5,6 +5,7 @@
 mod answering;
 mod bench;
 mod built;
+mod bump;
 mod entities;
 mod field_table;
 mod found;

@@ -7,7 +7,7 @@ ghost use Rattle.gql_bench.specs.Given.{given_of};
 ghost use Rattle.gql_bench.specs.Rule.{schema_rules, sources_of};
 
 use crate::bench::Bench;
-use crate::built::{is_built_but_rules, is_built_with, is_logged};
+use crate::built::{is_built_form, is_logged};
 use crate::given::given_from;
 use crate::rule::Rule;
 use crate::rule_table::RuleTable;
@@ -35,7 +35,7 @@ pub(crate) fn bench_over(alloc: Global, form: BenchForm) -> Made<Bench>
     ensures { IfOk result (IsBenchOf form) }
 {
     let builder = builder_of(alloc, &form.setup.schema)?;
-    let so_far = is_built_but_rules(&form);
+    let built = is_built_form(&form);
     let BenchForm { setup, work } = form;
     let Contents {
         rules,
@@ -45,7 +45,6 @@ pub(crate) fn bench_over(alloc: Global, form: BenchForm) -> Made<Bench>
         turns,
         log,
     } = contents_of(alloc, setup)?;
-    let built = is_built_with(so_far, rules.as_slice());
     let (requests, ws) = work_of(alloc, work);
     Ok(Bench {
         builder,

@@ -5,7 +5,7 @@ ghost use Rattle.gql_base.specs.Kinds.{members_of_value};
 ghost use Rattle.gql_base.specs.Pairs.{under};
 ghost use Rattle.gql_bench.specs.Outcome.{plain_error};
 ghost use Rattle.gql_bench.specs.Sum.{number_at, number_in, signed_of, sum_behind, sum_outcome};
-ghost use Rattle.gql_bench.specs.Sum.{whole_sum};
+ghost use Rattle.gql_bench.specs.Sum.{sum_told, whole_sum};
 
 use gql_base::{Error, Made, Name, Number, Pairs, Text, Value};
 use gql_form::Path;
@@ -30,7 +30,14 @@ pub(crate) fn message_error(alloc: Global, message: &str) -> Made<Error>
 pub(crate) fn sum_of(alloc: Global, paths: &[Path], arguments: &Pairs<Value>) -> Made<Outcome>
     ensures { IfOk result (λ outcome. outcome ≡ sum_outcome paths.now arguments.now) }
 {
-    match total_of(paths, arguments) {
+    told(alloc, total_of(paths, arguments))
+}
+
+/// What a whole sum gives, where there is one.
+pub(crate) fn told(alloc: Global, total: Option<i128>) -> Made<Outcome>
+    ensures { IfOk result (λ outcome. outcome ≡ sum_told total) }
+{
+    match total {
         Some(total) => whole(alloc, total),
         None => Ok(Err(message_error(alloc, "internal: not an signed integer")?)),
     }
@@ -89,7 +96,7 @@ pub(crate) fn member_of<'a>(value: &'a Value, name: &str) -> Option<&'a Value>
 }
 
 /// The whole number of 64 bits with a sign that a value is.
-fn signed(value: &Value) -> Option<i64>
+pub(crate) fn signed(value: &Value) -> Option<i64>
     ensures { result ≡ signed_of value.now }
 {
     match value {

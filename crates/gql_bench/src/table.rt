@@ -1,11 +1,16 @@
 //! The program's resolver set: the rules of a bench, over its cells.
-ghost use Rattle.std.specs.Prelude.{◌≡◌, IfSome, length};
+ghost use Rattle.std.specs.Prelude.{◌≡◌, ◌<◌, IfSome, IsTrue, length};
+ghost use Rattle.gql_resolve.specs.Call.{call_of};
 ghost use Rattle.gql_resolve.specs.Lawful.{plain_answer};
-ghost use Rattle.gql_bench.specs.Cells.{AreBelow};
+ghost use Rattle.gql_bench.specs.Bump.{bump_effect, kind_effect};
+ghost use Rattle.gql_bench.specs.Cells.{AreBelow, kind_below};
+ghost use Rattle.gql_bench.specs.Table.{table_effect};
 
 use crate::answering::answer_of;
 use crate::bench::Bench;
-use crate::rule::Rule;
+use crate::built::bumps;
+use crate::bump::{bumped, is_root};
+use crate::rule::{Rule, RuleKind};
 use gql_base::{Copied, Items, Made};
 use gql_resolve::{
     Answer, FieldFuture, FieldValue, Polled, RecordEntry, ResolverContext, ResolverSet,
@@ -38,7 +43,8 @@ impl Table {
     ghost use Rattle.gql_resolve.specs.Call.{call_of};
     ghost use Rattle.gql_resolve.specs.Record.{entry_of};
     ghost use Rattle.gql_bench.specs.Rule.{rule_delay};
-    ghost use Rattle.gql_bench.specs.Table.{table_answer};
+    ghost use Rattle.gql_bench.specs.Bump.{rule_bumps};
+    ghost use Rattle.gql_bench.specs.Table.{table_answer, table_effect};
 
     /// The resolver set of a bench, which has begun nothing.
     pub fn of(alloc: Global, bench: &Bench) -> Made<Table>
@@ -91,17 +97,32 @@ impl Table {
         }
     }
 
-    /// The value of a resolver with this delay, if any, where it answers at once and nothing else.
+    /// Whether a resolver may change a cell.
+    fn may_bump(&self, resolver: u32) -> bool
+        ensures { result ≡ rule_bumps (slice_get self.now.rules resolver) }
+    {
+        match self.rules.get(resolver as usize) {
+            Some(rule) => bumps(rule),
+            None => false,
+        }
+    }
+
+    /// The value of a resolver with this delay, if any, where it answers at once and nothing else,
+    /// and changes no cell.
+    #[tactic(auto, using(crate::proofs::BumpLemmas::no_bump))]
     fn value_at_once(
         &self,
         alloc: Global,
         call: &ResolverContext<'_, i64>,
         delay: u64,
     ) -> Made<Option<Option<FieldValue<i64>>>>
-        ensures { IfOk result (λ found. IfSome found (λ value. (delay ≡ 0) × (plain_answer value
+        ensures value { IfOk result (λ found. IfSome found (λ value. (delay ≡ 0)
+            × (plain_answer value
             ≡ table_answer self.now.rules (call_of call.now) self.now.cells))) }
+        ensures effect { IfOk result (λ found. IfSome found (λ value.
+            table_effect self.now.rules (call_of call.now) self.now.cells ≡ self.now.cells)) }
     {
-        if delay > 0 {
+        if delay > 0 || self.may_bump(call.resolver) {
             return Ok(None);
         }
         Ok(value_alone(self.answer_to(alloc, call)?))
@@ -131,6 +152,39 @@ fn value_alone(answer: Answer<i64>) -> Option<Option<FieldValue<i64>>>
         return None;
     }
     result.ok()
+}
+
+/// Changes the cells by the effect of a call.
+fn leave_effect(rules: &Items<Rule>, cells: &mut Items<i64>, call: &ResolverContext<'_, i64>)
+    requires { AreBelow (length cells.old) rules.now }
+    ensures { cells.new ≡ table_effect rules.now (call_of call.now) cells.old }
+{
+    match rules.get(call.resolver as usize) {
+        Some(rule) => bump_cell(&rule.kind, cells, call),
+        None => {}
+    }
+}
+
+/// The same by what the resolver of the call answers.
+fn bump_cell(kind: &RuleKind, cells: &mut Items<i64>, call: &ResolverContext<'_, i64>)
+    requires { IsTrue (kind_below (length cells.old) kind.now) }
+    ensures { cells.new ≡ kind_effect kind.now (call_of call.now) cells.old }
+{
+    match kind {
+        RuleKind::Bump(place) => raise_cell(*place, cells, call),
+        _ => {}
+    }
+}
+
+/// Raises the cell at a place, where the call is for a root of a mutation.
+fn raise_cell(place: u64, cells: &mut Items<i64>, call: &ResolverContext<'_, i64>)
+    requires { place < length cells.old }
+    ensures { cells.new ≡ bump_effect place (call_of call.now) cells.old }
+{
+    if is_root(call) {
+        let cell = cells.as_slice()[place as usize];
+        cells.set(place as usize, bumped(call.args.as_index_map(), cell));
+    }
 }
 
 impl ResolverSet for Table {
@@ -213,7 +267,13 @@ impl ResolverSet for Table {
         future: &mut TableFuture,
         call: &ResolverContext<'_, i64>,
     ) -> Made<Polled<i64>> {
-        self.poll(alloc, future, call)
+        match self.poll(alloc, future, call)? {
+            Polled::Ready(answer) => {
+                leave_effect(&self.rules, &mut self.cells, call);
+                Ok(Polled::Ready(answer))
+            }
+            Polled::Pending => Ok(Polled::Pending),
+        }
     }
 
     fn snapshot(&self, alloc: Global) -> Made<Items<i64>> {

@@ -5,9 +5,11 @@ pub mod ApartPlanLemmas
 pub mod ArenaLemmas
 pub mod BlockLemmas
 pub mod GivenLemmas
+pub mod InTurnLemmas
 pub mod Lists
 pub mod NearerLemmas
 pub mod PaceLemmas
+pub mod PhaseLemmas
 pub mod PickLemmas
 pub mod ProgressLemmas
 pub mod RecordLemmas

@@ -36,7 +36,7 @@ module _ {F : Type 0} (number_of : F → ℕ) where
   come_fresh (suc n) zero due = refl
   come_fresh (suc n) (suc k) due = come_fresh n k due
 
-  come_more : (states : List (State F)) (n k due : ℕ) → to_come_at number_of due (slice_get states k) ≡ to_come_at number_of due (slice_get (states ++ fresh_states n) k)
+  pub come_more : (states : List (State F)) (n k due : ℕ) → to_come_at number_of due (slice_get states k) ≡ to_come_at number_of due (slice_get (states ++ fresh_states n) k)
   come_more [] n zero due = sym (come_fresh n zero due)
   come_more [] n (suc k) due = sym (come_fresh n (suc k) due)
   come_more (s ∷ states) n zero due = refl

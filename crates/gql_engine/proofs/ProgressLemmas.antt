@@ -15,7 +15,7 @@ agrees_kept : {V Task : Type 0} {subject : Subject V Task} {root : Bool} (due du
     → ((call : Call V) → due call ≡ due' call) → Agrees subject root due answers → Agrees subject root due' answers
 agrees_kept {subject = subject} due due' answers same agrees = record { agrees = λ task is. agrees.agrees task is ∙ same (subject.call task) }
 
-stepped_on : (a b c s t u : ℕ) → b + s ≡ a + t → c + t ≡ b + u → c + s ≡ a + u
+pub stepped_on : (a b c s t u : ℕ) → b + s ≡ a + t → c + t ≡ b + u → c + s ≡ a + u
 stepped_on a b c s t u first second = omega (arith, first, second)
 
 module _ {R Own World Future L H P : Type 0} {e : Parts R Own World Future L H P} where

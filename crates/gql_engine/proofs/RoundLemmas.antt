@@ -49,7 +49,7 @@ module _ (F : Type 0) where
   enter_fresh (suc n) zero = refl
   enter_fresh (suc n) (suc k) = enter_fresh n k
 
-  enter_more : (states : List (State F)) (n k : ℕ) → to_enter_at (slice_get states k) ≡ to_enter_at (slice_get (states ++ fresh_states n) k)
+  pub enter_more : (states : List (State F)) (n k : ℕ) → to_enter_at (slice_get states k) ≡ to_enter_at (slice_get (states ++ fresh_states n) k)
   enter_more [] n zero = sym (enter_fresh n zero)
   enter_more [] n (suc k) = sym (enter_fresh n (suc k))
   enter_more (s ∷ states) n zero = refl

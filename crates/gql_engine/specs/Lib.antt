@@ -6,6 +6,7 @@ pub mod Given
 pub mod Pace
 pub mod Parts
 pub mod Path
+pub mod Phases
 pub mod Plan
 pub mod Progress
 pub mod Record

@@ -31,7 +31,7 @@ pub(crate) fn settle<F: Drop>(
 }
 
 /// Makes fresh tasks at the end.
-fn make_tasks<F: Drop>(arena: &mut Arena<F>, count: usize) -> Made<()>
+pub fn make_tasks<F: Drop>(arena: &mut Arena<F>, count: usize) -> Made<()>
     requires waits { arena.old.waiting ≡ waiting_from 0 (marks_of arena.old.states.items) }
     ensures states { OnOk result
         (arena.new.states.items ≡ arena.old.states.items ++ fresh_states count) }

@@ -1,5 +1,5 @@
 -- What references show is all that matters of a scene, of what an execution stands on, and of its tasks.
-use Rattle.std.proofs.Common.{◌≡◌, ◌⊎◌, ℕ, false, List, [], ◌∷◌, ◌++◌, map, Option, Some, None, option_map, inl, inr, refl, ap, sym, ◌∙◌, subst}
+use Rattle.std.proofs.Common.{◌≡◌, ◌⊎◌, ℕ, Bool, true, false, List, [], ◌∷◌, ◌++◌, map, Option, Some, None, option_map, inl, inr, refl, ap, sym, ◌∙◌, subst}
 use Rattle.std.proofs.lemmas.List.{map-append}
 use Rattle.std.specs.List.{flat_map}
 use Rattle.std.specs.Option.{option_copied, option_to_list}
@@ -13,29 +13,30 @@ use Rattle.gql_engine.specs.Parts.{choice_by, due_by}
 use Rattle.gql_engine.specs.Path.{key_text}
 use Rattle.gql_engine.specs.Progress.{RunsWhole, RunStopped, Seen, stage_of, story_at}
 use Rattle.gql_engine.specs.Pace.{EachPacedSoFar}
-use Rattle.gql_engine.specs.Record.{Made, Story, Turned, begun_at, fresh, made_at, state_at, waiting}
+use Rattle.gql_engine.specs.Record.{Story, fresh}
 use Rattle.gql_engine.specs.declared.scene.Scene.{Scene}
-use Rattle.gql_exec.proofs.RecordLemmas.{mapped, fresh-mapped, paced-mapped, so-far-mapped, turned-mapped, some-mapped, made-mapped, state-mapped, begun-mapped}
+use Rattle.gql_exec.proofs.RecordLemmas.{mapped, fresh-mapped, paced-mapped, so-far-mapped, ran-mapped, stopped-mapped}
 use Rattle.gql_exec.specs.Bare.{bare_basis, bare_job, bare_layers, bare_scene}
 use Rattle.gql_exec.specs.Scene.{shown}
 use Rattle.gql_meaning.specs.Execution.{Asking, Execution, field_asking, setting_in}
-use Rattle.gql_meaning.specs.Responses.{placed, root_place}
+use Rattle.gql_meaning.specs.Responses.{Asked, placed, root_place, world_after}
 use Rattle.gql_merged.specs.Basis.{execution_of}
-use Rattle.gql_merged.specs.Jobs.{Job, completed_by, job_at, job_of, jobs_at, jobs_beneath}
+use Rattle.gql_merged.specs.Jobs.{Job, completed_by, job_at, job_of, jobs_at, jobs_at_as, jobs_beneath}
 use Rattle.gql_merged.specs.Run.{basis_of, merged_response, merged_work, root_jobs, root_selections, root_spot}
+use Rattle.gql_merged.specs.Serial.{key_jobs, last_world_of, levels_beneath, root_asked, serial_response}
 use Rattle.gql_merged.specs.Stored.{Spot, spots}
 use Rattle.gql_merged.specs.declared.basis.Basis.{Basis}
 use Rattle.gql_place.specs.declared.place.Place.{Place}
 use Rattle.gql_resolve.specs.Call.{Call}
 use Rattle.gql_resolve.specs.Layers.{layers_of}
-use Rattle.gql_resolve.specs.Record.{with_more}
 use Rattle.gql_resolve.specs.declared.answer.Answer.{Answer}
+use Rattle.gql_resolve.specs.declared.field_value.FieldValue.{FieldValue}
 use Rattle.gql_resolve.specs.declared.layers.Layers.{Layers}
 use Rattle.gql_resolve.specs.declared.resolver_set.ResolverSet.{Ghosts as Resolving}
 use Rattle.gql_resolve.specs.declared.turns.Turns.{Ghosts as Choosing}
 use Rattle.gql_select.specs.Collected.{collect, own_selections}
 use Rattle.gql_select.specs.Documents.{placing_by}
-use Rattle.gql_select.specs.Grouped.{grouped}
+use Rattle.gql_select.specs.Grouped.{Mutating, grouped, serial_grouped, world_behind}
 use Rattle.gql_select.specs.Reading.{merged}
 use Rattle.gql_select.specs.Documents.{reading}
 
@@ -60,6 +61,16 @@ module _ {A B : Type 0} (f : A → B) where
   map-flat g h same [] = refl
   map-flat g h same (x ∷ xs) = (λ i. same x i ++ map-flat g h same xs i) ∙ sym (map-append f (g x) (flat_map g xs))
 
+-- how a mutation is answered, by what is known of its execution
+abbrev mutating_in : {V W : Type 0} → Execution → (Call V → W → Answer V) → (Call V → W → W) → Asked V
+    → Mutating (List ℕ) (FieldValue V) (Positioned Field) (Positioned Selection) Place W
+mutating_in execution answer effect asked = record {
+  reading = reading (setting_in execution);
+  effect = world_after execution effect asked;
+  root = λ world. placed execution true (λ call. answer call world);
+  place = λ world. placed execution false (λ call. answer call world);
+}
+
 module _ {V : Type 0} where
   job-bare : (basis : Basis) (spot : Spot V) (field : Positioned Field) (asking : Option (Asking V))
       → job_of (bare_basis basis) spot field asking ≡ map bare_job (job_of basis spot field asking)
@@ -67,26 +78,26 @@ module _ {V : Type 0} where
   job-bare basis spot field (Some asking) = refl
 
   -- the tasks of an object, by what is known of its execution
-  abbrev jobs_knowing : Basis → List (Positioned Selection) → Spot V → Execution → List (Job V)
-  jobs_knowing basis selections spot execution =
-      flat_map (λ (member : List ℕ × Positioned Field). job_of basis spot member.1 (field_asking false execution spot.object spot.parent member.1))
+  abbrev jobs_knowing : Bool → Basis → List (Positioned Selection) → Spot V → Execution → List (Job V)
+  jobs_knowing root basis selections spot execution =
+      flat_map (λ (member : List ℕ × Positioned Field). job_of basis spot member.1 (field_asking root execution spot.object spot.parent member.1))
       (merged (reading (setting_in execution)) (collect (setting_in execution) spot.object selections))
 
-  pub jobs-bare : (basis : Basis) (selections : List (Positioned Selection)) (spot : Spot V)
-      → jobs_at (bare_basis basis) selections spot ≡ map bare_job (jobs_at basis selections spot)
-  jobs-bare basis selections spot =
+  pub jobs-bare : (root : Bool) (basis : Basis) (selections : List (Positioned Selection)) (spot : Spot V)
+      → jobs_at_as root (bare_basis basis) selections spot ≡ map bare_job (jobs_at_as root basis selections spot)
+  jobs-bare root basis selections spot =
       let execution = execution_of basis in
-      ap (jobs_knowing (bare_basis basis) selections spot) (execution-bare basis)
+      ap (jobs_knowing root (bare_basis basis) selections spot) (execution-bare basis)
       ∙ map-flat bare_job
-      (λ (member : List ℕ × Positioned Field). job_of basis spot member.1 (field_asking false execution spot.object spot.parent member.1))
-      (λ (member : List ℕ × Positioned Field). job_of (bare_basis basis) spot member.1 (field_asking false execution spot.object spot.parent member.1))
-      (λ member. job-bare basis spot member.1 (field_asking false execution spot.object spot.parent member.1))
+      (λ (member : List ℕ × Positioned Field). job_of basis spot member.1 (field_asking root execution spot.object spot.parent member.1))
+      (λ (member : List ℕ × Positioned Field). job_of (bare_basis basis) spot member.1 (field_asking root execution spot.object spot.parent member.1))
+      (λ member. job-bare basis spot member.1 (field_asking root execution spot.object spot.parent member.1))
       (merged (reading (setting_in execution)) (collect (setting_in execution) spot.object selections))
 
   pub beneath-bare : (job : Job V) (answer : Answer V) → jobs_beneath (bare_job job) answer ≡ map bare_job (jobs_beneath job answer)
   beneath-bare job answer =
       map-flat bare_job (jobs_at job.basis (own_selections job.field)) (jobs_at (bare_basis job.basis) (own_selections job.field))
-      (jobs-bare job.basis (own_selections job.field)) (spots (completed_by job answer) job.path)
+      (jobs-bare false job.basis (own_selections job.field)) (spots (completed_by job answer) job.path)
 
   -- the whole response, by what is known of its execution
   abbrev response_knowing : Scene V → (Call V → Answer V) → ℕ → Execution → Place
@@ -99,7 +110,29 @@ module _ {V : Type 0} where
   response-bare scene answer n = ap (response_knowing scene answer n) (execution-bare (basis_of scene))
 
   roots-bare : (scene : Scene V) → root_jobs (bare_scene scene) ≡ map bare_job (root_jobs scene)
-  roots-bare scene = jobs-bare (basis_of scene) (root_selections scene) (root_spot scene)
+  roots-bare scene = jobs-bare false (basis_of scene) (root_selections scene) (root_spot scene)
+
+  pub keys-bare : (scene : Scene V) → key_jobs (bare_scene scene) ≡ map bare_job (key_jobs scene)
+  keys-bare scene = jobs-bare true (basis_of scene) (root_selections scene) (root_spot scene)
+
+  module _ {W : Type 0} (answer : Call V → W → Answer V) (effect : Call V → W → W) (scene : Scene V) where
+    -- the whole response of a mutation, by what is known of its execution
+    abbrev serial_knowing : W → ℕ → Execution → Place
+    serial_knowing world n execution =
+        root_place scene.env.now.operation.pos
+        (serial_grouped (mutating_in execution answer effect (root_asked scene)) (levels_beneath n) (root_spot scene).object (root_spot scene).parent
+        (root_selections scene) world)
+
+    pub serial-bare : (world : W) (n : ℕ) → serial_response (bare_scene scene) answer effect world n ≡ serial_response scene answer effect world n
+    serial-bare world n = ap (serial_knowing world n) (execution-bare (basis_of scene))
+
+    abbrev last_knowing : W → Execution → W
+    last_knowing world execution =
+        world_behind (world_after execution effect (root_asked scene)) world
+        (merged (reading (setting_in execution)) (collect (setting_in execution) (root_spot scene).object (root_selections scene)))
+
+    pub last-bare : (world : W) → last_world_of (bare_scene scene) effect world ≡ last_world_of scene effect world
+    last-bare world = ap (last_knowing world) (execution-bare (basis_of scene))
 
 module _ {R Own World Future P : Type 0} (set : Resolving R Own World Future) (turns : Choosing P) (scene : Scene Own) (old new : Seen R P) where
   abbrev story-of : Scene Own → Story (Job Own)
@@ -116,48 +149,19 @@ module _ {R Own World Future P : Type 0} (set : Resolving R Own World Future) (t
 
   -- a whole execution of a scene is one of what its references show
   pub whole-bare : RunsWhole set turns (merged_work scene) old new → RunsWhole set turns (merged_work (bare_scene scene)) old new
-  whole-bare runs =
-      let choice = choice_by turns in
-      let ran = runs.ran in
-      record {
-        made = mapped bare_job runs.made;
-        ran = record {
-          entries = ran.entries;
-          told_is = ran.told_is;
-          starts_is = ran.starts_is
-              ∙ ap (with_more (set.begun old.set))
-              (begun-mapped choice story story bare_job (λ job. refl) (λ job. refl) below (fresh (root_jobs scene)) ran.entries
-              ∙ ap (λ made. begun_at story made ran.entries) starts);
-          turned = λ s is. subst (λ made. Turned choice story s made ran.entries) starts (turned-mapped choice story story bare_job (λ job. refl) (λ job. refl) below s (fresh (root_jobs scene)) ran.entries (ran.turned s is));
-          state_is = ran.state_is
-              ∙ ap (λ (state : turns.State → turns.State). option_map state (turns.state old.turns))
-              (λ i s. (state-mapped choice story story bare_job (λ job. refl) (λ job. refl) below s (fresh (root_jobs scene)) ran.entries
-              ∙ ap (λ made. state_at choice story s made ran.entries) starts) i);
-          made_is = ap (mapped bare_job) ran.made_is ∙ sym (made-mapped choice story story bare_job (λ job. refl) (λ job. refl) below (fresh (root_jobs scene)) ran.entries)
-              ∙ ap (λ made. made_at story made ran.entries) starts;
-        };
-        whole = runs.whole;
-        paces = λ pace before is. paced-mapped bare_job _ _ (λ job. refl) runs.made.tasks ran.entries (runs.paces pace before is);
-      }
+  whole-bare runs = record {
+    made = mapped bare_job runs.made;
+    ran = ran-mapped (choice_by turns) story story bare_job (λ job. refl) (λ job. refl) below (stage_of set turns (fresh (root_jobs scene)) old) _ starts
+        (stage_of set turns runs.made new) runs.ran;
+    whole = runs.whole;
+    paces = λ pace before is. paced-mapped bare_job _ _ (λ job. refl) runs.made.tasks runs.ran.entries (runs.paces pace before is);
+  }
 
   -- the same of one that ended for want of memory
   pub stopped-bare : RunStopped set turns (merged_work scene) old new → RunStopped set turns (merged_work (bare_scene scene)) old new
-  stopped-bare runs =
-      let choice = choice_by turns in
-      let stopped = runs.stopped in
-      record {
-        stopped = record {
-          entries = stopped.entries;
-          told_is = stopped.told_is;
-          last = stopped.last;
-          at_most_one = stopped.at_most_one;
-          starts_is = stopped.starts_is
-              ∙ ap (λ begun. with_more (set.begun old.set) (begun ++ stopped.last))
-              (begun-mapped choice story story bare_job (λ job. refl) (λ job. refl) below (fresh (root_jobs scene)) stopped.entries
-              ∙ ap (λ made. begun_at story made stopped.entries) starts);
-          turned = λ s is. subst (λ made. Turned choice story s made stopped.entries) starts
-              (turned-mapped choice story story bare_job (λ job. refl) (λ job. refl) below s (fresh (root_jobs scene)) stopped.entries (stopped.turned s is));
-        };
-        paces = λ pace before is. subst (λ jobs. EachPacedSoFar (λ (job : Job Own). set.delay (set.rules old.set) job.asking.call.resolver) jobs stopped.entries)
-            (sym (roots-bare scene)) (so-far-mapped bare_job _ _ (λ job. refl) (root_jobs scene) stopped.entries (runs.paces pace before is));
-      }
+  stopped-bare runs = record {
+    stopped = stopped-mapped (choice_by turns) story story bare_job (λ job. refl) (λ job. refl) below (stage_of set turns (fresh (root_jobs scene)) old) _ starts
+        (set.told new.set) (set.begun new.set) runs.stopped;
+    paces = λ pace before is. subst (λ jobs. EachPacedSoFar (λ (job : Job Own). set.delay (set.rules old.set) job.asking.call.resolver) jobs runs.stopped.entries)
+        (sym (roots-bare scene)) (so-far-mapped bare_job _ _ (λ job. refl) (root_jobs scene) runs.stopped.entries (runs.paces pace before is));
+  }

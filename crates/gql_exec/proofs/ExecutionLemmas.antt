@@ -1,9 +1,11 @@
 -- What was run of a request's scene is the execution of the request.
-use Rattle.std.proofs.Common.{◌≡◌, ◌⊎◌, Result, Ok, Err, IfOk, OnErr, inl, inr, refl, ap, sym, ◌∙◌, subst}
+use Rattle.std.proofs.Common.{◌≡◌, ◌⊎◌, ℕ, Bool, Result, Ok, Err, IfErr, IfOk, inl, inr, refl, ap, sym, ◌∙◌, subst}
+use Rattle.gql_base.specs.declared.no_memory.NoMemory.{NoMemory}
 use Rattle.gql_engine.specs.Progress.{Seen}
 use Rattle.gql_engine.specs.declared.scene.Scene.{Scene}
 use Rattle.gql_exec.specs.Bare.{bare_scene}
-use Rattle.gql_exec.specs.Execution.{Ask, asked_scene, Executes, GoesOn, Halts, HaltsIn, Runs, Stops}
+use Rattle.gql_exec.specs.Execution.{Ask, asked_scene, CutBy, Executes, GoesOn, Halts, HaltsIn, mutates, place_by, RanBy, Runs, StandBy, Stops, world_by}
+use Rattle.gql_exec.specs.PlaceResponse.{response_at}
 use Rattle.gql_exec.specs.Ready.{IsMadeReady}
 use Rattle.gql_exec.specs.Root.{root_for}
 use Rattle.gql_request.specs.declared.query_env.QueryEnv.{QueryEnv}
@@ -30,13 +32,33 @@ module _ {R Own World Future P : Type 0} (set : Resolving R Own World Future) (t
     }
     executes (Err want) runs = tt
 
-    pub halts : (result : Result Response E) → (set.is_lawful old.set → OnErr result (HaltsIn set turns old new (bare_scene scene)))
-        → OnErr result (Stops set turns old new ask)
+  module _ (env : QueryEnv) (object : Object) (scene : Scene Own) (is : IsSet env object scene) where
+    pub halts : (result : Result Response NoMemory)
+        → (set.is_lawful old.set → IfErr result (λ want. HaltsIn set turns old new (bare_scene scene) want.roots))
+        → IfErr result (λ want. Stops set turns old new ask want.roots)
     halts (Ok response) halted = tt
     halts (Err want) halted = inr record {
       env = env;
       object = object;
       ready = is.ready;
       root = is.root;
-      told = λ lawful. subst (λ s. HaltsIn set turns old new s) is.same (halted lawful);
+      told = λ lawful. subst (λ s. HaltsIn set turns old new s want.roots) is.same (halted lawful);
     }
+
+-- what was run of a scene whose operation is a mutation, or none
+module _ {R Own World Future P : Type 0} (set : Resolving R Own World Future) (turns : Choosing P) (old new : Seen R P) (scene : Scene Own) (mutation : Bool)
+    (is : mutates scene ≡ mutation) where
+  pub runs_by : (response : Response) → response ≡ response_at (place_by set turns old new mutation scene) → set.world new.set ≡ world_by set turns old new mutation scene
+      → RanBy set turns old new mutation scene → Runs set turns old new scene response
+  runs_by response answered world tells = record {
+    answered = answered ∙ ap (λ b. response_at (place_by set turns old new b scene)) (sym is);
+    world = world ∙ ap (λ b. world_by set turns old new b scene) (sym is);
+    tells = subst (λ b. RanBy set turns old new b scene) (sym is) tells;
+  }
+
+  pub halts_by : (roots : ℕ) → StandBy set turns old new mutation scene roots
+      → CutBy set turns old new mutation scene ⊎ RanBy set turns old new mutation scene → HaltsIn set turns old new scene roots
+  halts_by roots stands tells = record {
+    stands = subst (λ b. StandBy set turns old new b scene roots) (sym is) stands;
+    tells = subst (λ b. CutBy set turns old new b scene ⊎ RanBy set turns old new b scene) (sym is) tells;
+  }

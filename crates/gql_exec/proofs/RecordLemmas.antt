@@ -4,7 +4,8 @@ use Rattle.std.proofs.lemmas.List.{map-append}
 use Rattle.std.proofs.lemmas.Option.{slice_get-map}
 use Rattle.std.specs.Option.{ForSome}
 use Rattle.gql_engine.specs.Pace.{EachPaced, EachPacedSoFar, pending_then_ready, told_of}
-use Rattle.gql_engine.specs.Record.{Choice, Mark, Made, NamesTask, Stage, Story, Turned, untold, ready, fresh, untold_marks, beneath_of, after_ready, after_mark, after_entry, begun_at, begins, made_at, state_at, waiting}
+use Rattle.gql_engine.specs.Record.{Choice, Mark, Made, NamesTask, Ran, Stage, Stopped, Story, Turned, untold, ready, fresh, untold_marks, beneath_of, after_ready, after_mark, after_entry, begun_at, begins, made_at, state_at, waiting}
+use Rattle.gql_resolve.specs.Record.{with_more}
 use Rattle.gql_resolve.specs.declared.record_entry.RecordEntry.{RecordEntry}
 
 -- tasks that are read through a function, with the marks that they have
@@ -91,3 +92,47 @@ module _ {Task Other State : Type 0} (choice : Choice State) (one : Story Task) 
   pub some-mapped : (o : Option State) (made : Made Task) (told : List RecordEntry) → ForSome o (λ s. Turned choice one s made told)
       → ForSome o (λ s. Turned choice other s (mapped f made) told)
   some-mapped o made told turned = λ s is. turned-mapped s made told (turned s is)
+
+-- what the record sees of tasks that are read through a function
+abbrev pub staged : {Task Other State : Type 0} → (Task → Other) → Stage Task State → Stage Other State
+staged f stage = record { made = mapped f stage.made; told = stage.told; starts = stage.starts; turns = stage.turns }
+
+-- the same of other tasks
+abbrev pub with_made : {Task Other State : Type 0} → Stage Task State → Made Other → Stage Other State
+with_made stage made = record { made = made; told = stage.told; starts = stage.starts; turns = stage.turns }
+
+-- a stretch over tasks is one over what stands for them
+module _ {Task Other State : Type 0} (choice : Choice State) (one : Story Task) (other : Story Other) (f : Task → Other)
+    (resolvers : (task : Task) → other.resolver (f task) ≡ one.resolver task) (paths : (task : Task) → other.path (f task) ≡ one.path task)
+    (beneath : (task : Task) → other.beneath (f task) ≡ map f (one.beneath task)) (old : Stage Task State) (made : Made Other)
+    (begun : mapped f old.made ≡ made) where
+  abbrev pub ran-mapped : (new : Stage Task State) → Ran choice one old new → Ran choice other (with_made old made) (staged f new)
+  ran-mapped new ran = record {
+    entries = ran.entries;
+    told_is = ran.told_is;
+    starts_is = ran.starts_is
+        ∙ ap (with_more old.starts)
+        (begun-mapped choice one other f resolvers paths beneath old.made ran.entries ∙ ap (λ m. begun_at other m ran.entries) begun);
+    turned = λ s is. subst (λ m. Turned choice other s m ran.entries) begun
+        (turned-mapped choice one other f resolvers paths beneath s old.made ran.entries (ran.turned s is));
+    state_is = ran.state_is
+        ∙ ap (λ (state : State → State). option_map state old.turns)
+        (λ i s. (state-mapped choice one other f resolvers paths beneath s old.made ran.entries
+        ∙ ap (λ m. state_at choice other s m ran.entries) begun) i);
+    made_is = ap (mapped f) ran.made_is ∙ sym (made-mapped choice one other f resolvers paths beneath old.made ran.entries)
+        ∙ ap (λ m. made_at other m ran.entries) begun;
+  }
+
+  abbrev pub stopped-mapped : (told : Option (List RecordEntry)) (starts : Option (List ℕ)) → Stopped choice one old told starts
+      → Stopped choice other (with_made old made) told starts
+  stopped-mapped told starts stopped = record {
+    entries = stopped.entries;
+    told_is = stopped.told_is;
+    last = stopped.last;
+    at_most_one = stopped.at_most_one;
+    starts_is = stopped.starts_is
+        ∙ ap (λ begun-by. with_more old.starts (begun-by ++ stopped.last))
+        (begun-mapped choice one other f resolvers paths beneath old.made stopped.entries ∙ ap (λ m. begun_at other m stopped.entries) begun);
+    turned = λ s is. subst (λ m. Turned choice other s m stopped.entries) begun
+        (turned-mapped choice one other f resolvers paths beneath s old.made stopped.entries (stopped.turned s is));
+  }

@@ -13,11 +13,12 @@ use Rattle.gql_admit.specs.declared.chosen.Chosen.{Chosen}
 use Rattle.gql_engine.proofs.RecordLemmas.{with_more_none}
 use Rattle.gql_engine.specs.Arena.{Work}
 use Rattle.gql_engine.specs.Parts.{choice_by}
-use Rattle.gql_engine.specs.Progress.{RunsWhole, Seen, story_at}
+use Rattle.gql_engine.specs.Phases.{none_made, Phases, RunsInTurn, serving_at}
+use Rattle.gql_engine.specs.Progress.{RunsWhole, Seen, stage_of, story_at}
 use Rattle.gql_engine.specs.Record.{Choice, Story, Turned, begun_at, fresh}
 use Rattle.gql_engine.specs.declared.scene.Scene.{Scene}
 use Rattle.gql_exec.specs.Admission.{terms_for}
-use Rattle.gql_exec.specs.Execution.{Ask, asked_scene, ComesOf, Executes, GoesOn}
+use Rattle.gql_exec.specs.Execution.{Ask, asked_scene, ComesOf, Executes, GoesOn, mutates, RanBy}
 use Rattle.gql_exec.specs.Ready.{IsMadeReady, prepared_under}
 use Rattle.gql_exec.specs.Root.{root_for}
 use Rattle.gql_exec.specs.Schema.{settings_of}
@@ -27,8 +28,9 @@ use Rattle.gql_exec.specs.declared.schema.Schema.{Schema}
 use Rattle.gql_meaning.specs.Execution.{Execution, field_asking, is_typename}
 use Rattle.gql_merged.specs.Basis.{execution_of, is_introspection_only, setting_by}
 use Rattle.gql_merged.specs.FieldsWithin.{collected}
-use Rattle.gql_merged.specs.Jobs.{job_of}
-use Rattle.gql_merged.specs.Run.{basis_of, merged_work, root_jobs, root_selections, root_spot}
+use Rattle.gql_merged.specs.Jobs.{job_of, jobs_at_as}
+use Rattle.gql_merged.specs.Run.{basis_of, merged_work, root_selections, root_spot}
+use Rattle.gql_merged.specs.Serial.{key_work}
 use Rattle.gql_request.specs.declared.query_env.IntrospectionMode.{IntrospectionMode}
 use Rattle.gql_request.specs.declared.query_env.QueryEnv.{QueryEnv}
 use Rattle.gql_request.specs.declared.request.Request.{Request}
@@ -104,13 +106,14 @@ module _ {V : Type 0} where
       → execution.only_introspection ≡ true → field_asking is_root execution object parent field ≡ None
   none_asked is_root execution object parent field only = none_if execution.only_introspection (is_typename (name_of field)) _ only
 
-  no_roots : (scene : Scene V) → is_introspection_only scene.env.now.introspection_mode ≡ true → root_jobs scene ≡ []
-  no_roots scene only =
+  no_roots : (is_root : Bool) (scene : Scene V) → is_introspection_only scene.env.now.introspection_mode ≡ true
+      → jobs_at_as is_root (basis_of scene) (root_selections scene) (root_spot scene) ≡ []
+  no_roots is_root scene only =
       let basis = basis_of scene in
       let spot = root_spot scene in
       flat_map_none
-      (λ (member : List ℕ × Positioned Field). job_of basis spot member.1 (field_asking false (execution_of basis) spot.object spot.parent member.1))
-      (λ member. ap (job_of basis spot member.1) (none_asked false (execution_of basis) spot.object spot.parent member.1 only))
+      (λ (member : List ℕ × Positioned Field). job_of basis spot member.1 (field_asking is_root (execution_of basis) spot.object spot.parent member.1))
+      (λ member. ap (job_of basis spot member.1) (none_asked is_root (execution_of basis) spot.object spot.parent member.1 only))
       (merged (reading (setting_by basis)) (collected basis spot.object (root_selections scene)))
 
 module _ {Task State : Type 0} (choice : Choice State) (story : Story Task) (s : State) where
@@ -135,6 +138,19 @@ module _ {R Own World Future P : Type 0} (set : Resolving R Own World Future) (t
             ∙ with_more_none (set.begun old.set);
       }
 
+  -- nor does one of no root keys of a mutation
+  phases_none : {Task : Type 0} (work : Work Own Task) → work.first ≡ [] → RunsInTurn set turns work old new → StartsNone set old.set new.set
+  phases_none work none runs =
+      let same : stage_of set turns runs.made new ≡ none_made set turns work old new
+      = subst (λ roots. Phases (serving_at set turns work old new) work.subject (choice_by turns) (set.world old.set) roots (none_made set turns work old new)
+      (stage_of set turns runs.made new)) none runs.phases in
+      record { told_is = ap (λ s. s.told) same; begun_is = ap (λ s. s.starts) same }
+
+  ran_none : (is_root : Bool) (scene : Scene Own) → is_introspection_only scene.env.now.introspection_mode ≡ true → RanBy set turns old new is_root scene
+      → StartsNone set old.set new.set
+  ran_none true scene only ran = phases_none (key_work scene) (no_roots true scene only) ran
+  ran_none false scene only ran = whole_none (merged_work scene) (no_roots false scene only) ran
+
   module _ (ask : Ask Own) (lawful : set.is_lawful old.set) where
     same_set : new ≡ old → StartsNone set old.set new.set
     same_set same = record {
@@ -146,7 +162,7 @@ module _ {R Own World Future P : Type 0} (set : Resolving R Own World Future) (t
         → GoesOn set turns old new ask env root response → StartsNone set old.set new.set
     went_none response env (Ok object) only went =
         let scene = asked_scene set turns old new ask env object in
-        whole_none (merged_work scene) (no_roots scene only) (went lawful).tells
+        ran_none (mutates scene) scene only (went lawful).tells
     went_none response env (Err text) only went = same_set went.1
 
     came_none : (response : Response) (outcome : Prepared) → InMode (mode_for (settings_of ask.schema) ask.request.inner.introspection_mode) outcome

@@ -26,11 +26,6 @@ abbrev pub root_object : Schema → OperationType → Option Object
 root_object schema kind =
     option_and_then (object_named schema) (root_in (settings_of schema) kind)
 
--- the text of a mutation's fault: its execution is to come
-abbrev pub no_mutation_text : Option Object → List ℕ
-no_mutation_text None = codes "Mutation root not found"
-no_mutation_text (Some object) = codes "Mutations are not supported yet."
-
 -- what there is, or else this text
 abbrev pub or_text : {A : Type 0} → List ℕ → Option A → Result A (List ℕ)
 or_text text None = Err text
@@ -39,6 +34,7 @@ or_text text (Some x) = Ok x
 -- the object of which the operations of a kind are executed, or why there is none
 abbrev pub root_for : Schema → OperationType → Result Object (List ℕ)
 root_for schema kinds.Query = or_text (codes "Query root not found") (root_object schema kinds.Query)
-root_for schema kinds.Mutation = Err (no_mutation_text (root_object schema kinds.Mutation))
+root_for schema kinds.Mutation =
+    or_text (codes "Mutation root not found") (root_object schema kinds.Mutation)
 root_for schema kinds.Subscription =
     Err (codes "Subscriptions are not supported on this transport.")

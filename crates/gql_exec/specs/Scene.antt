@@ -1,5 +1,5 @@
 -- The scene of an execution, of plain data: what a reference shows is all that matters of it.
-use Rattle.std.specs.Prelude.{false, [], None}
+use Rattle.std.specs.Prelude.{[], None}
 use Rattle.std.specs.Borrow.{Bor}
 use Rattle.gql_engine.specs.declared.scene.Scene.{Scene}
 use Rattle.gql_exec.specs.Schema.{settings_of, types_in}
@@ -7,14 +7,15 @@ use Rattle.gql_exec.specs.Settings.{entities_for}
 use Rattle.gql_exec.specs.declared.dynamic_request.DynamicRequest.{DynamicRequest}
 use Rattle.gql_exec.specs.declared.schema.Schema.{Schema}
 use Rattle.gql_request.specs.declared.query_env.QueryEnv.{QueryEnv}
+use Rattle.gql_resolve.specs.Call.{is_mutation}
 use Rattle.gql_schema.specs.declared.object.Object.{Object}
 
 -- a reference that shows a value
 abbrev pub shown : {A : Type 0} → A → Bor A
 shown value = record { ref_ptr = (0, 0); now = value }
 
--- the scene of a request over a schema, with this environment, whose operation is no mutation, and
--- this object at its root: the session has no data
+-- the scene of a request over a schema, with this environment and this object at its root: the
+-- session has no data
 abbrev pub scene_for : {V : Type 0} → Schema → DynamicRequest V → QueryEnv → Object → Scene V
 scene_for schema request env object = record {
   env = shown env;
@@ -29,5 +30,5 @@ scene_for schema request env object = record {
     session = shown [];
     schema = shown (settings_of schema).schema_data;
   };
-  serial = false;
+  serial = is_mutation env.operation.node.ty;
 }

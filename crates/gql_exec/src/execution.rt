@@ -1,20 +1,21 @@
 //! The execution of requests (GraphQL, October 2021, section 6).
-ghost use Rattle.std.specs.Prelude.{◌≡◌, ◌<◌, [], true, false, IfErr, IfOk, OnErr, OnOk};
+ghost use Rattle.std.specs.Prelude.{◌≡◌, ◌<◌, [], true, false, IfErr, IfOk, OnOk};
 ghost use Rattle.std.specs.Option.{ForSome};
 ghost use Rattle.gql_engine.specs.Progress.{seen};
 ghost use Rattle.gql_engine.specs.Steps.{IsCounted};
 ghost use Rattle.gql_exec.specs.Bare.{bare_scene};
-ghost use Rattle.gql_exec.specs.Execution.{asks, Executes, fault_response, HaltsIn, Runs, Stops};
+ghost use Rattle.gql_exec.specs.Execution.{asks, Executes, fault_response, HaltsIn, mutates};
+ghost use Rattle.gql_exec.specs.Execution.{Runs, Stops};
 ghost use Rattle.gql_exec.specs.Scene.{scene_for};
 ghost use Rattle.gql_exec.specs.SchemaOnly.{is_schema_only, StartsNone};
-ghost use Rattle.gql_resolve.specs.Call.{is_mutation};
 
 use crate::dynamic_request::DynamicRequest;
 use crate::place_response::response_at;
 use crate::schema::Schema;
 use gql_base::{Items, Made, NoMemory, ServerError, Steps};
+use gql_doc::OperationType;
 use gql_engine::Scene;
-use gql_merged::run_merged_counted;
+use gql_merged::{run_merged_counted, run_mutation_counted};
 use gql_request::{Data, Hooks, QueryEnv, Response};
 use gql_resolve::{Layers, ResolverSet, Turns};
 use gql_schema::Object;
@@ -35,13 +36,11 @@ impl Schema {
     ) -> Result<Response, NoMemory>
         ensures executed { IfOk result (Executes R.ResolverSet P.Turns (seen resolvers.old turns.old)
             (seen resolvers.new turns.new) (asks self.now request.now)) }
-        ensures stopped { OnErr result (Stops R.ResolverSet P.Turns (seen resolvers.old turns.old)
-            (seen resolvers.new turns.new) (asks self.now request.now)) }
+        ensures stopped { IfErr result (λ want. Stops R.ResolverSet P.Turns
+            (seen resolvers.old turns.old) (seen resolvers.new turns.new)
+            (asks self.now request.now) want.roots) }
         ensures rules { R.rules resolvers.new ≡ R.rules resolvers.old }
         ensures lawful { R.is_lawful resolvers.old → R.is_lawful resolvers.new }
-        ensures world { R.is_lawful resolvers.old
-            → R.world resolvers.new ≡ R.world resolvers.old }
-        ensures roots { IfErr result (λ want. want.roots ≡ 0) }
         ensures starts { is_schema_only self.now request.now.inner ≡ true
             → R.is_lawful resolvers.old → ForSome (P.state turns.old) (λ s. OnOk result
             (StartsNone R.ResolverSet resolvers.old resolvers.new)) }
@@ -65,13 +64,11 @@ impl Schema {
         requires some { 0 < blank.parts }
         ensures executed { IfOk result (Executes R.ResolverSet P.Turns (seen resolvers.old turns.old)
             (seen resolvers.new turns.new) (asks self.now request.now)) }
-        ensures stopped { OnErr result (Stops R.ResolverSet P.Turns (seen resolvers.old turns.old)
-            (seen resolvers.new turns.new) (asks self.now request.now)) }
+        ensures stopped { IfErr result (λ want. Stops R.ResolverSet P.Turns
+            (seen resolvers.old turns.old) (seen resolvers.new turns.new)
+            (asks self.now request.now) want.roots) }
         ensures rules { R.rules resolvers.new ≡ R.rules resolvers.old }
         ensures lawful { R.is_lawful resolvers.old → R.is_lawful resolvers.new }
-        ensures world { R.is_lawful resolvers.old
-            → R.world resolvers.new ≡ R.world resolvers.old }
-        ensures roots { IfErr result (λ want. want.roots ≡ 0) }
     {
         let mut steps: Steps<S> = Steps::new(blank);
         self.execute_counted(alloc, resolvers, hooks, request, turns, &mut steps)
@@ -89,13 +86,11 @@ impl Schema {
     ) -> Result<Response, NoMemory>
         ensures executed { IfOk result (Executes R.ResolverSet P.Turns (seen resolvers.old turns.old)
             (seen resolvers.new turns.new) (asks self.now request.now)) }
-        ensures stopped { OnErr result (Stops R.ResolverSet P.Turns (seen resolvers.old turns.old)
-            (seen resolvers.new turns.new) (asks self.now request.now)) }
+        ensures stopped { IfErr result (λ want. Stops R.ResolverSet P.Turns
+            (seen resolvers.old turns.old) (seen resolvers.new turns.new)
+            (asks self.now request.now) want.roots) }
         ensures rules { R.rules resolvers.new ≡ R.rules resolvers.old }
         ensures lawful { R.is_lawful resolvers.old → R.is_lawful resolvers.new }
-        ensures world { R.is_lawful resolvers.old
-            → R.world resolvers.new ≡ R.world resolvers.old }
-        ensures roots { IfErr result (λ want. want.roots ≡ 0) }
         ensures counted { IsCounted (R.begun resolvers.old) (R.begun resolvers.new)
             steps.old steps.new }
     {
@@ -121,8 +116,9 @@ impl Schema {
         session: &'a Data,
     ) -> Scene<'a, V>
         requires { session.now ≡ [] }
-        ensures { bare_scene result
+        ensures shows { bare_scene result
             ≡ scene_for self.entry.now request.entry.now env.entry.now object.entry.now }
+        ensures serial { result.serial ≡ mutates result }
     {
         Scene {
             env,
@@ -137,7 +133,7 @@ impl Schema {
                 session,
                 schema: self.schema_data(),
             },
-            serial: false,
+            serial: env.operation.node.ty == OperationType::Mutation,
         }
     }
 }
@@ -159,18 +155,74 @@ fn respond<R: ResolverSet, P: Turns, S: Ledger>(
     turns: &mut P,
     steps: &mut Steps<S>,
 ) -> Result<Response, NoMemory>
-    requires { is_mutation scene.now.env.now.operation.node.ty ≡ false }
+    requires { scene.now.serial ≡ mutates scene.now }
     ensures runs { R.is_lawful resolvers.old → IfOk result (Runs R.ResolverSet P.Turns
         (seen resolvers.old turns.old) (seen resolvers.new turns.new) (bare_scene scene.now)) }
-    ensures halts { R.is_lawful resolvers.old → OnErr result (HaltsIn R.ResolverSet P.Turns
-        (seen resolvers.old turns.old) (seen resolvers.new turns.new) (bare_scene scene.now)) }
+    ensures halts { R.is_lawful resolvers.old → IfErr result (λ want. HaltsIn R.ResolverSet P.Turns
+        (seen resolvers.old turns.old) (seen resolvers.new turns.new) (bare_scene scene.now)
+        want.roots) }
     ensures rules { R.rules resolvers.new ≡ R.rules resolvers.old }
     ensures lawful { R.is_lawful resolvers.old → R.is_lawful resolvers.new }
-    ensures world { R.is_lawful resolvers.old → R.world resolvers.new ≡ R.world resolvers.old }
-    ensures roots { IfErr result (λ want. want.roots ≡ 0) }
+    ensures counted { IsCounted (R.begun resolvers.old) (R.begun resolvers.new)
+        steps.old steps.new }
+{
+    if scene.serial {
+        respond_in_turn(alloc, scene, resolvers, hooks, turns, steps)
+    } else {
+        respond_at_once(alloc, scene, resolvers, hooks, turns, steps)
+    }
+}
+
+/// The same of an operation that is no mutation.
+fn respond_at_once<R: ResolverSet, P: Turns, S: Ledger>(
+    alloc: Global,
+    scene: &Scene<'_, R::Own>,
+    resolvers: &mut R,
+    hooks: &mut Hooks,
+    turns: &mut P,
+    steps: &mut Steps<S>,
+) -> Result<Response, NoMemory>
+    requires { mutates scene.now ≡ false }
+    ensures runs { R.is_lawful resolvers.old → IfOk result (Runs R.ResolverSet P.Turns
+        (seen resolvers.old turns.old) (seen resolvers.new turns.new) (bare_scene scene.now)) }
+    ensures halts { R.is_lawful resolvers.old → IfErr result (λ want. HaltsIn R.ResolverSet P.Turns
+        (seen resolvers.old turns.old) (seen resolvers.new turns.new) (bare_scene scene.now)
+        want.roots) }
+    ensures rules { R.rules resolvers.new ≡ R.rules resolvers.old }
+    ensures lawful { R.is_lawful resolvers.old → R.is_lawful resolvers.new }
     ensures counted { IsCounted (R.begun resolvers.old) (R.begun resolvers.new)
         steps.old steps.new }
 {
     let place = run_merged_counted(alloc, scene, resolvers, hooks, turns, steps)?;
-    Ok(response_at(alloc, place)?)
+    match response_at(alloc, place) {
+        Ok(response) => Ok(response),
+        Err(_) => Err(NoMemory { roots: 0 }),
+    }
+}
+
+/// The same of a mutation, whose root keys are answered one after another.
+fn respond_in_turn<R: ResolverSet, P: Turns, S: Ledger>(
+    alloc: Global,
+    scene: &Scene<'_, R::Own>,
+    resolvers: &mut R,
+    hooks: &mut Hooks,
+    turns: &mut P,
+    steps: &mut Steps<S>,
+) -> Result<Response, NoMemory>
+    requires { mutates scene.now ≡ true }
+    ensures runs { R.is_lawful resolvers.old → IfOk result (Runs R.ResolverSet P.Turns
+        (seen resolvers.old turns.old) (seen resolvers.new turns.new) (bare_scene scene.now)) }
+    ensures halts { R.is_lawful resolvers.old → IfErr result (λ want. HaltsIn R.ResolverSet P.Turns
+        (seen resolvers.old turns.old) (seen resolvers.new turns.new) (bare_scene scene.now)
+        want.roots) }
+    ensures rules { R.rules resolvers.new ≡ R.rules resolvers.old }
+    ensures lawful { R.is_lawful resolvers.old → R.is_lawful resolvers.new }
+    ensures counted { IsCounted (R.begun resolvers.old) (R.begun resolvers.new)
+        steps.old steps.new }
+{
+    let (place, roots) = run_mutation_counted(alloc, scene, resolvers, hooks, turns, steps)?;
+    match response_at(alloc, place) {
+        Ok(response) => Ok(response),
+        Err(_) => Err(NoMemory { roots }),
+    }
 }

@@ -18,17 +18,15 @@ impl Schema {
         }
     }
 
-    /// The object of which the operations of a kind are executed, or why there is none. The
-    /// execution of mutations is to come.
+    /// The object of which the operations of a kind are executed, or why there is none.
     pub(crate) fn root_for(&self, ty: OperationType) -> Result<&Object, &'static str>
         ensures { MatchResult result (λ object. root_for self.now ty ≡ Ok object.now)
             (λ text. root_for self.now ty ≡ Err text.now) }
     {
         let root = self.root_object(ty);
         match (ty, root) {
-            (OperationType::Query, Some(object)) => Ok(object),
+            (OperationType::Query | OperationType::Mutation, Some(object)) => Ok(object),
             (OperationType::Query, None) => Err("Query root not found"),
-            (OperationType::Mutation, Some(_)) => Err("Mutations are not supported yet."),
             (OperationType::Mutation, None) => Err("Mutation root not found"),
             (OperationType::Subscription, _) => {
                 Err("Subscriptions are not supported on this transport.")

@@ -33,10 +33,10 @@ use Rattle.gql_merged.specs.declared.level.Node.{Node}
 use Rattle.gql_merged.proofs.AskingLemmas.{outcome_is}
 
 module _ {V : Type 0} where
-  fill-Leaf : (pos : Pos) (below : List ℕ → FieldValue V → Members) (leaf : Value) → fill pos below (shape.Leaf leaf) ≡ tree.Leaf leaf
+  pub fill-Leaf : (pos : Pos) (below : List ℕ → FieldValue V → Members) (leaf : Value) → fill pos below (shape.Leaf leaf) ≡ tree.Leaf leaf
   fill-Leaf pos below leaf = search (rules, the_lemmas)
 
-  fill-Absent : (pos : Pos) (below : List ℕ → FieldValue V → Members) → fill pos below shape.Absent ≡ tree.Absent
+  pub fill-Absent : (pos : Pos) (below : List ℕ → FieldValue V → Members) → fill pos below shape.Absent ≡ tree.Absent
   fill-Absent pos below = search (rules, the_lemmas)
 
   module _ (basis : Basis) (answer : Call V → Answer V) (spot : Spot V)

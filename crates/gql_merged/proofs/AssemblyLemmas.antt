@@ -1,17 +1,17 @@
 -- The places of tasks as they are put together, from the task that was answered last to the first.
-use Rattle.std.proofs.Common.{◌≡◌, ℕ, zero, suc, ◌<◌, ◌≤◌, List, [], ◌∷◌, ◌++◌, length, take, drop, Option, Some, None, slice_get, refl, ap, sym, subst, ◌∙◌, arith}
+use Rattle.std.proofs.Common.{◌≡◌, ℕ, zero, suc, ◌<◌, ◌≤◌, List, [], ◌∷◌, ◌++◌, length, take, drop, Option, Some, None, refl, ap, sym, subst, ◌∙◌, arith}
 use Rattle.gql_place.specs.declared.place.Place.{Place}
 use Rattle.gql_resolve.specs.Call.{Call}
 use Rattle.gql_resolve.specs.declared.answer.Answer.{Answer}
-use Rattle.gql_merged.specs.Assembling.{AllHeld, beneath_due, IsFilledDue, IsRight, place_made}
+use Rattle.gql_merged.specs.Assembling.{AllHeldSince, ArePlaced, beneath_due, IsFilledDue, IsRight, place_made}
 use Rattle.gql_merged.specs.Entries.{laid}
 use Rattle.gql_merged.specs.Fitting.{entries_in, entry_of}
 use Rattle.gql_merged.specs.Jobs.{Job}
-use Rattle.gql_merged.specs.Standing.{Paired, present, put_open}
+use Rattle.gql_merged.specs.Standing.{OpenSince, Paired, present, put_open}
 use Rattle.gql_merged.specs.declared.kept.Kept.{Kept}
 use Rattle.gql_merged.proofs.EntryLemmas.{Laid, laid_less}
 use Rattle.gql_merged.proofs.PlacedLemmas.{made_right}
-use Rattle.gql_merged.proofs.StandingLemmas.{Stands, stands_first, stands_last, stands_less}
+use Rattle.gql_merged.proofs.StandingLemmas.{all_right, Stands, stands_first, stands_last, stands_less}
 use Rattle.gql_merged.proofs.TaskLemmas.{map_append}
 
 take_long : {X : Type 0} (n : ℕ) (xs : List X) → n ≤ length xs → length (take n xs) ≡ n
@@ -31,20 +31,21 @@ put_long place (Some p ∷ os) zero = refl
 put_long place (None ∷ os) (suc n) = ap suc (put_long place os n)
 put_long place (Some p ∷ os) (suc n) = ap suc (put_long place os n)
 
-module _ {V : Type 0} (roots count : ℕ) (all : List (Kept V)) where
+module _ {V : Type 0} (roots : ℕ) (all : List (Kept V)) (first : List (Option Place)) where
   -- the places so far, where so much of what is kept is left
   pub record IsPart (kept : List (Kept V)) (places : List (Option Place)) : Type 0 where
     pub laid_is : laid roots (entries_in kept) ≡ Some (length places)
-    pub below : length places ≤ count
-    pub stands : (jobs : List (Job V)) (answer : Call V → Answer V) → length jobs ≡ count → AllHeld answer jobs (entries_in all)
-        → Stands (IsFilledDue answer) (beneath_due answer) (IsRight answer) jobs (entries_in kept) places
+    pub below : length places ≤ length first
+    pub stands : (base : ℕ) (jobs : List (Job V)) (answer : Call V → Answer V) → base ≤ roots → OpenSince base first → length jobs ≡ length first
+        → AllHeldSince answer base jobs (entries_in all)
+        → Stands (IsFilledDue answer) (beneath_due answer) (IsRight answer) jobs base (entries_in kept) places
 
-  pub part_first : (places : List (Option Place)) → laid roots (entries_in all) ≡ Some count → length places ≡ count
-      → ((k : ℕ) (o : Option Place) → slice_get places k ≡ Some o → o ≡ None) → IsPart all places
-  part_first places is long open_are = record {
-    laid_is = is ∙ ap Some (sym long);
+  pub part_first : laid roots (entries_in all) ≡ Some (length first) → IsPart all first
+  part_first is = record {
+    laid_is = is;
     below = omega arith;
-    stands = λ jobs answer same held. stands_first (IsFilledDue answer) (beneath_due answer) (IsRight answer) jobs (entries_in all) places open_are held;
+    stands = λ base jobs answer early open_are same held.
+        stands_first (IsFilledDue answer) (beneath_due answer) (IsRight answer) jobs base (entries_in all) first open_are held;
   }
 
   part_laid : (kept front : List (Kept V)) (last : Kept V) (places : List (Option Place)) → kept ≡ front ++ last ∷ [] → IsPart kept places
@@ -73,24 +74,36 @@ module _ {V : Type 0} (roots count : ℕ) (all : List (Kept V)) where
       record {
         laid_is = lies.front_is ∙ ap Some (sym long);
         below = omega arith;
-        stands = λ jobs answer same held.
-            subst (Stands (IsFilledDue answer) (beneath_due answer) (IsRight answer) jobs (entries_in front)) (sym put)
-            (stands_less (IsFilledDue answer) (beneath_due answer) (IsRight answer) jobs roots (entries_in front) (entry_of last) places place
+        stands = λ base jobs answer early open_are same held.
+            subst (Stands (IsFilledDue answer) (beneath_due answer) (IsRight answer) jobs base (entries_in front)) (sym put)
+            (stands_less (IsFilledDue answer) (beneath_due answer) (IsRight answer) jobs base roots (entries_in front) (entry_of last) places place early
             (ap (laid roots) (sym (ap entries_in is ∙ map_append entry_of front (last ∷ []))) ∙ part.laid_is) (omega arith)
-            (subst (λ es. Stands (IsFilledDue answer) (beneath_due answer) (IsRight answer) jobs es places) (ap entries_in is ∙ map_append entry_of front (last ∷ []))
-            (part.stands jobs answer same held))
+            (subst (λ es. Stands (IsFilledDue answer) (beneath_due answer) (IsRight answer) jobs base es places) (ap entries_in is ∙ map_append entry_of front (last ∷ []))
+            (part.stands base jobs answer early open_are same held))
             (λ job fits right. made_right answer job last.filled (present (drop last.first places)) fits right));
       }
 
-  -- all places
-  pub part_last : (kept : List (Kept V)) (places : List (Option Place)) (made : List Place) → kept ≡ [] → made ≡ present places → IsPart kept places
-      → (jobs : List (Job V)) (answer : Call V → Answer V) → length jobs ≡ count → AllHeld answer jobs (entries_in all)
-      → Paired (IsRight answer) (take roots jobs) made
-  part_last kept places made none made_is part jobs answer same held =
-      let long : length places ≡ roots = (let e : Some roots ≡ Some (length places) = ap (λ ks. laid roots (entries_in ks)) (sym none) ∙ part.laid_is in cc) in
-      let low = part.below in
-      let stands : Stands (IsFilledDue answer) (beneath_due answer) (IsRight answer) jobs [] places
-      = subst (λ ks. Stands (IsFilledDue answer) (beneath_due answer) (IsRight answer) jobs (entries_in ks) places) none (part.stands jobs answer same held) in
-      subst (Paired (IsRight answer) (take roots jobs)) (sym made_is)
-      (subst (λ n. Paired (IsRight answer) (take n jobs) (present places)) long
-      (stands_last (IsFilledDue answer) (beneath_due answer) (IsRight answer) jobs places (omega arith) stands))
+  -- nothing is left
+  pub part_length : (kept : List (Kept V)) (places : List (Option Place)) → kept ≡ [] → IsPart kept places → length places ≡ roots
+  part_length kept places none part = (let e : Some roots ≡ Some (length places) = ap (λ ks. laid roots (entries_in ks)) (sym none) ∙ part.laid_is in cc)
+
+  pub part_last : (kept : List (Kept V)) (places : List (Option Place)) → kept ≡ [] → IsPart kept places → (base : ℕ) (jobs : List (Job V)) (answer : Call V → Answer V) → base ≤ roots
+      → OpenSince base first → length jobs ≡ length first → AllHeldSince answer base jobs (entries_in all) → ArePlaced answer base jobs places
+  part_last kept places none part base jobs answer early open_are same held = record {
+    each = stands_last (IsFilledDue answer) (beneath_due answer) (IsRight answer) jobs base places
+        (subst (λ ks. Stands (IsFilledDue answer) (beneath_due answer) (IsRight answer) jobs base (entries_in ks) places) none
+        (part.stands base jobs answer early open_are same held));
+  }
+
+-- where all are placed, the places that are there are those of the first tasks
+pub placed_paired : {V : Type 0} (answer : Call V → Answer V) (roots : ℕ) (jobs : List (Job V)) (places : List (Option Place)) → length places ≡ roots → roots ≤ length jobs
+    → ArePlaced answer 0 jobs places → Paired (IsRight answer) (take roots jobs) (present places)
+placed_paired answer roots jobs places long within placed =
+    all_right (IsRight answer) places jobs roots (sym long) within (λ j job o at stands. placed.each j job o (omega arith) at stands)
+
+pub zero_low : (n : ℕ) → 0 ≤ n
+zero_low n = omega arith
+
+-- no place stands before the first
+pub none_before : {X : Type 0} {xs : List X} → xs ≡ [] → (k : ℕ) → length xs ≤ k
+none_before is k = (let e = ap length is in omega arith)

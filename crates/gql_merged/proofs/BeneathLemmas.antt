@@ -23,8 +23,8 @@ use Rattle.gql_merged.specs.Basis.{execution_of, setting_by}
 use Rattle.gql_merged.specs.Beneath.{AreBeneath, IsBeneath, level_behind}
 use Rattle.gql_merged.specs.FieldsWithin.{collected}
 use Rattle.gql_merged.specs.Groups.{united}
-use Rattle.gql_merged.specs.Jobs.{completed_by, Job, job_at, jobs_at, jobs_beneath, jobs_of}
-use Rattle.gql_merged.specs.Parents.{jobs_of_standing, spot_found, Standing, standing_at, standing_behind}
+use Rattle.gql_merged.specs.Jobs.{completed_by, Job, job_at, jobs_at, jobs_at_as, jobs_beneath, jobs_of_as}
+use Rattle.gql_merged.specs.Parents.{jobs_here, jobs_of_standing, spot_found, Standing, standing_at, standing_behind}
 use Rattle.gql_merged.specs.Steps.{path_of}
 use Rattle.gql_merged.specs.Stored.{Spot, spots}
 use Rattle.gql_merged.specs.Tasks.{IsDeep}
@@ -65,15 +65,21 @@ module _ {V : Type 0} where
     job_one field None q = tt
     job_one field (Some asking) q = (makes field asking q, tt)
 
-    jobs_each : (members : List (List ℕ × Positioned Field)) → AllByRecursion Q (values_of members) → AllByRecursion P (jobs_of basis spot members)
-    jobs_each [] h = tt
-    jobs_each (m ∷ members) h =
-        every_both P _ _ (job_one m.1 (field_asking false (execution_of basis) spot.object spot.parent m.1) h.0) (jobs_each members h.1)
+    jobs_each : (root : Bool) (members : List (List ℕ × Positioned Field)) → AllByRecursion Q (values_of members) → AllByRecursion P (jobs_of_as root basis spot members)
+    jobs_each root [] h = tt
+    jobs_each root (m ∷ members) h =
+        every_both P _ _ (job_one m.1 (field_asking root (execution_of basis) spot.object spot.parent m.1) h.0) (jobs_each root members h.1)
+
+    -- as roots of a mutation or as others
+    pub jobs_all_as : (root : Bool) (selections : List (Positioned Selection))
+        → AllByRecursion Q (values_of (merged (reading (setting_by basis)) (collected basis spot.object selections)))
+        → AllByRecursion P (jobs_at_as root basis selections spot)
+    jobs_all_as root selections h = jobs_each root (merged (reading (setting_by basis)) (collected basis spot.object selections)) h
 
     pub jobs_all : (selections : List (Positioned Selection))
         → AllByRecursion Q (values_of (merged (reading (setting_by basis)) (collected basis spot.object selections)))
         → AllByRecursion P (jobs_at basis selections spot)
-    jobs_all selections h = jobs_each (merged (reading (setting_by basis)) (collected basis spot.object selections)) h
+    jobs_all selections h = jobs_all_as false selections h
 
   -- tasks of an object that isn't the root are deep
   pub deep_at : (basis : Basis) (selections : List (Positioned Selection)) (spot : Spot V) → 0 < length spot.path → AllByRecursion IsDeep (jobs_at basis selections spot)
@@ -183,12 +189,13 @@ module _ {V : Type 0} (at : Spot V → Standing V) where
 
   -- one more object has its tasks
   pub placed_more : (jobs jobs' all : List (Job V)) (parent : Rc (Parent V) Global) (its rest : List (Found V)) (found : Found V)
-      → its ≡ found ∷ rest → jobs' ≡ jobs ++ jobs_of_standing (standing_behind parent) → standing_behind parent ≡ at (spot_found found)
+      → its ≡ found ∷ rest → jobs' ≡ jobs ++ jobs_here parent.value → jobs_here parent.value ≡ jobs_of_standing (standing_behind parent)
+      → standing_behind parent ≡ at (spot_found found)
       → jobs ++ flat_map jobs_of_standing (map at (map spot_found its)) ≡ all
       → jobs' ++ flat_map jobs_of_standing (map at (map spot_found rest)) ≡ all
-  placed_more jobs jobs' all parent its rest found is added stands before =
+  placed_more jobs jobs' all parent its rest found is added own stands before =
       let others = flat_map jobs_of_standing (map at (map spot_found rest)) in
-      ap (λ js. js ++ others) added
+      ap (λ js. js ++ others) (added ∙ ap (λ js. jobs ++ js) own)
       ∙ append_assoc jobs (jobs_of_standing (standing_behind parent)) others
       ∙ ap (λ s. jobs ++ (jobs_of_standing s ++ others)) stands
       ∙ ap (λ fs. jobs ++ flat_map jobs_of_standing (map at (map spot_found fs))) (sym is)

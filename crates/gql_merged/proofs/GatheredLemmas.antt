@@ -13,7 +13,7 @@ use Rattle.gql_merged.specs.Assembled.{members_with, places_behind_all, places_w
 use Rattle.gql_merged.specs.Assembling.{members_each}
 use Rattle.gql_merged.specs.Levels.{asked_behind, members_of}
 use Rattle.gql_merged.specs.Parents.{standing_behind}
-use Rattle.gql_merged.specs.Standing.{present, put_open}
+use Rattle.gql_merged.specs.Standing.{OpenSince, present, put_open}
 use Rattle.gql_merged.specs.declared.level.Level.{Level}
 use Rattle.gql_merged.specs.declared.parent.Parent.{Parent}
 use Rattle.gql_merged.proofs.TaskLemmas.{members_names, members_values}
@@ -31,11 +31,10 @@ pub present_none : {P : Type 0} (old : List (Option P)) (all : List P) → old �
 present_none old all none before = sym before ∙ ap present none
 
 -- one more open place
-pub open_more : {P : Type 0} (places places' : List (Option P)) → places' ≡ places ++ None ∷ [] → ((k : ℕ) (o : Option P) → slice_get places k ≡ Some o → o ≡ None)
-    → (k : ℕ) (o : Option P) → slice_get places' k ≡ Some o → o ≡ None
-open_more places places' added before k o at =
+pub open_more : {P : Type 0} (base : ℕ) (places places' : List (Option P)) → places' ≡ places ++ None ∷ [] → OpenSince base places → OpenSince base places'
+open_more base places places' added before k o above at =
     elim (get_append places (None ∷ []) k o (ap (λ ps. slice_get ps k) (sym added) ∙ at)) [
-      | inl here ↦ before k o here
+      | inl here ↦ before k o above here
       | inr later ↦ last later.0 o later.2
     ]
   where

@@ -11,6 +11,7 @@ pub mod GatheredLemmas
 pub mod GivingLemmas
 pub mod GroupLemmas
 pub mod JobLemmas
+pub mod KeyLemmas
 pub mod LevelLemmas
 pub mod MergedLemmas
 pub mod NestLemmas
@@ -18,6 +19,7 @@ pub mod NodesLemmas
 pub mod PlacedLemmas
 pub mod PlanLemmas
 pub mod RunLemmas
+pub mod SerialLemmas
 pub mod StandingLemmas
 pub mod StoredLemmas
 pub mod TaskLemmas

@@ -6,7 +6,7 @@ use Rattle.gql_engine.proofs.Lists.{get_append, get_map, get_within}
 use Rattle.gql_engine.specs.Plan.{HasMade}
 use Rattle.gql_engine.specs.declared.given.Given.{Given}
 use Rattle.gql_merged.specs.Entries.{laid}
-use Rattle.gql_merged.specs.Fitting.{entries_in, entry_of, HoldsGiven, IsFilledWith, made_beneath}
+use Rattle.gql_merged.specs.Fitting.{entries_in, entry_of, HoldsGiven, HoldsSince, IsFilledWith, made_beneath}
 use Rattle.gql_merged.specs.Jobs.{Job}
 use Rattle.gql_merged.specs.Tasks.{IsDeep, job_of_task, jobs_in}
 use Rattle.gql_merged.specs.declared.kept.Kept.{Kept}
@@ -78,6 +78,14 @@ module _ {V : Type 0} {tasks tasks' : List (Task V)} {kept kept' : List (Kept V)
       subst (λ js. HoldsGiven js (entries_in kept') other g) (sym completes_made)
       (subst (λ es. HoldsGiven (jobs_in tasks ++ made_beneath given job) es other g) (sym entries_are)
       (held_more (jobs_in tasks) (made_beneath given job) (entries_in kept) (entry_of k) other differs held))
+
+  -- also where that of earlier phases was given away
+  pub completes_keeps_since : (base other : ℕ) (g : Given V) → (other ≡ k.number → ⊥) → HoldsSince base (jobs_in tasks) (entries_in kept) other g
+      → HoldsSince base (jobs_in tasks') (entries_in kept') other g
+  completes_keeps_since base other g differs held = elim held [
+    | inl away ↦ inl away
+    | inr kept_one ↦ inr (completes_keeps other g differs kept_one)
+  ]
 
 -- what was made for a task
 pub completes_task : {V : Type 0} (tasks tasks' more : List (Task V)) (kept kept' : List (Kept V)) (k : Kept V) (task : Task V) (given : Given V)

@@ -1,9 +1,11 @@
 -- From the first turn to the last: the tasks of the root, and what stands when none waits.
-use Rattle.std.proofs.Common.{ℕ, zero, suc, ◌≡◌, ◌≤◌, Bool, true, false, ltb, List, [], ◌∷◌, ◌++◌, length, map, take, refl, sym, ap, subst, ◌∙◌, arith, ltb-true, ltb-false}
+use Rattle.std.proofs.Common.{ℕ, zero, suc, ◌≡◌, ◌≤◌, Bool, true, false, ltb, List, [], ◌∷◌, ◌++◌, length, map, take, inl, inr, refl, sym, ap, subst, ◌∙◌, arith, ltb-true, ltb-false}
 use Rattle.std.proofs.lemmas.List.{append-nil}
 use Rattle.std.specs.Prelude.{Some, slice_get}
 use Rattle.std.specs.List.{AllByRecursion, zip}
 use Rattle.std.specs.Option.{ForSome}
+use Rattle.std.specs.declared.alloc.Global.{Global}
+use Rattle.std.specs.declared.rc.Rc.{Rc}
 use Rattle.gql_base.specs.Pairs.{names_of, values_of}
 use Rattle.gql_base.specs.declared.pos.Pos.{Pos}
 use Rattle.gql_doc.specs.Depth.{operation_set}
@@ -24,7 +26,7 @@ use Rattle.gql_engine.specs.declared.scene.Scene.{Scene}
 use Rattle.gql_meaning.specs.Responses.{Members, root_place}
 use Rattle.gql_place.specs.declared.place.Place.{Place}
 use Rattle.gql_request.specs.QueryEnv.{levels_of}
-use Rattle.gql_resolve.specs.Call.{Call}
+use Rattle.gql_resolve.specs.Call.{Call, is_mutation}
 use Rattle.gql_resolve.specs.Record.{with_more}
 use Rattle.gql_resolve.specs.declared.answer.Answer.{Answer}
 use Rattle.gql_resolve.specs.declared.record_entry.RecordEntry.{RecordEntry}
@@ -37,19 +39,25 @@ use Rattle.gql_merged.specs.Assembling.{AllHeld, IsAssembled, IsRight}
 use Rattle.gql_merged.specs.Basis.{setting_by}
 use Rattle.gql_merged.specs.Entries.{Entry}
 use Rattle.gql_merged.specs.FieldsWithin.{collected}
-use Rattle.gql_merged.specs.Fitting.{HoldsGiven, IsFilled}
-use Rattle.gql_merged.specs.Jobs.{Job, jobs_beneath}
-use Rattle.gql_merged.specs.Levels.{asked_behind}
-use Rattle.gql_merged.specs.Parents.{Standing, standing_at, standing_of}
-use Rattle.gql_merged.specs.Run.{basis_of, job_subject, merged_response, merged_work, Nests, root_jobs, root_selections, root_spot}
+use Rattle.gql_merged.specs.Fitting.{HoldsGiven, HoldsSince, IsFilled}
+use Rattle.gql_merged.specs.Jobs.{Job, jobs_at_as, jobs_beneath, jobs_by_as}
+use Rattle.gql_merged.specs.Levels.{asked_behind, asked_in, members_of}
+use Rattle.gql_merged.specs.Parents.{jobs_here, Standing, standing_at, standing_of}
+use Rattle.gql_merged.specs.Run.{basis_of, job_subject, merged_response, merged_work, Nests, own_jobs, root_jobs, root_selections, root_spot}
+use Rattle.gql_merged.specs.Keys.{IsKey}
+use Rattle.gql_merged.specs.NeverRoots.{jobs_as}
+use Rattle.gql_merged.specs.Serial.{key_jobs}
 use Rattle.gql_merged.specs.Standing.{Paired}
 use Rattle.gql_merged.specs.Tasks.{IsDeep, job_of_task, jobs_in}
 use Rattle.gql_merged.specs.Within.{AllNest}
 use Rattle.gql_merged.specs.declared.kept.Filled.{Filled}
+use Rattle.gql_merged.specs.declared.level.Level.{Level}
+use Rattle.gql_merged.specs.declared.parent.Held.TheVariants as held
 use Rattle.gql_merged.specs.declared.parent.Parent.{Parent}
 use Rattle.gql_merged.specs.declared.task.Task.{Task}
-use Rattle.gql_merged.proofs.BeneathLemmas.{every_at, every_of, jobs_all}
+use Rattle.gql_merged.proofs.BeneathLemmas.{every_at, every_of, jobs_all, jobs_all_as}
 use Rattle.gql_merged.proofs.GatheredLemmas.{level_members}
+use Rattle.gql_merged.proofs.JobLemmas.{at_root, root_level_jobs}
 use Rattle.gql_merged.proofs.NestLemmas.{collected_nest}
 use Rattle.gql_merged.proofs.PlacedLemmas.{root_right}
 use Rattle.gql_merged.proofs.WithinLemmas.{nests_within}
@@ -74,7 +82,39 @@ taken (x ∷ first) more (suc n) long =
     let rest = taken first more n (omega arith) in
     record { more = rest.more; is = ap (λ xs. x ∷ xs) rest.is }
 
+-- a task as it is held
+pub at_task : {V : Type 0} (ts : List (Task V)) (k : ℕ) (job : Job V) → slice_get (jobs_in ts) k ≡ Some job → (task : Task V) × (slice_get ts k ≡ Some task) × (job_of_task task ≡ job)
+at_task [] k job is = absurd (cc)
+at_task (t ∷ ts) zero job is = (t, refl, cc)
+at_task (t ∷ ts) (suc k) job is = at_task ts k job is
+
+both_all : {X : Type 0} (P Q : X → Type 0) (xs : List X) → AllByRecursion P xs → AllByRecursion Q xs → AllByRecursion (λ x. P x × Q x) xs
+both_all P Q [] h k = tt
+both_all P Q (x ∷ xs) h k = ((h.0, k.0), both_all P Q xs h.1 k.1)
+
 module _ {V : Type 0} (scene : Scene V) where
+  -- where the operation is no mutation, the tasks of the root are no roots of one
+  pub query_jobs : is_mutation scene.env.now.operation.node.ty ≡ false → own_jobs scene ≡ root_jobs scene
+  query_jobs query = ap (λ b. jobs_at_as b (basis_of scene) (root_selections scene) (root_spot scene)) query
+
+  -- the tasks that the level of the root makes
+  pub root_tasks : (standing : Standing V) → standing ≡ standing_at (basis_of scene) (root_selections scene) (root_spot scene)
+      → jobs_by_as at_root standing.spot (values_of standing.members) ≡ own_jobs scene
+  root_tasks standing is =
+      ap (λ (s : Standing V). jobs_by_as at_root s.spot (values_of s.members)) is
+      ∙ root_level_jobs (basis_of scene) (root_spot scene) (root_selections scene)
+
+  -- of the object at the root
+  pub root_here : (level : Rc Level Global) (own : Level) → level.value ≡ own → own.object ≡ (root_spot scene).object
+      → members_of own ≡ asked_in (basis_of scene) (root_spot scene).object (root_selections scene)
+      → jobs_here (record { level = level; held = held.Root scene.root }) ≡ own_jobs scene
+  root_here level own is object_is members_are =
+      root_tasks (standing_of (record { level = level; held = held.Root scene.root }))
+      (λ i. record {
+        spot = record { object = (ap (λ (l : Level). l.object) is ∙ object_is) i; parent = scene.root.now; path = [] };
+        members = (ap members_of is ∙ members_are) i;
+      })
+
   -- the fields of the root nest
   pub root_nest : (object : List ℕ) (fields : List (Positioned Field)) → fields ≡ collected (basis_of scene) object (root_selections scene) → AllNest scene.env.now fields
   root_nest object fields is =
@@ -88,16 +128,23 @@ module _ {V : Type 0} (scene : Scene V) where
       (λ field asking q. refl) (root_selections scene)
       (every_of (λ field. Unit {0}) (λ field. tt) (values_of (merged (reading (setting_by (basis_of scene))) (collected (basis_of scene) (root_spot scene).object (root_selections scene)))))
 
+  -- the tasks of the root keys of a mutation
+  pub all_keys : AllByRecursion IsKey (key_jobs scene)
+  all_keys = both_all (λ (job : Job V). job.asking.call.is_root ≡ true) (λ job. length job.path ≡ 1) (key_jobs scene)
+      (jobs_as true (basis_of scene) (root_selections scene) (root_spot scene))
+      (jobs_all_as (λ (job : Job V). length job.path ≡ 1) (λ field. Unit {0}) (basis_of scene) (root_spot scene)
+      (λ field asking q. refl) true (root_selections scene)
+      (every_of (λ field. Unit {0}) (λ field. tt) (values_of (merged (reading (setting_by (basis_of scene))) (collected (basis_of scene) (root_spot scene).object (root_selections scene))))))
+
+  -- where the operation is a mutation, these are the tasks of the root
+  pub mutation_jobs : is_mutation scene.env.now.operation.node.ty ≡ true → own_jobs scene ≡ key_jobs scene
+  mutation_jobs mutation = ap (λ b. jobs_at_as b (basis_of scene) (root_selections scene) (root_spot scene)) mutation
+
   -- the first tasks of a plan are those of the root
   pub roots_enough : (tasks : List (Task V)) (roots : ℕ) → KeepNumbers (root_jobs scene) (jobs_in tasks)
       → ((k : ℕ) (task : Task V) → roots ≤ k → slice_get tasks k ≡ Some task → IsDeep (job_of_task task)) → length (root_jobs scene) ≤ roots
   roots_enough tasks roots keeps deep = by (ltb roots (length (root_jobs scene))) refl
     where
-      at_task : (ts : List (Task V)) (k : ℕ) (job : Job V) → slice_get (jobs_in ts) k ≡ Some job → (task : Task V) × (slice_get ts k ≡ Some task) × (job_of_task task ≡ job)
-      at_task [] k job is = absurd (cc)
-      at_task (t ∷ ts) zero job is = (t, refl, cc)
-      at_task (t ∷ ts) (suc k) job is = at_task ts k job is
-
       by : (b : Bool) → ltb roots (length (root_jobs scene)) ≡ b → length (root_jobs scene) ≤ roots
       by true test =
           let found = get_at (root_jobs scene) roots (ltb-true roots (length (root_jobs scene)) test) in
@@ -123,6 +170,14 @@ module _ {V : Type 0} (scene : Scene V) where
       (root_right answer (basis_of scene) n (root_selections scene) (root_spot scene) front.more assembled.own
       (nests_within (setting_by (basis_of scene)) n (operation_set scene.env.now.operation) nests) right)
 
+-- what is kept of an answer wasn't given away
+pub held_since : {V : Type 0} (base : ℕ) (jobs : List (Job V)) (entries : List (Entry (Filled V))) (number : ℕ) (answer : Answer V)
+    → HoldsSince base jobs entries number (Answered answer) → HoldsGiven jobs entries number (Answered answer)
+held_since base jobs entries number answer held = elim held [
+  | inl away ↦ (let e = away.1 in absurd (cc))
+  | inr kept ↦ kept
+]
+
 -- the execution of a scene, from its plan to its place
 module _ {R Own World Future P : Type 0} (set : Resolving R Own World Future) (turns : Choosing P) (scene : Scene Own) (old : Seen R P) where
   -- the answers that are due
@@ -146,7 +201,9 @@ module _ {R Own World Future P : Type 0} (set : Resolving R Own World Future) (t
   pub record Finishes (new : Seen R P) (first last : List (Job Own)) (entries entries' : List (Entry (Filled Own))) (states states' : List (State Future)) : Type 0 where
     pub lengths : length states' ≡ length last
     pub whole : waiting_from 0 (marks_of states') ≡ []
-    pub right : IsRightAt 0 answers_due (HoldsGiven first entries) first states → IsRightAt 0 answers_due (HoldsGiven last entries') last states'
+    pub base : ℕ
+    pub base' : ℕ
+    pub right : IsRightAt 0 answers_due (HoldsSince base first entries) first states → IsRightAt 0 answers_due (HoldsSince base' last entries') last states'
     pub ran : Ran (choice_by turns) (story_at set turns job_subject old) (stage_of set turns (made_of first states) old)
         (stage_of set turns (made_of last states') new)
 
@@ -217,12 +274,12 @@ module _ {R Own World Future P : Type 0} (set : Resolving R Own World Future) (t
 
       held_due : (k : ℕ) (job : Job Own) → slice_get last k ≡ Some job → HoldsGiven last entries' k (Answered (answers_due job))
       held_due k job is =
-          let right = finishes.right (first_right Own (Job Own) Future answers_due (HoldsGiven first entries) first states begins.n begins.states_is) in
+          let right = finishes.right (first_right Own (Job Own) Future answers_due (HoldsSince finishes.base first entries) first states begins.n begins.states_is) in
           let within = get_within last k job is in
           let m = finishes.lengths in
           let at = get_at states' k (omega arith) in
           let done = all_done Own (Job Own) Future states' finishes.whole k at.0 at.1 in
-          right.kept k job (omega arith) is (at.1 ∙ ap Some (sym done))
+          held_since finishes.base' last entries' k (answers_due job) (right.kept k job (omega arith) is (at.1 ∙ ap Some (sym done)))
 
       -- in the end the answers that are due are kept of all tasks
       pub all_held : AllHeld (due_by set old.set) last entries'

@@ -2,8 +2,8 @@
 use Rattle.std.proofs.Common.{◌≡◌, ℕ, zero, suc, ◌+◌, ◌<◌, ◌≤◌, Bool, true, false, eqb, List, [], ◌∷◌, ◌++◌, length, take, drop, Option, Some, None, slice_get, refl, sym, ap, subst, ◌∙◌, arith, eqb-true, false-eqb, length-append}
 use Rattle.std.specs.Prelude.{◌-◌}
 use Rattle.gql_merged.specs.Entries.{Entry, laid, latest}
-use Rattle.gql_merged.specs.Standing.{IsHeld, Paired, present, put_open}
-use Rattle.gql_merged.proofs.EntryLemmas.{laid_less, latest_other, latest_same, latest_within}
+use Rattle.gql_merged.specs.Standing.{IsHeld, OpenSince, Paired, present, put_open}
+use Rattle.gql_merged.proofs.EntryLemmas.{laid_grows, laid_less, latest_other, latest_same, latest_within}
 
 get_drop : {X : Type 0} (n : ℕ) (xs : List X) (k : ℕ) → slice_get (drop n xs) k ≡ slice_get xs (n + k)
 get_drop zero xs k = ap (slice_get xs) (let e : k ≡ 0 + k = omega arith in e)
@@ -87,7 +87,7 @@ below_first n m ks k l is under found = by (eqb m k.number) refl
         let less = at.1 in
         omega arith
 
-all_right : {J P : Type 0} (Right : J → P → Type 0) (os : List (Option P)) (js : List J) (c : ℕ) → c ≡ length os → c ≤ length js
+pub all_right : {J P : Type 0} (Right : J → P → Type 0) (os : List (Option P)) (js : List J) (c : ℕ) → c ≡ length os → c ≤ length js
     → ((j : ℕ) (job : J) (o : Option P) → slice_get js j ≡ Some job → slice_get os j ≡ Some o → (p : P) × (o ≡ Some p) × Right job p)
     → Paired Right (take c js) (present os)
 all_right Right [] js zero long within each = tt
@@ -121,7 +121,7 @@ put_at place (Some q ∷ os) (suc n) zero o is = elsewhere (λ e. (let b : ⊥ =
 put_at place (None ∷ os) (suc n) (suc k) o is = deeper place None os n k o (put_at place os n k o is)
 put_at place (Some q ∷ os) (suc n) (suc k) o is = deeper place (Some q) os n k o (put_at place os n k o is)
 
-module _ {J X P : Type 0} (Fits : J → X → Type 0) (beneath : J → List J) (Right : J → P → Type 0) (jobs : List J) where
+module _ {J X P : Type 0} (Fits : J → X → Type 0) (beneath : J → List J) (Right : J → P → Type 0) (jobs : List J) (base : ℕ) where
   -- a place is right, or what it is made of is kept
   abbrev pub IsDue : List (Entry X) → ℕ → J → Option P → Type 0
   IsDue ks number job None = IsHeld Fits beneath jobs ks number
@@ -129,7 +129,7 @@ module _ {J X P : Type 0} (Fits : J → X → Type 0) (beneath : J → List J) (
 
   -- the places so far
   pub record Stands (ks : List (Entry X)) (places : List (Option P)) : Type 0 where
-    pub each : (k : ℕ) (job : J) (o : Option P) → slice_get jobs k ≡ Some job → slice_get places k ≡ Some o → IsDue ks k job o
+    pub each : (k : ℕ) (job : J) (o : Option P) → base ≤ k → slice_get jobs k ≡ Some job → slice_get places k ≡ Some o → IsDue ks k job o
 
   -- what is kept of a task but the last one stays without it
   held_less : (ks : List (Entry X)) (k : Entry X) (number : ℕ) → (number ≡ k.number → ⊥) → IsHeld Fits beneath jobs (ks ++ k ∷ []) number
@@ -163,24 +163,25 @@ module _ {J X P : Type 0} (Fits : J → X → Type 0) (beneath : J → List J) (
 
   -- the task that was answered last of those that are left gets its place
   pub stands_less : (n : ℕ) (ks : List (Entry X)) (k : Entry X) (places : List (Option P)) (place : P)
-      → laid n (ks ++ k ∷ []) ≡ Some (length places) → length places ≤ length jobs → Stands (ks ++ k ∷ []) places
+      → base ≤ n → laid n (ks ++ k ∷ []) ≡ Some (length places) → length places ≤ length jobs → Stands (ks ++ k ∷ []) places
       → ((job : J) → Fits job k.filled → Paired Right (beneath job) (present (drop k.first places)) → Right job place)
       → Stands ks (put_open place (take k.first places) k.number)
-  stands_less n ks k places place is within old finishes =
+  stands_less n ks k places place early is within old finishes =
       let lies = laid_less n (length places) ks k is in
       let ends = lies.end_is in
+      let grows = laid_grows n k.first ks lies.front_is in
       let own : Paired Right (take k.count (drop k.first jobs)) (present (drop k.first places)) =
       all_right Right (drop k.first places) (drop k.first jobs) k.count (sym (drop_length k.first places k.count lies.end_is))
       (let l = drop_length k.first jobs (length jobs - k.first) (omega arith) in omega arith)
       (λ j job o at stands. not_open n (k.first + j) ks k job o lies.front_is lies.number_is (omega arith)
-      (old.each (k.first + j) job o (sym (get_drop k.first jobs j) ∙ at) (sym (get_drop k.first places j) ∙ stands))) in
+      (old.each (k.first + j) job o (omega arith) (sym (get_drop k.first jobs j) ∙ at) (sym (get_drop k.first places j) ∙ stands))) in
       record {
-        each = λ m job o there stands.
+        each = λ m job o above there stands.
             elim (put_at place (take k.first places) k.number m o stands) [
-              | elsewhere differs at ↦ due_less ks k m job o differs (old.each m job o there (get_take k.first places m o at))
-              | stood p at_is at ↦ placed ks m job o p at_is (right_at (ks ++ k ∷ []) m job o p at_is (old.each m job o there (get_take k.first places m o at)))
+              | elsewhere differs at ↦ due_less ks k m job o differs (old.each m job o above there (get_take k.first places m o at))
+              | stood p at_is at ↦ placed ks m job o p at_is (right_at (ks ++ k ∷ []) m job o p at_is (old.each m job o above there (get_take k.first places m o at)))
               | put same at at_is ↦
-                  let due : IsHeld Fits beneath jobs (ks ++ k ∷ []) m = old.each m job None there (get_take k.first places m None at) in
+                  let due : IsHeld Fits beneath jobs (ks ++ k ∷ []) m = old.each m job None above there (get_take k.first places m None at) in
                   let kept_is : due.kept ≡ k = (let e : Some due.kept ≡ Some k = sym due.last ∙ ap (latest (ks ++ k ∷ [])) same ∙ latest_same ks k in cc) in
                   let job_is : due.job ≡ job = (let e : Some due.job ≡ Some job = sym due.there ∙ there in cc) in
                   let block : take k.count (drop k.first jobs) ≡ beneath job =
@@ -191,16 +192,16 @@ module _ {J X P : Type 0} (Fits : J → X → Type 0) (beneath : J → List J) (
       }
 
   -- before any place is put together
-  pub stands_first : (ks : List (Entry X)) (places : List (Option P)) → ((k : ℕ) (o : Option P) → slice_get places k ≡ Some o → o ≡ None)
-      → ((k : ℕ) (job : J) → slice_get jobs k ≡ Some job → IsHeld Fits beneath jobs ks k) → Stands ks places
+  pub stands_first : (ks : List (Entry X)) (places : List (Option P)) → OpenSince base places
+      → ((k : ℕ) (job : J) → base ≤ k → slice_get jobs k ≡ Some job → IsHeld Fits beneath jobs ks k) → Stands ks places
   stands_first ks places none held = record {
-    each = λ k job o there stands. subst (IsDue ks k job) (sym (none k o stands)) (held k job there);
+    each = λ k job o above there stands. subst (IsDue ks k job) (sym (none k o above stands)) (held k job above there);
   }
 
   -- all places are put together
-  pub stands_last : (places : List (Option P)) → length places ≤ length jobs → Stands [] places → Paired Right (take (length places) jobs) (present places)
-  stands_last places within old =
-      all_right Right places jobs (length places) refl within (λ j job o at stands. none_due j job o (old.each j job o at stands))
+  pub stands_last : (places : List (Option P)) → Stands [] places → (j : ℕ) (job : J) (o : Option P) → base ≤ j → slice_get jobs j ≡ Some job → slice_get places j ≡ Some o
+      → (p : P) × (o ≡ Some p) × Right job p
+  stands_last places old = λ j job o above at stands. none_due j job o (old.each j job o above at stands)
     where
       none_due : (j : ℕ) (job : J) (o : Option P) → IsDue [] j job o → (p : P) × (o ≡ Some p) × Right job p
       none_due j job None due = (let l = due.last in absurd (cc))

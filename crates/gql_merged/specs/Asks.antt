@@ -112,12 +112,14 @@ arguments_in asks.Typename = []
 arguments_in asks.Nothing = []
 arguments_in (asks.Call resolver ty arguments) = arguments
 
--- the call that is asked on an object of this value, with its type
-abbrev pub asking_at : {V : Type 0} → List (List (ℕ × Value)) → FieldValue V → Asks → Asking V
-asking_at layers parent what = record {
+-- the call that is asked on an object of this value, as a root of a mutation or as another, with
+-- its type
+abbrev pub asking_at : {V : Type 0} → Bool → List (List (ℕ × Value)) → FieldValue V → Asks
+    → Asking V
+asking_at root layers parent what = record {
   call =
       record {
-        is_root = false;
+        is_root = root;
         resolver = resolver_in what;
         parent = parent;
         arguments = arguments_in what;

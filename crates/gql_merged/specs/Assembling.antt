@@ -1,5 +1,5 @@
 -- How the places of tasks are put together of what is kept of them, and when they are right.
-use Rattle.std.specs.Prelude.{◌≡◌, ℕ, List, [], ◌∷◌, Some, map, slice_get}
+use Rattle.std.specs.Prelude.{◌≡◌, ◌≤◌, ℕ, List, [], ◌∷◌, Option, Some, map, slice_get}
 use Rattle.gql_base.specs.declared.pos.Pos.{Pos}
 use Rattle.gql_meaning.specs.Responses.{Members, root_place}
 use Rattle.gql_place.specs.declared.place.Place.{Place}
@@ -54,10 +54,21 @@ module _ {V : Type 0} where
         (k : ℕ) (job : Job V) → slice_get jobs k ≡ Some job
         → IsHeld IsFilledDue beneath_due jobs entries k
 
+    -- the same of all from a number on
+    abbrev pub AllHeldSince : ℕ → List (Job V) → List (Entry (Filled V)) → Type 0
+    AllHeldSince base jobs entries =
+        (k : ℕ) (job : Job V) → base ≤ k → slice_get jobs k ≡ Some job
+        → IsHeld IsFilledDue beneath_due jobs entries k
+
     -- a place is that of merged execution, for all levels within which the field's set nests
     abbrev pub IsRight : Job V → Place → Type 0
     IsRight job place = (n : ℕ) → IsWithin (setting_by job.basis) n (own_selections job.field)
         → place ≡ merged_place job.basis answer n job
+
+    -- each place from a number on is there, and is right
+    pub record ArePlaced (base : ℕ) (jobs : List (Job V)) (places : List (Option Place)) : Type 0 where
+      pub each : (k : ℕ) (job : Job V) (o : Option Place) → base ≤ k → slice_get jobs k ≡ Some job
+          → slice_get places k ≡ Some o → (place : Place) × (o ≡ Some place) × IsRight job place
 
     -- a place of the root, of the right places of the root's tasks
     pub record IsAssembled (pos : Pos) (root : Standing V) (jobs : List (Job V))

@@ -1,6 +1,6 @@
 -- The tasks of merged execution: one for each key of an object that asks an answer, over the merged
 -- sets of all its occurrences (GraphQL, October 2021, sections 6.3 and 6.4).
-use Rattle.std.specs.Prelude.{ℕ, false, List, [], ◌∷◌, ◌++◌, Option, Some, None}
+use Rattle.std.specs.Prelude.{ℕ, Bool, false, List, [], ◌∷◌, ◌++◌, Option, Some, None}
 use Rattle.std.specs.List.{flat_map}
 use Rattle.gql_base.specs.declared.path_segment.PathSegment.{PathSegment}
 use Rattle.gql_base.specs.declared.path_segment.PathSegment.TheVariants as segment
@@ -57,17 +57,25 @@ module _ {V : Type 0} where
   job_of basis spot field asking =
       job_at basis spot.object (spot.path ++ segment.Field (key_text field) ∷ []) field asking
 
-  -- the tasks of these fields of an object, in their order
-  abbrev pub jobs_of : Basis → Spot V → List (List ℕ × Positioned Field) → List (Job V)
-  jobs_of basis spot members =
+  -- the tasks of these fields of an object, in their order, as roots of a mutation or as others
+  abbrev pub jobs_of_as : Bool → Basis → Spot V → List (List ℕ × Positioned Field) → List (Job V)
+  jobs_of_as root basis spot members =
       flat_map (λ member. job_of basis spot member.1
-      (field_asking false (execution_of basis) spot.object spot.parent member.1)) members
+      (field_asking root (execution_of basis) spot.object spot.parent member.1)) members
 
-  -- the tasks of an object in selections
-  abbrev pub jobs_at : Basis → List (Positioned Selection) → Spot V → List (Job V)
-  jobs_at basis selections spot =
-      jobs_of basis spot
+  -- as others
+  abbrev pub jobs_of : Basis → Spot V → List (List ℕ × Positioned Field) → List (Job V)
+  jobs_of basis spot members = jobs_of_as false basis spot members
+
+  -- the tasks of an object in selections, as roots of a mutation or as others
+  abbrev pub jobs_at_as : Bool → Basis → List (Positioned Selection) → Spot V → List (Job V)
+  jobs_at_as root basis selections spot =
+      jobs_of_as root basis spot
       (merged (reading (setting_by basis)) (collected basis spot.object selections))
+
+  -- as others
+  abbrev pub jobs_at : Basis → List (Positioned Selection) → Spot V → List (Job V)
+  jobs_at basis selections spot = jobs_at_as false basis selections spot
 
   -- what an answer to a task comes to
   abbrev pub completed_by : Job V → Answer V → Completed V
@@ -79,12 +87,16 @@ module _ {V : Type 0} where
       flat_map (jobs_at job.basis (own_selections job.field))
       (spots (completed_by job answer) job.path)
 
-  -- the task of a field of an object by what it asks
-  abbrev pub job_by : Spot V → Asked → List (Job V)
-  job_by spot asked =
+  -- the task of a field of an object by what it asks, as a root of a mutation or as another
+  abbrev pub job_by : (Asked → Bool) → Spot V → Asked → List (Job V)
+  job_by root spot asked =
       job_of asked.basis spot asked.field
-      (asking_by false (layers_of asked.basis.layers) spot.parent asked.asks)
+      (asking_by (root asked) (layers_of asked.basis.layers) spot.parent asked.asks)
 
   -- the tasks of fields by what each asks
+  abbrev pub jobs_by_as : (Asked → Bool) → Spot V → List Asked → List (Job V)
+  jobs_by_as root spot fields = flat_map (job_by root spot) fields
+
+  -- none of them as a root of a mutation
   abbrev pub jobs_by : Spot V → List Asked → List (Job V)
-  jobs_by spot fields = flat_map (job_by spot) fields
+  jobs_by spot fields = jobs_by_as (λ asked. false) spot fields

@@ -12,12 +12,14 @@ pub mod Filling
 pub mod Fitting
 pub mod Groups
 pub mod Jobs
+pub mod Keys
 pub mod Levels
 pub mod Merged
 pub mod MergedLaws
 pub mod NeverRoots
 pub mod Parents
 pub mod Run
+pub mod Serial
 pub mod Standing
 pub mod Steps
 pub mod Stored

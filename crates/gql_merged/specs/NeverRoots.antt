@@ -1,4 +1,4 @@
--- No task of merged execution is a root of a mutation.
+-- Which tasks of merged execution are roots of a mutation: those of the root keys of one.
 use Rattle.std.specs.Prelude.{◌≡◌, ◌||◌, ℕ, zero, suc, Bool, true, false, cond, List, [], ◌∷◌, ◌++◌}
 use Rattle.std.specs.Prelude.{Option, Some, None, slice_get, option_and_then}
 use Rattle.std.proofs.Common.{refl, subst}
@@ -23,7 +23,7 @@ use Rattle.gql_select.specs.Reading.{merged}
 use Rattle.gql_merged.specs.Basis.{execution_of, setting_by}
 use Rattle.gql_merged.specs.FieldsWithin.{collected}
 use Rattle.gql_merged.specs.Jobs.{asked_by_job, completed_by, Job, job_at, job_of, jobs_at}
-use Rattle.gql_merged.specs.Jobs.{jobs_beneath, jobs_of}
+use Rattle.gql_merged.specs.Jobs.{jobs_at_as, jobs_beneath, jobs_of_as}
 use Rattle.gql_merged.specs.Stored.{Spot, spots}
 use Rattle.gql_merged.specs.declared.basis.Basis.{Basis}
 
@@ -51,69 +51,79 @@ all_flat : {X Y : Type 0} (P : Y → Type 0) (f : X → List Y) → ((x : X) →
 all_flat P f each [] = tt
 all_flat P f each (x ∷ xs) = all_both P (f x) (flat_map f xs) (each x) (all_flat P f each xs)
 
-module _ {V : Type 0} where
-  -- a call isn't one of a root
-  abbrev pub IsNoRoot : Asking V → Type 0
-  IsNoRoot asking = asking.call.is_root ≡ false
+module _ {V : Type 0} (root : Bool) where
+  -- whether a call is one of a root of a mutation is as it is said
+  abbrev pub IsAs : Asking V → Type 0
+  IsAs asking = asking.call.is_root ≡ root
 
-  number_no_root : (execution : Execution) (parent : FieldValue V)
-      (arguments : List (List ℕ × Value)) (declared : Declared) (number : Option ℕ)
-      → OfSome IsNoRoot
-      (asking_at false execution parent arguments (record declared { number = number }))
-  number_no_root execution parent arguments declared None = tt
-  number_no_root execution parent arguments declared (Some resolver) = refl
+  number_as : (execution : Execution) (parent : FieldValue V) (arguments : List (List ℕ × Value))
+      (declared : Declared) (number : Option ℕ)
+      → OfSome IsAs
+      (asking_at root execution parent arguments (record declared { number = number }))
+  number_as execution parent arguments declared None = tt
+  number_as execution parent arguments declared (Some resolver) = refl
 
-  declared_no_root : (execution : Execution) (parent : FieldValue V)
+  declared_as : (execution : Execution) (parent : FieldValue V)
       (arguments : List (List ℕ × Value)) (found : Option Declared)
-      → OfSome IsNoRoot (option_and_then (asking_at false execution parent arguments) found)
-  declared_no_root execution parent arguments None = tt
-  declared_no_root execution parent arguments (Some declared) =
-      number_no_root execution parent arguments declared declared.number
+      → OfSome IsAs (option_and_then (asking_at root execution parent arguments) found)
+  declared_as execution parent arguments None = tt
+  declared_as execution parent arguments (Some declared) =
+      number_as execution parent arguments declared declared.number
 
-  tested_no_root : (test : Bool) (asking : Option (Asking V)) → OfSome IsNoRoot asking
-      → OfSome IsNoRoot (cond test None asking)
-  tested_no_root true asking h = tt
-  tested_no_root false asking h = h
+  tested_as : (test : Bool) (asking : Option (Asking V)) → OfSome IsAs asking
+      → OfSome IsAs (cond test None asking)
+  tested_as true asking h = tt
+  tested_as false asking h = h
 
-  field_no_root : (execution : Execution) (object : List ℕ) (parent : FieldValue V)
+  field_as : (execution : Execution) (object : List ℕ) (parent : FieldValue V)
       (field : Positioned Field)
-      → OfSome IsNoRoot (field_asking false execution object parent field)
-  field_no_root execution object parent field =
+      → OfSome IsAs (field_asking root execution object parent field)
+  field_as execution object parent field =
       let found = field_in execution.schema object (name_of field) in
       let arguments = constants execution.known (arguments_in found) (arguments_of field) in
-      tested_no_root (execution.only_introspection || is_typename (name_of field))
-      (option_and_then (asking_at false execution parent arguments) found)
-      (declared_no_root execution parent arguments found)
+      tested_as (execution.only_introspection || is_typename (name_of field))
+      (option_and_then (asking_at root execution parent arguments) found)
+      (declared_as execution parent arguments found)
 
+  -- the same of a task
+  abbrev pub IsJobAs : Job V → Type 0
+  IsJobAs job = job.asking.call.is_root ≡ root
+
+  at_as : (basis : Basis) (object : List ℕ) (path : List PathSegment)
+      (field : Positioned Field) (asking : Option (Asking V)) → OfSome IsAs asking
+      → AllByRecursion IsJobAs (job_at basis object path field asking)
+  at_as basis object path field None h = tt
+  at_as basis object path field (Some asking) h = (h, tt)
+
+  members_as : (basis : Basis) (spot : Spot V) (members : List (List ℕ × Positioned Field))
+      → AllByRecursion IsJobAs (jobs_of_as root basis spot members)
+  members_as basis spot [] = tt
+  members_as basis spot (member ∷ members) =
+      all_both IsJobAs
+      (job_of basis spot member.1
+      (field_asking root (execution_of basis) spot.object spot.parent member.1))
+      (jobs_of_as root basis spot members)
+      (at_as basis spot.object (spot.path ++ segment.Field (key_text member.1) ∷ []) member.1
+      (field_asking root (execution_of basis) spot.object spot.parent member.1)
+      (field_as (execution_of basis) spot.object spot.parent member.1))
+      (members_as basis spot members)
+
+  -- so it is of the tasks of an object
+  pub jobs_as : (basis : Basis) (selections : List (Positioned Selection)) (spot : Spot V)
+      → AllByRecursion IsJobAs (jobs_at_as root basis selections spot)
+  jobs_as basis selections spot =
+      members_as basis spot
+      (merged (reading (setting_by basis)) (collected basis spot.object selections))
+
+module _ {V : Type 0} where
   -- a task isn't a root of a mutation
   abbrev pub IsJobBelow : Job V → Type 0
   IsJobBelow job = job.asking.call.is_root ≡ false
 
-  at_no_root : (basis : Basis) (object : List ℕ) (path : List PathSegment)
-      (field : Positioned Field) (asking : Option (Asking V)) → OfSome IsNoRoot asking
-      → AllByRecursion IsJobBelow (job_at basis object path field asking)
-  at_no_root basis object path field None h = tt
-  at_no_root basis object path field (Some asking) h = (h, tt)
-
-  members_no_root : (basis : Basis) (spot : Spot V) (members : List (List ℕ × Positioned Field))
-      → AllByRecursion IsJobBelow (jobs_of basis spot members)
-  members_no_root basis spot [] = tt
-  members_no_root basis spot (member ∷ members) =
-      all_both IsJobBelow
-      (job_of basis spot member.1
-      (field_asking false (execution_of basis) spot.object spot.parent member.1))
-      (jobs_of basis spot members)
-      (at_no_root basis spot.object (spot.path ++ segment.Field (key_text member.1) ∷ []) member.1
-      (field_asking false (execution_of basis) spot.object spot.parent member.1)
-      (field_no_root (execution_of basis) spot.object spot.parent member.1))
-      (members_no_root basis spot members)
-
   -- no task of an object is one
   pub no_roots : (basis : Basis) (selections : List (Positioned Selection)) (spot : Spot V)
       → AllByRecursion IsJobBelow (jobs_at basis selections spot)
-  no_roots basis selections spot =
-      members_no_root basis spot
-      (merged (reading (setting_by basis)) (collected basis spot.object selections))
+  no_roots basis selections spot = jobs_as false basis selections spot
 
   -- and none beneath another one
   pub none_is_root : (job : Job V) (answer : Answer V) (place : ℕ) (below : Job V)

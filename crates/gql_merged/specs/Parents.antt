@@ -1,13 +1,14 @@
 -- Objects whose fields are asked.
-use Rattle.std.specs.Prelude.{ℕ, List, []}
+use Rattle.std.specs.Prelude.{ℕ, Bool, false, List, []}
 use Rattle.std.specs.declared.alloc.Global.{Global}
 use Rattle.std.specs.declared.rc.Rc.{Rc}
 use Rattle.gql_base.specs.Pairs.{values_of}
 use Rattle.gql_base.specs.declared.path_segment.PathSegment.{PathSegment}
 use Rattle.gql_doc.specs.declared.document.Positioned.{Positioned}
 use Rattle.gql_doc.specs.declared.document.Selection.{Selection}
+use Rattle.gql_resolve.specs.Call.{is_mutation}
 use Rattle.gql_resolve.specs.declared.field_value.FieldValue.{FieldValue}
-use Rattle.gql_merged.specs.Jobs.{Job, jobs_by}
+use Rattle.gql_merged.specs.Jobs.{Job, jobs_by, jobs_by_as}
 use Rattle.gql_merged.specs.Levels.{Asked, asked_in, members_of}
 use Rattle.gql_merged.specs.Steps.{path_of}
 use Rattle.gql_merged.specs.Stored.{Spot}
@@ -64,6 +65,16 @@ module _ {V : Type 0} where
   standing_at basis selections spot =
       record { spot = spot; members = asked_in basis spot.object selections }
 
-  -- the tasks of an object
+  -- whether the tasks of an object are roots of a mutation: they stand at the root of one
+  abbrev pub rooted : Held V → Asked → Bool
+  rooted (held.Root root) = λ asked. is_mutation asked.basis.env.now.operation.node.ty
+  rooted (held.Found found) = λ asked. false
+
+  -- its tasks
+  abbrev pub jobs_here : Parent V → List (Job V)
+  jobs_here parent = jobs_by_as (rooted parent.held) (standing_of parent).spot
+      (values_of (standing_of parent).members)
+
+  -- the tasks of an object that came of an answer
   abbrev pub jobs_of_standing : Standing V → List (Job V)
   jobs_of_standing standing = jobs_by standing.spot (values_of standing.members)

@@ -7,10 +7,10 @@ use Rattle.gql_engine.specs.Arena.{Subject, subject_of, Work}
 use Rattle.gql_engine.specs.declared.scene.Scene.{Scene}
 use Rattle.gql_meaning.specs.Responses.{root_place}
 use Rattle.gql_place.specs.declared.place.Place.{Place}
-use Rattle.gql_resolve.specs.Call.{Call}
+use Rattle.gql_resolve.specs.Call.{Call, is_mutation}
 use Rattle.gql_resolve.specs.declared.answer.Answer.{Answer}
 use Rattle.gql_schema.specs.Object.{object_name}
-use Rattle.gql_merged.specs.Jobs.{asked_by_job, Job, jobs_at, jobs_beneath}
+use Rattle.gql_merged.specs.Jobs.{asked_by_job, Job, jobs_at, jobs_at_as, jobs_beneath}
 use Rattle.gql_merged.specs.Merged.{merged_members}
 use Rattle.gql_merged.specs.Stored.{Spot}
 use Rattle.gql_merged.specs.declared.basis.Basis.{Basis}
@@ -42,7 +42,12 @@ module _ {V : Type 0} (scene : Scene V) where
   abbrev pub Nests : ℕ → Type 0
   Nests n = deep_from scene.env.now.fragments n (operation_set scene.env.now.operation) ≡ None
 
-  -- the tasks of the root
+  -- the tasks of the root, which are roots of a mutation where the operation is one
+  abbrev pub own_jobs : List (Job V)
+  own_jobs = jobs_at_as (is_mutation scene.env.now.operation.node.ty) basis_of root_selections
+      root_spot
+
+  -- the tasks of the root of an operation that is no mutation
   abbrev pub root_jobs : List (Job V)
   root_jobs = jobs_at basis_of root_selections root_spot
 

@@ -16,6 +16,11 @@ put_open place (None ∷ others) zero = Some place ∷ others
 put_open place (Some other ∷ others) zero = Some other ∷ others
 put_open place (one ∷ others) (suc number) = one ∷ put_open place others number
 
+-- no place is there from a number on
+abbrev pub OpenSince : {P : Type 0} → ℕ → List (Option P) → Type 0
+OpenSince {P = P} base places = (k : ℕ) (o : Option P) → base ≤ k → slice_get places k ≡ Some o
+    → o ≡ None
+
 -- two lists whose items stand in a relation, one by one
 abbrev pub Paired : {X Y : Type 0} → (X → Y → Type 0) → List X → List Y → Type 0
 Paired R [] [] = Unit {0}

@@ -7,7 +7,8 @@ use Rattle.gql_resolve.specs.Layers.{layers_of}
 use Rattle.gql_merged.specs.Asks.{asking_at}
 use Rattle.gql_merged.specs.Groups.{united}
 use Rattle.gql_merged.specs.Jobs.{Job}
-use Rattle.gql_merged.specs.Parents.{path_to, value_of}
+use Rattle.gql_merged.specs.Levels.{asked_by}
+use Rattle.gql_merged.specs.Parents.{path_to, rooted, value_of}
 use Rattle.gql_merged.specs.declared.level.Node.{Node}
 use Rattle.gql_merged.specs.declared.parent.Held.{Held}
 use Rattle.gql_merged.specs.declared.parent.Parent.{Parent}
@@ -28,7 +29,8 @@ module _ {V : Type 0} where
     basis = node.basis;
     object = parent.level.value.object;
     field = united node.group;
-    asking = asking_at (layers_of node.basis.layers) (value_of parent.held) node.asks;
+    asking = asking_at (rooted parent.held (asked_by node)) (layers_of node.basis.layers)
+        (value_of parent.held) node.asks;
     path = path_with parent.held node;
   }
 

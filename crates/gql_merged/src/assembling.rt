@@ -1,13 +1,13 @@
 //! The places of tasks, put together from the one that was answered last to the first. So the
 //! places beneath a task stand behind all others when it is its turn, and are moved into its own.
-ghost use Rattle.std.specs.Prelude.{ℕ, ◌≡◌, ◌<◌, ◌≤◌, List, Some, Option, None};
-ghost use Rattle.std.specs.Prelude.{drop, length, map, slice_get, take, IfOk, OnOk};
-ghost use Rattle.gql_merged.specs.Assembling.{AllHeld, IsRight, members_each, place_made};
+ghost use Rattle.std.specs.Prelude.{ℕ, ◌≡◌, ◌<◌, ◌≤◌, List, Some};
+ghost use Rattle.std.specs.Prelude.{drop, length, map, take, IfOk, OnOk};
+ghost use Rattle.gql_merged.specs.Assembling.{AllHeldSince, ArePlaced, members_each, place_made};
 ghost use Rattle.gql_merged.specs.Entries.{laid};
 ghost use Rattle.gql_merged.specs.Fitting.{entries_in};
 ghost use Rattle.gql_merged.specs.Jobs.{Job};
 ghost use Rattle.gql_merged.specs.Parents.{standing_behind};
-ghost use Rattle.gql_merged.specs.Standing.{Paired, present, put_open};
+ghost use Rattle.gql_merged.specs.Standing.{OpenSince, present, put_open};
 ghost use Rattle.gql_resolve.specs.Call.{Call};
 ghost use Rattle.gql_resolve.specs.declared.answer.Answer.{Answer};
 
@@ -21,39 +21,38 @@ use std::alloc::Global;
 use std::collections::VecDeque;
 use std::rc::Rc;
 
-/// The places of the first tasks, from what is kept of all.
+/// Puts together the places of the tasks of which something is kept, and leaves the first ones.
 pub(crate) fn assemble<'a, V: Drop>(
     alloc: Global,
     kept: Vec<Kept<'a, V>>,
     roots: usize,
-    count: usize,
-) -> Made<VecDeque<Option<Place>>>
-    requires { laid roots (entries_in kept.items) ≡ Some count }
-    ensures { (jobs : List (Job V)) (answer : Call V → Answer V) → length jobs ≡ count
-        → AllHeld answer jobs (entries_in kept.entry.items)
-        → IfOk result (λ places. Paired (IsRight answer) (take roots jobs)
-        (present places.items)) }
+    places: &mut Vec<Option<Place>>,
+) -> Made<()>
+    requires { laid roots (entries_in kept.items) ≡ Some (length places.old.items) }
+    ensures length { OnOk result (length places.new.items ≡ roots) }
+    ensures placed { (base : ℕ) (jobs : List (Job V)) (answer : Call V → Answer V)
+        → base ≤ roots → OpenSince base places.old.items → length jobs ≡ length places.old.items
+        → AllHeldSince answer base jobs (entries_in kept.entry.items)
+        → OnOk result (ArePlaced answer base jobs places.new.items) }
 {
     let mut kept = kept;
-    let mut places = no_places(alloc, count)?;
     'kept: while let Some(last) = kept.pop() {
-        put_place(alloc, last, &mut places)?;
+        put_place(alloc, last, places)?;
     }
-    Ok(VecDeque::from_vec(places))
+    Ok(())
 }
 
-/// So many places that are open.
+/// Adds open places up to this count.
 #[tactic(auto, using(crate::proofs::GatheredLemmas::open_more))]
-fn no_places(alloc: Global, count: usize) -> Made<Vec<Option<Place>>>
-    ensures length { IfOk result (λ places. length places.items ≡ count) }
-    ensures open { IfOk result (λ places. (k : ℕ) (o : Option Place)
-        → slice_get places.items k ≡ Some o → o ≡ None) }
+pub(crate) fn add_open(places: &mut Vec<Option<Place>>, count: usize) -> Made<()>
+    requires { length places.old.items ≤ count }
+    ensures length { OnOk result (length places.new.items ≡ count) }
+    ensures open { OnOk result (OpenSince (length places.old.items) places.new.items) }
 {
-    let mut places = Vec::with_capacity(alloc, count)?;
-    for i in 0..count {
+    for i in places.len()..count {
         places.push(None)?;
     }
-    Ok(places)
+    Ok(())
 }
 
 /// Puts the place of a task where it is open, of the places beneath it, which stand behind all

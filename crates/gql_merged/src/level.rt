@@ -1,9 +1,8 @@
-ghost use Rattle.std.specs.Prelude.{◌≡◌, false, length};
+ghost use Rattle.std.specs.Prelude.{◌≡◌, length};
 ghost use Rattle.std.specs.Coded.{Coded-set};
 ghost use Rattle.std.proofs.Props.{props};
 ghost use Rattle.gql_doc.specs.Depth.{field_set};
 ghost use Rattle.gql_request.specs.QueryEnv.{NestsIn};
-ghost use Rattle.gql_resolve.specs.Call.{is_mutation};
 ghost use Rattle.gql_merged.specs.Groups.{item_of, united};
 
 use crate::asks::Asks;
@@ -14,14 +13,13 @@ use gql_doc::Field;
 use std::rc::Rc;
 
 /// A field of an object, merged over its occurrences, with what it asks there. Where there are
-/// several occurrences, one field stands for them all. The operation is no mutation.
+/// several occurrences, one field stands for them all.
 #[derive(Drop)]
 pub struct Node<'a> {
     pub basis: Basis<'a>,
     pub group: Group<'a>,
     pub item: Option<Field>,
     pub asks: Asks,
-    pub ghost query: { is_mutation basis.env.now.operation.node.ty ≡ false },
     pub ghost whole: { item ≡ item_of group } by { Coded-set item-code item (item_of group) },
     pub ghost nests: { NestsIn basis.env.now (field_set (united group)) } by { Prim.hlevel props },
 }

@@ -1,9 +1,8 @@
 //! The fields of an object, one for each key, with what each asks (GraphQL, October 2021, sections
 //! 6.3.1 and 6.3.2).
-ghost use Rattle.std.specs.Prelude.{◌≡◌, ◌++◌, false, map, IfOk, OnOk};
+ghost use Rattle.std.specs.Prelude.{◌≡◌, ◌++◌, map, IfOk, OnOk};
 ghost use Rattle.gql_doc.specs.Depth.{field_set};
 ghost use Rattle.gql_request.specs.QueryEnv.{NestsIn};
-ghost use Rattle.gql_resolve.specs.Call.{is_mutation};
 ghost use Rattle.gql_select.specs.Collected.{own_selections};
 ghost use Rattle.gql_select.specs.Documents.{reading};
 ghost use Rattle.gql_select.specs.Reading.{merged};
@@ -60,8 +59,7 @@ fn add_occurrence_fields<'a>(
     add_fields(basis, basis.env.levels(), object, selections, fields)
 }
 
-/// The level of an object with these fields, whose sets nest within the levels of the request. The
-/// operation is no mutation.
+/// The level of an object with these fields, whose sets nest within the levels of the request.
 #[tactic(auto, using(crate::proofs::LevelLemmas::asked_zipped))]
 pub fn level_of<'a>(
     alloc: Global,
@@ -69,7 +67,6 @@ pub fn level_of<'a>(
     object: &str,
     fields: Vec<&'a Positioned<Field>>,
 ) -> Made<Level<'a>>
-    requires query { is_mutation basis.now.env.now.operation.node.ty ≡ false }
     requires nest { AllNest basis.now.env.now (all_behind fields.items) }
     ensures object { IfOk result (λ level. level.object ≡ object.now) }
     ensures members { IfOk result (λ level. members_of level
@@ -80,7 +77,7 @@ pub fn level_of<'a>(
     let nodes = nodes_of(alloc, basis, object, groups)?;
     Ok(Level {
         object: Name::new(alloc, object)?,
-        keys,
+        keys: keys.shared(alloc)?,
         nodes,
     })
 }
@@ -93,7 +90,6 @@ fn nodes_of<'a>(
     object: &str,
     groups: Vec<Group<'a>>,
 ) -> Made<Vec<Rc<Node<'a>>>>
-    requires query { is_mutation basis.now.env.now.operation.node.ty ≡ false }
     requires nest { AllNest basis.now.env.now (map united groups.items) }
     ensures { IfOk result (λ nodes. map asked_behind nodes.items
         ≡ map (asked_of basis.entry.now object.now) (map united groups.entry.items)) }
@@ -109,7 +105,6 @@ fn nodes_of<'a>(
 /// A group with what it asks on an object: that is what its first occurrence asks.
 #[tactic(auto, using(crate::proofs::LevelLemmas::asked_first))]
 fn node_of<'a>(alloc: Global, basis: &Basis<'a>, object: &str, group: Group<'a>) -> Made<Node<'a>>
-    requires query { is_mutation basis.now.env.now.operation.node.ty ≡ false }
     requires nests { NestsIn basis.now.env.now (field_set (united group)) }
     ensures { IfOk result (λ node. asked_by node
         ≡ asked_of basis.entry.now object.now (united group.entry)) }

@@ -12,12 +12,12 @@ ghost use Rattle.gql_merged.specs.Assembling.{AllHeld, IsAssembled};
 ghost use Rattle.gql_merged.specs.Fitting.{entries_in};
 ghost use Rattle.gql_merged.specs.Jobs.{asked_by_job};
 ghost use Rattle.gql_merged.specs.Levels.{asked_in, members_of};
-ghost use Rattle.gql_merged.specs.Parents.{jobs_of_standing, standing_at, standing_behind};
-ghost use Rattle.gql_merged.specs.Run.{basis_of, merged_response, merged_work, Nests, root_jobs};
-ghost use Rattle.gql_merged.specs.Run.{root_selections, root_spot};
+ghost use Rattle.gql_merged.specs.Parents.{jobs_here, standing_at, standing_behind};
+ghost use Rattle.gql_merged.specs.Run.{basis_of, merged_response, merged_work, Nests, own_jobs};
+ghost use Rattle.gql_merged.specs.Run.{root_jobs, root_selections, root_spot};
 ghost use Rattle.gql_merged.specs.Tasks.{jobs_in};
 
-use crate::assembling::assemble;
+use crate::assembling::{add_open, assemble};
 use crate::basis::Basis;
 use crate::fields_within::collect_fields;
 use crate::level::Level;
@@ -32,6 +32,7 @@ use gql_place::{Place, Tree};
 use gql_request::Hooks;
 use gql_resolve::{ResolverSet, Turns};
 use std::alloc::Global;
+use std::collections::VecDeque;
 use std::marker::Brand;
 use std::rc::Rc;
 use std::sync::ledger::{Blank, Ledger};
@@ -134,11 +135,11 @@ pub fn run_merged_counted<R: ResolverSet, H: Rounds, P: Turns, S: Ledger>(
 }
 
 /// The object at the root with its fields.
-fn root_of<'a, V: Drop>(alloc: Global, scene: &Scene<'a, V>) -> Made<Rc<Parent<'a, V>>>
-    requires { is_mutation scene.now.env.now.operation.node.ty ≡ false }
-    ensures { IfOk result (λ root. standing_behind root
+pub(crate) fn root_of<'a, V: Drop>(alloc: Global, scene: &Scene<'a, V>) -> Made<Rc<Parent<'a, V>>>
+    ensures stands { IfOk result (λ root. standing_behind root
         ≡ standing_at (basis_of scene.entry.now) (root_selections scene.entry.now)
         (root_spot scene.entry.now)) }
+    ensures jobs { IfOk result (λ root. jobs_here root.value ≡ own_jobs scene.entry.now) }
 {
     let level = Rc::new(alloc, root_level(alloc, scene)?)?;
     let root = Rc::new(
@@ -153,7 +154,6 @@ fn root_of<'a, V: Drop>(alloc: Global, scene: &Scene<'a, V>) -> Made<Rc<Parent<'
 
 /// The fields of the root.
 fn root_level<'a, V>(alloc: Global, scene: &Scene<'a, V>) -> Made<Level<'a>>
-    requires { is_mutation scene.now.env.now.operation.node.ty ≡ false }
     ensures object { IfOk result (λ level. level.object ≡ (root_spot scene.entry.now).object) }
     ensures members { IfOk result (λ level. members_of level
         ≡ asked_in (basis_of scene.entry.now) (root_spot scene.entry.now).object
@@ -175,8 +175,7 @@ fn root_level<'a, V>(alloc: Global, scene: &Scene<'a, V>) -> Made<Level<'a>>
 /// The plan that begins with the tasks of the root.
 #[tactic(auto, using(crate::proofs::RunLemmas::none_deep))]
 fn plan_of<'a, V: Drop>(alloc: Global, root: &Rc<Parent<'a, V>>) -> Made<TreePlan<'a, V>>
-    ensures { IfOk result (λ plan. jobs_in plan.tasks.items
-        ≡ jobs_of_standing (standing_behind root.entry.now)) }
+    ensures { IfOk result (λ plan. jobs_in plan.tasks.items ≡ jobs_here root.entry.now.value) }
 {
     let mut tasks = Vec::new(alloc);
     make_tasks(root, &mut tasks)?;
@@ -185,6 +184,7 @@ fn plan_of<'a, V: Drop>(alloc: Global, root: &Rc<Parent<'a, V>>) -> Made<TreePla
         tasks,
         kept: Vec::new(alloc),
         path: Vec::new(alloc),
+        base: 0,
         roots,
     })
 }
@@ -205,15 +205,19 @@ fn place_of_root<'a, V: Drop>(
         tasks,
         kept,
         path: _,
+        base: _,
         roots,
     } = plan;
-    let mut places = assemble(alloc, kept, roots, tasks.len())?;
-    let members = members_at(alloc, root.level.as_ref(), &mut places)?;
+    let mut places = Vec::with_capacity(alloc, tasks.len())?;
+    add_open(&mut places, tasks.len())?;
+    assemble(alloc, kept, roots, &mut places)?;
+    let mut own = VecDeque::from_vec(places);
+    let members = members_at(alloc, root.level.as_ref(), &mut own)?;
     Ok(root_with(alloc, pos, members))
 }
 
 /// The place of the root with these members.
-fn root_with(alloc: Global, pos: Pos, members: Pairs<Place>) -> Place
+pub(crate) fn root_with(alloc: Global, pos: Pos, members: Pairs<Place>) -> Place
     ensures { result ≡ root_place pos members }
 {
     Place {

@@ -5,8 +5,8 @@ ghost use Rattle.gql_base.specs.Pairs.{under};
 ghost use Rattle.gql_select.specs.Collected.{own_selections};
 ghost use Rattle.gql_merged.specs.Beneath.{AreBeneath, IsBeneath, level_behind};
 ghost use Rattle.gql_merged.specs.Groups.{united};
-ghost use Rattle.gql_merged.specs.Parents.{jobs_of_standing, spot_found, standing_at};
-ghost use Rattle.gql_merged.specs.Parents.{standing_behind};
+ghost use Rattle.gql_merged.specs.Parents.{jobs_here, jobs_of_standing, spot_found};
+ghost use Rattle.gql_merged.specs.Parents.{standing_at, standing_behind};
 ghost use Rattle.gql_merged.specs.Tasks.{jobs_in};
 
 use crate::level::{Level, Node};
@@ -57,6 +57,8 @@ fn parent_of<'a, V: Drop>(
     ensures parent { IfOk result (λ parent. standing_behind parent
         ≡ standing_at node.entry.now.basis (own_selections (united node.entry.now.group))
         (spot_found found.entry)) }
+    ensures jobs { IfOk result (λ parent. jobs_here parent.value
+        ≡ jobs_of_standing (standing_behind parent)) }
 {
     let level = level_beneath(alloc, node, found.object.as_str(), levels)?;
     let parent = Rc::new(

@@ -3,7 +3,7 @@
 ghost use Rattle.std.specs.Prelude.{◌≡◌, ◌++◌, OnOk};
 ghost use Rattle.gql_merged.specs.Jobs.{job_by};
 ghost use Rattle.gql_merged.specs.Levels.{asked_behind};
-ghost use Rattle.gql_merged.specs.Parents.{jobs_of_standing, standing_behind};
+ghost use Rattle.gql_merged.specs.Parents.{jobs_here, rooted, standing_behind};
 ghost use Rattle.gql_merged.specs.Tasks.{jobs_in};
 
 use crate::level::Node;
@@ -19,7 +19,7 @@ pub(crate) fn make_tasks<'a, V: Drop>(
     tasks: &mut Vec<Task<'a, V>>,
 ) -> Made<()>
     ensures { OnOk result (jobs_in tasks.new.items ≡ jobs_in tasks.old.items
-        ++ jobs_of_standing (standing_behind parent.entry.now)) }
+        ++ jobs_here parent.entry.now.value) }
 {
     for node in parent.level.nodes.as_slice() {
         make_task(parent, node, tasks)?;
@@ -35,7 +35,8 @@ fn make_task<'a, V: Drop>(
     tasks: &mut Vec<Task<'a, V>>,
 ) -> Made<()>
     ensures { OnOk result (jobs_in tasks.new.items ≡ jobs_in tasks.old.items
-        ++ job_by (standing_behind parent.entry.now).spot (asked_behind node.entry.now)) }
+        ++ job_by (rooted parent.entry.now.value.held) (standing_behind parent.entry.now).spot
+        (asked_behind node.entry.now)) }
 {
     if node.asks.is_call() {
         let parent = parent.clone()?;

@@ -21,16 +21,69 @@ use gql_resolve::ResolverContext;
 use std::alloc::Global;
 
 /// The tasks of merged execution, what is kept of those that were given something, in that order,
-/// and the path of one of them. The first so many are those of the root.
+/// and the path of one of them. The first so many are those of the root. What was kept of the tasks
+/// below the base is given away: they are of earlier phases, and of such a phase of a mutation the
+/// last of the first ones is the root key.
 #[derive(Drop)]
 pub struct TreePlan<'a, V> {
     pub tasks: Vec<Task<'a, V>>,
     pub kept: Vec<Kept<'a, V>>,
     pub path: Vec<PathSegment>,
+    pub base: usize,
     pub roots: usize,
     pub ghost laid: { laid roots (entries_in kept.items) ≡ Some (length tasks.items) },
     pub ghost deep: { (k : ℕ) (task : TaskOf V) → roots ≤ k → slice_get tasks.items k ≡ Some task
         → IsDeep (job_of_task task) },
+}
+
+impl<'a, V: Drop> TreePlan<'a, V> {
+    ghost use Rattle.std.specs.Prelude.{ℕ, ◌≡◌, ◌<◌, ◌++◌, ◌∷◌, [], Ok, None, length, OnOk};
+    ghost use Rattle.gql_engine.specs.declared.given.Given.TheVariants.{Put};
+    ghost use Rattle.gql_merged.specs.Fitting.{entries_in, HoldsSince};
+    ghost use Rattle.gql_merged.specs.Tasks.{job_of_task, jobs_in};
+
+    /// A plan without tasks.
+    pub(crate) fn empty(alloc: Global) -> TreePlan<'a, V>
+        ensures tasks { jobs_in result.tasks.items ≡ [] }
+        ensures kept { result.kept.items ≡ [] }
+    {
+        TreePlan {
+            tasks: Vec::new(alloc),
+            kept: Vec::new(alloc),
+            path: Vec::new(alloc),
+            base: 0,
+            roots: 0,
+        }
+    }
+
+    /// Begins the phase of a root key of a mutation: its task stands behind all others, of which
+    /// nothing is kept.
+    pub(crate) fn begin(&mut self, task: Task<'a, V>) -> Made<()>
+        requires { self.old.kept.items ≡ [] }
+        ensures tasks { OnOk result (jobs_in self.new.tasks.items
+            ≡ jobs_in self.old.tasks.items ++ job_of_task task.entry ∷ []) }
+        ensures held { OnOk result ((number : ℕ)
+            → number < length (jobs_in self.old.tasks.items)
+            → HoldsSince self.new.base (jobs_in self.new.tasks.items)
+            (entries_in self.new.kept.items) number (Put (Ok None))) }
+    {
+        let base = self.tasks.len();
+        self.tasks.push(task)?;
+        self.base = base;
+        self.roots = self.tasks.len();
+        Ok(())
+    }
+
+    /// Ends a phase: what is kept of its tasks is given away.
+    pub(crate) fn close(&mut self, alloc: Global) -> Vec<Kept<'a, V>>
+        ensures kept { result ≡ self.old.kept }
+        ensures tasks { self.new.tasks ≡ self.old.tasks }
+        ensures closed { self.new.kept.items ≡ [] }
+    {
+        self.base = self.tasks.len();
+        self.roots = self.tasks.len();
+        std::mem::replace(&mut self.kept, Vec::new(alloc))
+    }
 }
 
 impl<'a, V: Drop> Plan<V> for TreePlan<'a, V> {
@@ -38,7 +91,7 @@ impl<'a, V: Drop> Plan<V> for TreePlan<'a, V> {
     ghost use Rattle.gql_engine.specs.Given.{beneath_given};
     ghost use Rattle.gql_engine.specs.Plan.{HasMade};
     ghost use Rattle.gql_engine.specs.declared.given.Given.{Given as GivenTo};
-    ghost use Rattle.gql_merged.specs.Fitting.{entries_in, HoldsGiven};
+    ghost use Rattle.gql_merged.specs.Fitting.{entries_in, HoldsSince};
     ghost use Rattle.gql_merged.specs.Jobs.{asked_by_job, Job, jobs_beneath};
     ghost use Rattle.gql_merged.specs.Tasks.{IsAimed, jobs_in};
     ghost use Rattle.gql_merged.specs.NeverRoots.{none_is_root};
@@ -52,7 +105,7 @@ impl<'a, V: Drop> Plan<V> for TreePlan<'a, V> {
     ghost beneath = { λ task answer. jobs_beneath task answer };
 
     ghost holds = { λ plan number given.
-        HoldsGiven (jobs_in plan.tasks.items) (entries_in plan.kept.items) number given };
+        HoldsSince plan.base (jobs_in plan.tasks.items) (entries_in plan.kept.items) number given };
 
     ghost aims = { λ plan number. IsAimed plan.tasks.items plan.path.items number };
 
@@ -103,11 +156,13 @@ impl<'a, V: Drop> Plan<V> for TreePlan<'a, V> {
             → slice_get (jobs_in self.old.tasks.items) number ≡ Some task
             → IfOk result (HasMade (jobs_in self.old.tasks.items) (jobs_in self.new.tasks.items)
             (beneath_given jobs_beneath task given)) }
-        ensures holds { OnOk result (HoldsGiven (jobs_in self.new.tasks.items)
+        ensures holds { OnOk result (HoldsSince self.new.base (jobs_in self.new.tasks.items)
             (entries_in self.new.kept.items) number given) }
         ensures keeps { OnOk result ((other : ℕ) (g : GivenTo V) → (other ≡ number → ⊥)
-            → HoldsGiven (jobs_in self.old.tasks.items) (entries_in self.old.kept.items) other g
-            → HoldsGiven (jobs_in self.new.tasks.items) (entries_in self.new.kept.items) other g) }
+            → HoldsSince self.old.base (jobs_in self.old.tasks.items)
+            (entries_in self.old.kept.items) other g
+            → HoldsSince self.new.base (jobs_in self.new.tasks.items)
+            (entries_in self.new.kept.items) other g) }
     {
         let first = self.tasks.len();
         let mut more = Vec::new(alloc);

@@ -9,6 +9,8 @@ use Rattle.gql_base.specs.declared.path_segment.PathSegment.TheVariants.{Field, 
 use Rattle.gql_base.specs.declared.server_error.ServerError.{ServerError}
 use Rattle.gql_base.specs.declared.value.Value.{Value}
 use Rattle.gql_request.specs.declared.header_op.HeaderOp.{HeaderOp}
+use Rattle.gql_place.specs.Steps.{path_of, segment_of}
+use Rattle.gql_place.specs.declared.place_faults.Step.{Step}
 use Rattle.gql_place.specs.declared.place.Place.{Place}
 use Rattle.gql_place.specs.declared.place.Tree.{the_lemmas}
 use Rattle.gql_place.specs.declared.place.Tree.TheVariants as tree
@@ -108,11 +110,12 @@ front_same (a ∷ xs) (b ∷ ys) x y e =
     let tail : xs ++ x ∷ [] ≡ ys ++ y ∷ [] = cc in
     λ i. head i ∷ front_same xs ys x y tail i
 
--- a path that loses the segment that it got is the path before
-back : (path behind after : List PathSegment) (segment : PathSegment) (popped : Option PathSegment) → behind ≡ path ++ segment ∷ []
-    → MatchOption popped ((behind ≡ []) × (after ≡ [])) (λ last. behind ≡ after ++ last ∷ []) → after ≡ path
-back path behind after segment None grown (none, rest) = absurd (never_nil path segment (sym grown ∙ none))
-back path behind after segment (Some last) grown popped = front_same after path last segment (sym popped ∙ grown)
+-- steps that lose the one that they got are the path before
+back : (path : List PathSegment) (behind after : List Step) (segment : PathSegment) (popped : Option Step) → path_of behind ≡ path ++ segment ∷ []
+    → MatchOption popped ((behind ≡ []) × (after ≡ [])) (λ last. behind ≡ after ++ last ∷ []) → path_of after ≡ path
+back path behind after segment None grown (none, rest) = absurd (never_nil path segment (sym grown ∙ ap path_of none))
+back path behind after segment (Some last) grown popped =
+    front_same (path_of after) path (segment_of last) segment (sym (map_end segment_of after last) ∙ sym (ap path_of popped) ∙ grown)
 
 items_end : (n : ℕ) (ps : List AtPath) (p : AtPath) (path : List PathSegment)
     → beneath_items n (ps ++ p ∷ []) path ≡ beneath_items n ps path ++ p (path ++ Index (n + length ps) ∷ [])
@@ -141,25 +144,26 @@ next_fault xs i x path old grown new at within before step =
     ∙ append_assoc old (item_faults (take i xs) path) (faults_at x (path ++ Index i ∷ [])) ∙ ap (λ rest. old ++ rest) (sym more)
 
 -- one more member, with the path back as it was
-pub member_preserved : (ms : List (List ℕ × Place)) (i : ℕ) (m : List ℕ × Place) (path now pushed behind after : List PathSegment) (key : List ℕ)
-    (old grown new : List ServerError) (popped : Option PathSegment) → slice_get ms i ≡ Some m
-    → (grown ≡ old ++ member_faults (take i ms) path) × (now ≡ path) → key ≡ m.0 → pushed ≡ now ++ Field key ∷ []
-    → new ≡ grown ++ faults_at m.1 pushed → behind ≡ pushed
+pub member_preserved : (ms : List (List ℕ × Place)) (i : ℕ) (m : List ℕ × Place) (path : List PathSegment) (now pushed behind after : List Step) (step : Step)
+    (old grown new : List ServerError) (popped : Option Step) → slice_get ms i ≡ Some m
+    → (grown ≡ old ++ member_faults (take i ms) path) × (path_of now ≡ path) → segment_of step ≡ Field m.0 → pushed ≡ now ++ step ∷ []
+    → new ≡ grown ++ faults_at m.1 (path_of pushed) → path_of behind ≡ path_of pushed
     → MatchOption popped ((behind ≡ []) × (after ≡ [])) (λ last. behind ≡ after ++ last ∷ [])
-    → (new ≡ old ++ member_faults (take (i + 1) ms) path) × (after ≡ path)
-member_preserved ms i m path now pushed behind after key old grown new popped at (before, here) named entered step stays left =
-    let there : pushed ≡ path ++ Field m.0 ∷ [] = entered ∙ (λ j. here j ++ Field (named j) ∷ []) in (
-      next_member ms i m path old grown new at before (step ∙ ap (λ p. grown ++ faults_at m.1 p) there),
+    → (new ≡ old ++ member_faults (take (i + 1) ms) path) × (path_of after ≡ path)
+member_preserved ms i m path now pushed behind after step old grown new popped at (before, here) named entered made stays left =
+    let there : path_of pushed ≡ path ++ Field m.0 ∷ [] = ap path_of entered ∙ map_end segment_of now step ∙ (λ j. here j ++ named j ∷ []) in (
+      next_member ms i m path old grown new at before (made ∙ ap (λ p. grown ++ faults_at m.1 p) there),
       back path behind after (Field m.0) popped (stays ∙ there) left,
     )
 
-pub item_preserved : (xs : List Place) (i : ℕ) (x : Place) (path now pushed behind after : List PathSegment) (old grown new : List ServerError)
-    (popped : Option PathSegment) → slice_get xs i ≡ Some x → i < length xs → (grown ≡ old ++ item_faults (take i xs) path) × (now ≡ path)
-    → pushed ≡ now ++ Index i ∷ [] → new ≡ grown ++ faults_at x pushed → behind ≡ pushed
+pub item_preserved : (xs : List Place) (i : ℕ) (x : Place) (path : List PathSegment) (now pushed behind after : List Step) (step : Step)
+    (old grown new : List ServerError) (popped : Option Step) → slice_get xs i ≡ Some x → i < length xs
+    → (grown ≡ old ++ item_faults (take i xs) path) × (path_of now ≡ path) → segment_of step ≡ Index i → pushed ≡ now ++ step ∷ []
+    → new ≡ grown ++ faults_at x (path_of pushed) → path_of behind ≡ path_of pushed
     → MatchOption popped ((behind ≡ []) × (after ≡ [])) (λ last. behind ≡ after ++ last ∷ [])
-    → (new ≡ old ++ item_faults (take (i + 1) xs) path) × (after ≡ path)
-item_preserved xs i x path now pushed behind after old grown new popped at within (before, here) entered step stays left =
-    let there : pushed ≡ path ++ Index i ∷ [] = entered ∙ (λ j. here j ++ Index i ∷ []) in (
-      next_fault xs i x path old grown new at within before (step ∙ ap (λ p. grown ++ faults_at x p) there),
+    → (new ≡ old ++ item_faults (take (i + 1) xs) path) × (path_of after ≡ path)
+item_preserved xs i x path now pushed behind after step old grown new popped at within (before, here) named entered made stays left =
+    let there : path_of pushed ≡ path ++ Index i ∷ [] = ap path_of entered ∙ map_end segment_of now step ∙ (λ j. here j ++ named j ∷ []) in (
+      next_fault xs i x path old grown new at within before (made ∙ ap (λ p. grown ++ faults_at x p) there),
       back path behind after (Index i) popped (stays ∙ there) left,
     )

@@ -6,3 +6,4 @@ pub mod Join
 pub mod KeysApart
 pub mod Laws
 pub mod Raised
+pub mod Steps

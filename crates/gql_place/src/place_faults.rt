@@ -1,10 +1,19 @@
 ghost use Rattle.std.specs.Prelude.{◌≡◌, ◌++◌, IfOk, OnOk, map};
 ghost use Rattle.gql_place.specs.Faults.{faults_of, faults_at, tree_faults, member_faults};
 ghost use Rattle.gql_place.specs.Faults.{item_faults, located};
+ghost use Rattle.gql_place.specs.Steps.{path_of, segment_of};
 
 use crate::place::{Place, Tree};
 use gql_base::{Copied, Error, Items, Made, Pairs, PathSegment, Pos, ServerError, Text};
 use std::alloc::Global;
+
+/// A step on the way to a place of a response. Its key is the response's own, and is copied where an
+/// error is told.
+#[derive(Clone, Copy, Debug)]
+pub enum Step<'a> {
+    Field(&'a str),
+    Index(usize),
+}
 
 /// The errors of a response: of each place the added ones, then its fault, then those beneath it in
 /// their order, also beneath what is null. Each has the path of its place and the position of its
@@ -19,14 +28,14 @@ pub fn faults(alloc: Global, place: &Place) -> Made<Items<ServerError>>
 }
 
 #[cycle(faults)]
-fn push_place(
+fn push_place<'a>(
     alloc: Global,
     errors: &mut Items<ServerError>,
-    path: &mut Items<PathSegment>,
-    place: &Place,
+    path: &mut Items<Step<'a>>,
+    place: &'a Place,
 ) -> Made<()>
-    ensures found { OnOk result (errors.new ≡ errors.old ++ faults_at place.now path.old) }
-    ensures path { OnOk result (path.new ≡ path.old) }
+    ensures found { OnOk result (errors.new ≡ errors.old ++ faults_at place.now (path_of path.old)) }
+    ensures path { OnOk result (path_of path.new ≡ path_of path.old) }
 {
     push_added(
         alloc,
@@ -39,8 +48,8 @@ fn push_place(
 }
 
 /// An error at a path and a position.
-fn error_at(alloc: Global, error: &Error, pos: Pos, path: &[PathSegment]) -> Made<ServerError>
-    ensures { IfOk result (λ made. made ≡ located pos path.now error.now) }
+fn error_at(alloc: Global, error: &Error, pos: Pos, path: &[Step<'_>]) -> Made<ServerError>
+    ensures { IfOk result (λ made. made ≡ located pos (path_of path.now) error.now) }
 {
     let mut locations = Items::new(alloc);
     locations.push(pos)?;
@@ -52,24 +61,35 @@ fn error_at(alloc: Global, error: &Error, pos: Pos, path: &[PathSegment]) -> Mad
     })
 }
 
-fn copied_path(alloc: Global, path: &[PathSegment]) -> Made<Items<PathSegment>>
-    ensures { IfOk result (λ copy. copy ≡ path.now) }
+/// The path of these steps.
+fn copied_path(alloc: Global, path: &[Step<'_>]) -> Made<Items<PathSegment>>
+    ensures { IfOk result (λ copy. copy ≡ path_of path.now) }
 {
-    let mut copy = Items::new(alloc);
-    for segment in path {
-        copy.push(segment.try_clone(alloc)?)?;
+    let mut copy = Items::with_capacity(alloc, path.len())?;
+    for step in path {
+        copy.push(segment_of(alloc, *step)?)?;
     }
     Ok(copy)
+}
+
+fn segment_of(alloc: Global, step: Step<'_>) -> Made<PathSegment>
+    ensures { IfOk result (λ segment. segment ≡ segment_of step.entry) }
+{
+    match step {
+        Step::Field(key) => Ok(PathSegment::Field(Text::new(alloc, key)?)),
+        Step::Index(index) => Ok(PathSegment::Index(index)),
+    }
 }
 
 fn push_added(
     alloc: Global,
     errors: &mut Items<ServerError>,
-    path: &[PathSegment],
+    path: &[Step<'_>],
     pos: Pos,
     added: &[Error],
 ) -> Made<()>
-    ensures { OnOk result (errors.new ≡ errors.old ++ map (located pos path.now) added.now) }
+    ensures { OnOk result (errors.new
+        ≡ errors.old ++ map (located pos (path_of path.now)) added.now) }
 {
     for error in added {
         errors.push(error_at(alloc, error, pos, path)?)?;
@@ -78,15 +98,16 @@ fn push_added(
 }
 
 #[cycle(faults)]
-fn push_tree(
+fn push_tree<'a>(
     alloc: Global,
     errors: &mut Items<ServerError>,
-    path: &mut Items<PathSegment>,
+    path: &mut Items<Step<'a>>,
     pos: Pos,
-    tree: &Tree,
+    tree: &'a Tree,
 ) -> Made<()>
-    ensures found { OnOk result (errors.new ≡ errors.old ++ tree_faults tree.now pos path.old) }
-    ensures path { OnOk result (path.new ≡ path.old) }
+    ensures found { OnOk result (errors.new
+        ≡ errors.old ++ tree_faults tree.now pos (path_of path.old)) }
+    ensures path { OnOk result (path_of path.new ≡ path_of path.old) }
 {
     match tree {
         Tree::Absent | Tree::Leaf(_) => Ok(()),
@@ -97,18 +118,19 @@ fn push_tree(
 }
 
 #[cycle(faults)]
-fn push_members(
+fn push_members<'a>(
     alloc: Global,
     errors: &mut Items<ServerError>,
-    path: &mut Items<PathSegment>,
-    members: &Pairs<Place>,
+    path: &mut Items<Step<'a>>,
+    members: &'a Pairs<Place>,
 ) -> Made<()>
-    ensures found { OnOk result (errors.new ≡ errors.old ++ member_faults members.now path.old) }
-    ensures path { OnOk result (path.new ≡ path.old) }
+    ensures found { OnOk result (errors.new
+        ≡ errors.old ++ member_faults members.now (path_of path.old)) }
+    ensures path { OnOk result (path_of path.new ≡ path_of path.old) }
 {
     for index in 0..members.len() {
         let (key, member) = members.at(index);
-        path.push(PathSegment::Field(Text::new(alloc, key)?))?;
+        path.push(Step::Field(key))?;
         push_place(alloc, errors, path, member)?;
         path.pop();
     }
@@ -116,17 +138,18 @@ fn push_members(
 }
 
 #[cycle(faults)]
-fn push_items(
+fn push_items<'a>(
     alloc: Global,
     errors: &mut Items<ServerError>,
-    path: &mut Items<PathSegment>,
-    items: &[Place],
+    path: &mut Items<Step<'a>>,
+    items: &'a [Place],
 ) -> Made<()>
-    ensures found { OnOk result (errors.new ≡ errors.old ++ item_faults items.now path.old) }
-    ensures path { OnOk result (path.new ≡ path.old) }
+    ensures found { OnOk result (errors.new
+        ≡ errors.old ++ item_faults items.now (path_of path.old)) }
+    ensures path { OnOk result (path_of path.new ≡ path_of path.old) }
 {
     for (index, item) in items.iter().enumerate() {
-        path.push(PathSegment::Index(index))?;
+        path.push(Step::Index(index))?;
         push_place(alloc, errors, path, item)?;
         path.pop();
     }

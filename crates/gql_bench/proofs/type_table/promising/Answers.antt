@@ -1,4 +1,4 @@
-use Rattle.std.proofs.Common.{◌≡◌, ◌∷◌, [], ◌++◌, refl, ap, sym, ◌∙◌}
+use Rattle.std.proofs.Common.{◌∷◌, [], ◌++◌, refl, ap, sym, ◌∙◌}
 use Rattle.gql_base.specs.Pairs.{under}
 use Rattle.gql_schema.specs.declared.interface.Interface.{Interface}
 use Rattle.gql_schema.specs.declared.interface_field.InterfaceField.{InterfaceField}

@@ -1,4 +1,4 @@
-use Rattle.std.proofs.Common.{◌≡◌, ◌+◌, ◌∷◌, [], ◌++◌, refl, ap, sym, ◌∙◌, subst, drop}
+use Rattle.std.proofs.Common.{◌+◌, ◌∷◌, [], ◌++◌, refl, ap, sym, ◌∙◌, subst, drop}
 use Rattle.gql_base.specs.Pairs.{under}
 use Rattle.gql_schema.specs.declared.subscription.Subscription.{Subscription}
 use Rattle.gql_schema.specs.declared.subscription_field.SubscriptionField.{SubscriptionField}

@@ -9,7 +9,6 @@ use Rattle.gql_merged.proofs.levels.nodes_of.Goals as goal
 
 pub node_of-requires : goal.node_of-requires
 node_of-requires c = record {
-  query = c.requires.query;
   nests = (subst (λ (gs : List Group). AllNest c.args.basis.now.env.now (map united gs)) c.in-Some.ensures.steps.0 c.loop-group.invariant.nest).0;
 }
 

@@ -4,8 +4,10 @@ use Rattle.gql_merged.specs.Run.{basis_of}
 use Rattle.gql_merged.proofs.RunLemmas.{root_nest}
 use Rattle.gql_merged.proofs.run.root_level.Goals as goal
 
-pub level_of-requires-clause-nest : goal.level_of-requires-clause-nest
-level_of-requires-clause-nest g c =
+pub level_of-requires : goal.level_of-requires
+level_of-requires g c =
     let object = c.type_name-object.result.now in
-    root_nest c.args.scene.now object _
-    (c.in_ok-fields.ensures ∙ ap (collected (basis_of c.args.scene.now) object) c.as_slice-selections.ensures)
+    record {
+      nest = root_nest c.args.scene.now object _
+          (c.in_ok-fields.ensures ∙ ap (collected (basis_of c.args.scene.now) object) c.as_slice-selections.ensures);
+    }

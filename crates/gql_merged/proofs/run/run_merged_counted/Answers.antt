@@ -11,12 +11,11 @@ use Rattle.gql_engine.specs.Rounds.{KeepNumbers, RoundsStopped, RoundsWhole}
 use Rattle.gql_merged.specs.Fitting.{entries_in}
 use Rattle.gql_merged.specs.Jobs.{asked_by_job, Job}
 use Rattle.gql_merged.specs.NeverRoots.{no_roots}
-use Rattle.gql_merged.specs.Parents.{jobs_of_standing, standing_behind}
+use Rattle.gql_merged.specs.Parents.{standing_behind}
 use Rattle.gql_merged.specs.Run.{basis_of, root_jobs, root_selections, root_spot}
 use Rattle.gql_merged.specs.Tasks.{job_of_task, jobs_in}
 use Rattle.gql_merged.proofs.BeneathLemmas.{every_at}
-use Rattle.gql_merged.proofs.JobLemmas.{level_jobs}
-use Rattle.gql_merged.proofs.RunLemmas.{all_held, answers_due, Begins, due_agrees, Finishes, response_is, roots_enough, runs_whole, stopped_none, stopped_run, stopped_whole, whole_ran}
+use Rattle.gql_merged.proofs.RunLemmas.{all_held, answers_due, Begins, due_agrees, Finishes, query_jobs, response_is, roots_enough, runs_whole, stopped_none, stopped_run, stopped_whole, whole_ran}
 use Rattle.gql_merged.proofs.run.run_merged_counted.Goals as goal
 
 pub returns-in_err-root-clause-stopped : goal.returns-in_err-root-clause-stopped
@@ -43,8 +42,7 @@ returns-in_err-arena-clause-unfinished g c = on_err c.from_residual-in_err-arena
 pub finish-requires : goal.finish-requires
 finish-requires g c =
     let asked : jobs_in c.in_ok-plan.plan.tasks.items ≡ root_jobs c.args.scene.now
-    = c.in_ok-plan.ensures ∙ ap jobs_of_standing c.in_ok-root.ensures
-    ∙ level_jobs (basis_of c.args.scene.now) (root_spot c.args.scene.now) (root_selections c.args.scene.now) in
+    = c.in_ok-plan.ensures ∙ c.in_ok-root.ensures.jobs ∙ query_jobs c.args.scene.now c.requires in
     let n_is : c.len.result ≡ length (jobs_in c.in_ok-plan.plan.tasks.items)
     = c.len.ensures ∙ c.in_ok-plan.plan.tasks.ok.0 ∙ sym (length-map c.in_ok-plan.plan.tasks.items job_of_task) in
     record {
@@ -57,8 +55,7 @@ finish-requires g c =
 pub returns-in_err-finish-clause-stopped : goal.returns-in_err-finish-clause-stopped
 returns-in_err-finish-clause-stopped g c = λ law calm.
     let asked : jobs_in c.in_ok-plan.plan.tasks.items ≡ root_jobs c.args.scene.now
-    = c.in_ok-plan.ensures ∙ ap jobs_of_standing c.in_ok-root.ensures
-    ∙ level_jobs (basis_of c.args.scene.now) (root_spot c.args.scene.now) (root_selections c.args.scene.now) in
+    = c.in_ok-plan.ensures ∙ c.in_ok-root.ensures.jobs ∙ query_jobs c.args.scene.now c.requires in
     let n_is : c.len.result ≡ length (jobs_in c.in_ok-plan.plan.tasks.items)
     = c.len.ensures ∙ c.in_ok-plan.plan.tasks.ok.0 ∙ sym (length-map c.in_ok-plan.plan.tasks.items job_of_task) in
     let old = seen c.args.resolvers.now c.args.turns.now in
@@ -77,8 +74,7 @@ returns-in_err-finish-clause-stopped g c = λ law calm.
 pub returns-in_err-place_of_root-clause-stopped : goal.returns-in_err-place_of_root-clause-stopped
 returns-in_err-place_of_root-clause-stopped g c = λ law calm.
     let asked : jobs_in c.in_ok-plan.plan.tasks.items ≡ root_jobs c.args.scene.now
-    = c.in_ok-plan.ensures ∙ ap jobs_of_standing c.in_ok-root.ensures
-    ∙ level_jobs (basis_of c.args.scene.now) (root_spot c.args.scene.now) (root_selections c.args.scene.now) in
+    = c.in_ok-plan.ensures ∙ c.in_ok-root.ensures.jobs ∙ query_jobs c.args.scene.now c.requires in
     let n_is : c.len.result ≡ length (jobs_in c.in_ok-plan.plan.tasks.items)
     = c.len.ensures ∙ c.in_ok-plan.plan.tasks.ok.0 ∙ sym (length-map c.in_ok-plan.plan.tasks.items job_of_task) in
     let old = seen c.args.resolvers.now c.args.turns.now in
@@ -98,6 +94,8 @@ returns-in_err-place_of_root-clause-stopped g c = λ law calm.
     let finishes : Finishes g.R.ResolverSet g.P.Turns c.args.scene.now old new first last entries entries' c.in_ok-arena.arena.states.items c.finish.new.arena.states.items = record {
       lengths = went.sound.lengths;
       whole = sym went.sound.waits ∙ c.in_ok-finish.ensures.answered;
+      base = c.in_ok-plan.plan.base;
+      base' = c.finish.new.plan.base;
       right = progress.right 0;
       ran = progress.ran;
     } in
@@ -108,8 +106,7 @@ returns-in_err-place_of_root-clause-stopped g c = λ law calm.
 pub returns-clause-places : goal.returns-clause-places
 returns-clause-places g c = λ law calm n nests.
     let asked : jobs_in c.in_ok-plan.plan.tasks.items ≡ root_jobs c.args.scene.now
-    = c.in_ok-plan.ensures ∙ ap jobs_of_standing c.in_ok-root.ensures
-    ∙ level_jobs (basis_of c.args.scene.now) (root_spot c.args.scene.now) (root_selections c.args.scene.now) in
+    = c.in_ok-plan.ensures ∙ c.in_ok-root.ensures.jobs ∙ query_jobs c.args.scene.now c.requires in
     let n_is : c.len.result ≡ length (jobs_in c.in_ok-plan.plan.tasks.items)
     = c.len.ensures ∙ c.in_ok-plan.plan.tasks.ok.0 ∙ sym (length-map c.in_ok-plan.plan.tasks.items job_of_task) in
     let old = seen c.args.resolvers.now c.args.turns.now in
@@ -129,12 +126,14 @@ returns-clause-places g c = λ law calm n nests.
     let finishes : Finishes g.R.ResolverSet g.P.Turns c.args.scene.now old new first last entries entries' c.in_ok-arena.arena.states.items c.finish.new.arena.states.items = record {
       lengths = went.sound.lengths;
       whole = sym went.sound.waits ∙ c.in_ok-finish.ensures.answered;
+      base = c.in_ok-plan.plan.base;
+      base' = c.finish.new.plan.base;
       right = progress.right 0;
       ran = progress.ran;
     } in
     let keeps = subst (λ js. KeepNumbers js last) asked went.passed.enters.stays in
     response_is c.args.scene.now (due_by g.R.ResolverSet c.args.resolvers.now) (standing_behind c.in_ok-root.root) c.finish.new.plan.roots last
-    c.in_ok-place_of_root.field-0 n c.in_ok-root.ensures keeps
+    c.in_ok-place_of_root.field-0 n c.in_ok-root.ensures.stands keeps
     (roots_enough c.args.scene.now c.finish.new.plan.tasks.items c.finish.new.plan.roots keeps c.finish.new.plan.deep)
     (c.in_ok-place_of_root.ensures (due_by g.R.ResolverSet c.args.resolvers.now)
     (all_held g.R.ResolverSet g.P.Turns c.args.scene.now old first c.in_ok-arena.arena.states.items begins new last entries entries' c.finish.new.arena.states.items finishes)) nests
@@ -142,8 +141,7 @@ returns-clause-places g c = λ law calm n nests.
 pub returns-clause-record : goal.returns-clause-record
 returns-clause-record g c = λ law calm.
     let asked : jobs_in c.in_ok-plan.plan.tasks.items ≡ root_jobs c.args.scene.now
-    = c.in_ok-plan.ensures ∙ ap jobs_of_standing c.in_ok-root.ensures
-    ∙ level_jobs (basis_of c.args.scene.now) (root_spot c.args.scene.now) (root_selections c.args.scene.now) in
+    = c.in_ok-plan.ensures ∙ c.in_ok-root.ensures.jobs ∙ query_jobs c.args.scene.now c.requires in
     let n_is : c.len.result ≡ length (jobs_in c.in_ok-plan.plan.tasks.items)
     = c.len.ensures ∙ c.in_ok-plan.plan.tasks.ok.0 ∙ sym (length-map c.in_ok-plan.plan.tasks.items job_of_task) in
     let old = seen c.args.resolvers.now c.args.turns.now in
@@ -163,6 +161,8 @@ returns-clause-record g c = λ law calm.
     let finishes : Finishes g.R.ResolverSet g.P.Turns c.args.scene.now old new first last entries entries' c.in_ok-arena.arena.states.items c.finish.new.arena.states.items = record {
       lengths = went.sound.lengths;
       whole = sym went.sound.waits ∙ c.in_ok-finish.ensures.answered;
+      base = c.in_ok-plan.plan.base;
+      base' = c.finish.new.plan.base;
       right = progress.right 0;
       ran = progress.ran;
     } in
@@ -173,8 +173,7 @@ returns-clause-record g c = λ law calm.
 pub returns-in_err-finish-clause-unfinished : goal.returns-in_err-finish-clause-unfinished
 returns-in_err-finish-clause-unfinished g c =
     let asked : jobs_in c.in_ok-plan.plan.tasks.items ≡ root_jobs c.args.scene.now
-    = c.in_ok-plan.ensures ∙ ap jobs_of_standing c.in_ok-root.ensures
-    ∙ level_jobs (basis_of c.args.scene.now) (root_spot c.args.scene.now) (root_selections c.args.scene.now) in
+    = c.in_ok-plan.ensures ∙ c.in_ok-root.ensures.jobs ∙ query_jobs c.args.scene.now c.requires in
     on_err c.from_residual-in_err-finish.result _
     (subst (λ ts. RoundsStopped asked_by_job g.H.Rounds ts c.args.hooks.now c.finish.new.hooks) asked
     (stopped_rounds c.len.result c.in_err-finish.ensures.stretch.ended.enters c.in_ok-arena.ensures.states))
@@ -182,8 +181,7 @@ returns-in_err-finish-clause-unfinished g c =
 pub returns-in_err-place_of_root-clause-unfinished : goal.returns-in_err-place_of_root-clause-unfinished
 returns-in_err-place_of_root-clause-unfinished g c =
     let asked : jobs_in c.in_ok-plan.plan.tasks.items ≡ root_jobs c.args.scene.now
-    = c.in_ok-plan.ensures ∙ ap jobs_of_standing c.in_ok-root.ensures
-    ∙ level_jobs (basis_of c.args.scene.now) (root_spot c.args.scene.now) (root_selections c.args.scene.now) in
+    = c.in_ok-plan.ensures ∙ c.in_ok-root.ensures.jobs ∙ query_jobs c.args.scene.now c.requires in
     on_err c.from_residual-in_err-place_of_root.result _
     (subst (λ ts. RoundsStopped asked_by_job g.H.Rounds ts c.args.hooks.now c.finish.new.hooks) asked
     (stopped_rounds c.len.result (so_far_enters_whole c.in_ok-finish.ensures.stretch.went.passed.enters) c.in_ok-arena.ensures.states))
@@ -191,8 +189,7 @@ returns-in_err-place_of_root-clause-unfinished g c =
 pub returns-clause-rounds : goal.returns-clause-rounds
 returns-clause-rounds g c =
     let asked : jobs_in c.in_ok-plan.plan.tasks.items ≡ root_jobs c.args.scene.now
-    = c.in_ok-plan.ensures ∙ ap jobs_of_standing c.in_ok-root.ensures
-    ∙ level_jobs (basis_of c.args.scene.now) (root_spot c.args.scene.now) (root_selections c.args.scene.now) in
+    = c.in_ok-plan.ensures ∙ c.in_ok-root.ensures.jobs ∙ query_jobs c.args.scene.now c.requires in
     let went = c.in_ok-finish.ensures.stretch.went in
     subst (λ ts. RoundsWhole asked_by_job g.H.Rounds ts c.args.hooks.now c.finish.new.hooks) asked
     (whole_rounds c.len.result went.passed.enters c.in_ok-arena.ensures.states (all_answered went.sound c.in_ok-finish.ensures.answered))

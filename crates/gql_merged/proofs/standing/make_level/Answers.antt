@@ -5,6 +5,5 @@ use Rattle.gql_merged.proofs.standing.make_level.Goals as goal
 
 pub level_of-requires : goal.level_of-requires
 level_of-requires c = record {
-  query = c.args.node.now.query;
   nest = subst (AllNest c.args.node.now.basis.env.now) (sym c.in_ok-fields.ensures) (fields_nest c.args.node.now c.args.object.now);
 }

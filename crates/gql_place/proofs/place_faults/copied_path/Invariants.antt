@@ -1,5 +1,6 @@
 use Rattle.std.proofs.Common.{◌≡◌, take}
+use Rattle.gql_place.specs.Steps.{path_of}
 use Rattle.gql_place.proofs.place_faults.copied_path.Given as goal
 
-abbrev pub invariant-loop-segment : goal.invariant-loop-segment
-invariant-loop-segment l = l.copy ≡ take l.segment-index l.path
+abbrev pub invariant-loop-step : goal.invariant-loop-step
+invariant-loop-step l = l.copy ≡ path_of (take l.step-index l.path)

@@ -11,7 +11,7 @@ returns-in-Ok-root_for-clause-executed g c =
     record {
       ready = rw c.in-Ok.is at c.in_ok-env.ensures;
       root = rw c.in-Ok-root_for.is at c.root_for.ensures;
-      same = c.scene-scene.ensures;
+      same = c.scene-scene.ensures.shows;
     }
     c.respond.result c.respond.ensures.runs
 
@@ -22,6 +22,6 @@ returns-in-Ok-root_for-clause-stopped g c =
     record {
       ready = rw c.in-Ok.is at c.in_ok-env.ensures;
       root = rw c.in-Ok-root_for.is at c.root_for.ensures;
-      same = c.scene-scene.ensures;
+      same = c.scene-scene.ensures.shows;
     }
     c.respond.result c.respond.ensures.halts

@@ -1,10 +1,10 @@
-use Rattle.std.proofs.Common.{◌∙◌, ◌<◌, ◌++◌, ◌∷◌, [], ap, arith, length, refl}
+use Rattle.std.proofs.Common.{◌∙◌, ◌<◌, ◌++◌, inr, ◌∷◌, [], ap, arith, length, refl}
 use Rattle.std.proofs.lemmas.List.{length-map}
 use Rattle.std.proofs.lemmas.Option.{slice_get_read}
 use Rattle.gql_merged.specs.Fitting.{made_beneath}
 use Rattle.gql_merged.specs.Tasks.{job_of_task, jobs_in}
 use Rattle.gql_merged.specs.declared.kept.Kept.{Kept}
-use Rattle.gql_merged.proofs.PlanLemmas.{Completes, completes_deep, completes_has, completes_holds, completes_keeps, completes_laid, completes_task}
+use Rattle.gql_merged.proofs.PlanLemmas.{Completes, completes_deep, completes_has, completes_holds, completes_keeps_since, completes_laid, completes_task}
 use Rattle.gql_merged.proofs.tree_plan.TreePlanPlan.complete.Goals as goal
 
 pub invariant_of-self-2 : goal.invariant_of-self-2
@@ -54,7 +54,7 @@ pub returns-clause-made : goal.returns-clause-made
 returns-clause-made g c = λ task is. completes_has (completed g c) task is
 
 pub returns-clause-holds : goal.returns-clause-holds
-returns-clause-holds g c = completes_holds (completed g c)
+returns-clause-holds g c = inr (completes_holds (completed g c))
 
 pub returns-clause-keeps : goal.returns-clause-keeps
-returns-clause-keeps g c = λ other given differs held. completes_keeps (completed g c) other given differs held
+returns-clause-keeps g c = λ other given differs held. completes_keeps_since (completed g c) c.args.self.now.base other given differs held

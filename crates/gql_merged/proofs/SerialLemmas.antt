@@ -1,0 +1,176 @@
+-- The members of the root of a mutation, of the places of its root keys, one after another.
+use Rattle.std.proofs.Common.{◌≡◌, ℕ, zero, suc, true, false, List, [], ◌∷◌, ◌++◌, Option, Some, None, refl, ap, sym, subst, ◌∙◌}
+use Rattle.std.specs.List.{AllByRecursion}
+use Rattle.gql_base.specs.Pairs.{values_of}
+use Rattle.gql_base.specs.declared.value.Value.TheVariants as value
+use Rattle.gql_doc.specs.Depth.{operation_set}
+use Rattle.gql_doc.specs.declared.document.Field.{Field}
+use Rattle.gql_doc.specs.declared.document.Positioned.{Positioned}
+use Rattle.gql_engine.specs.Phases.{answer_between, Serving, world_past}
+use Rattle.gql_engine.specs.declared.scene.Scene.{Scene}
+use Rattle.gql_meaning.specs.Execution.{Asking, field_asking, field_outcome}
+use Rattle.gql_meaning.specs.Responses.{Members, placed, world_of}
+use Rattle.gql_place.specs.Filled.{place_with}
+use Rattle.gql_place.specs.declared.place.Place.{Place}
+use Rattle.gql_resolve.specs.Call.{Call}
+use Rattle.gql_resolve.specs.Layers.{layers_of}
+use Rattle.gql_resolve.specs.declared.answer.Answer.{Answer}
+use Rattle.gql_resolve.specs.declared.field_value.FieldValue.{FieldValue}
+use Rattle.gql_select.specs.Collected.{own_selections}
+use Rattle.gql_select.specs.Documents.{placing_by}
+use Rattle.gql_select.specs.Grouped.{grouped, in_turn, world_behind}
+use Rattle.gql_merged.specs.Asks.{asking_by, asks_of, outcome_by}
+use Rattle.gql_merged.specs.Assembled.{members_with}
+use Rattle.gql_merged.specs.Assembling.{IsRight}
+use Rattle.gql_merged.specs.Basis.{execution_of, setting_by}
+use Rattle.gql_merged.specs.FieldsWithin.{collected}
+use Rattle.gql_merged.specs.Jobs.{Job, job_of, jobs_of_as}
+use Rattle.gql_merged.specs.Levels.{Asked, asked_in, asked_on}
+use Rattle.gql_merged.specs.Merged.{merged_beneath}
+use Rattle.gql_merged.specs.Run.{basis_of, job_subject, Nests, root_selections, root_spot}
+use Rattle.gql_merged.specs.Serial.{answer_in_phase, answering, key_jobs, keys_of, last_world_of, PlacedInTurn, serial_members}
+use Rattle.gql_merged.specs.Standing.{present}
+use Rattle.gql_merged.specs.Within.{IsWithin}
+use Rattle.gql_merged.specs.declared.asks.Asks.{Asks}
+use Rattle.gql_merged.specs.declared.asks.Asks.TheVariants as asks
+use Rattle.gql_merged.specs.declared.basis.Basis.{Basis}
+use Rattle.gql_merged.proofs.AskingLemmas.{asking_is, outcome_is}
+use Rattle.gql_merged.proofs.AssembledLemmas.{fill-Absent, fill-Leaf}
+use Rattle.gql_merged.proofs.WithinLemmas.{both_within, merged_all, nests_within}
+
+-- one place more
+module _ {V W : Type 0} (serving : Serving V W) where
+  pub placed_next : (world : W) (done : List (Job V)) (root : Job V) (os : List (Option Place)) (place : Place)
+      → PlacedInTurn serving world done os
+      → IsRight (answer_in_phase serving (world_past serving job_subject world done) root) root place
+      → PlacedInTurn serving world (done ++ root ∷ []) (os ++ Some place ∷ [])
+  placed_next world [] root [] place placed right = ((place, refl, right), tt)
+  placed_next world [] root (o ∷ os) place placed right = absurd placed
+  placed_next world (one ∷ done) root [] place placed right = absurd placed
+  placed_next world (one ∷ done) root (o ∷ os) place placed right =
+      (placed.0, placed_next (serving.effect one.asking.call world) done root os place placed.1 right)
+
+-- beneath a root key the answers of its phase are those of the world that it leaves
+module _ {V W : Type 0} (basis : Basis) (answer : Call V → W → Answer V) (before behind : W) where
+  below_outcome : (object : List ℕ) (parent : FieldValue V) (field : Positioned Field)
+      → field_outcome false (execution_of basis) (answer_between answer before behind) object parent field
+      ≡ field_outcome false (execution_of basis) (λ call. answer call behind) object parent field
+  below_outcome object parent field =
+      outcome_is false (execution_of basis) parent (answer_between answer before behind) object field
+      ∙ by (asks_of (execution_of basis) object field)
+      ∙ sym (outcome_is false (execution_of basis) parent (λ call. answer call behind) object field)
+    where
+      by : (a : Asks) → outcome_by false (execution_of basis) (answer_between answer before behind) object parent a
+          ≡ outcome_by false (execution_of basis) (λ call. answer call behind) object parent a
+      by asks.Typename = refl
+      by asks.Nothing = refl
+      by (asks.Call resolver ty arguments) = refl
+
+  pub below_merged : (n : ℕ) (field : Positioned Field) (object : List ℕ) (parent : FieldValue V)
+      → merged_beneath basis (answer_between answer before behind) n field object parent
+      ≡ merged_beneath basis (λ call. answer call behind) n field object parent
+  below_merged n field object parent =
+      λ i. grouped (placing_by (setting_by basis) (λ o p f below. place_with f.pos (below_outcome o p f i) below)) n object parent (own_selections field)
+
+module _ {V W : Type 0} (scene : Scene V) (serving : Serving V W) (n : ℕ) where
+  -- what is beneath a root key that left this world
+  abbrev beneath : W → Positioned Field → List ℕ → FieldValue V → Members
+  beneath behind field object parent = merged_beneath (basis_of scene) (λ call. serving.answer call behind) n field object parent
+
+  abbrev own_asking : Positioned Field → Option (Asking V)
+  own_asking field = field_asking true (execution_of (basis_of scene)) (root_spot scene).object (root_spot scene).parent field
+
+  -- the place of a root key, by what it asks
+  abbrev key_place : W → W → Positioned Field → Asks → Place
+  key_place before behind field a = place_with field.pos
+      (outcome_by true (execution_of (basis_of scene)) (λ call. serving.answer call before) (root_spot scene).object (root_spot scene).parent a)
+      (beneath behind field)
+
+  abbrev asked_by_key : Asks → Option (Asking V)
+  asked_by_key a = asking_by true (layers_of (basis_of scene).layers) (root_spot scene).parent a
+
+  abbrev left_by : W → Option (Asking V) → W
+  left_by world asking = world_of (execution_of (basis_of scene)) serving.effect world asking
+
+  -- one root key, and those behind it
+  one_key : (key : List ℕ) (field : Positioned Field) (a : Asks) (world : W) (os : List (Option Place)) (jobs : List (Job V)) (members : List (List ℕ × Asked))
+      (rest : W → Members)
+      → ((w : W) (ps : List (Option Place)) → PlacedInTurn serving w jobs ps → members_with (root_spot scene).object members (present ps) ≡ rest w)
+      → IsWithin (setting_by (basis_of scene)) n (own_selections field)
+      → PlacedInTurn serving world (job_of (basis_of scene) (root_spot scene) field (asked_by_key a) ++ jobs) os
+      → members_with (root_spot scene).object ((key, record { basis = basis_of scene; field = field; asks = a }) ∷ members) (present os)
+      ≡ (key, key_place world (left_by world (asked_by_key a)) field a) ∷ rest (left_by world (asked_by_key a))
+  one_key key field asks.Typename world os jobs members rest others within placed =
+      λ i. (key, record { pos = field.pos; non_null = true; added = []; headers = []; tree = sym (fill-Leaf field.pos (beneath world field) (value.String (root_spot scene).object)) i })
+      ∷ others world os placed i
+  one_key key field asks.Nothing world os jobs members rest others within placed =
+      λ i. (key, record { pos = field.pos; non_null = false; added = []; headers = []; tree = sym (fill-Absent field.pos (beneath world field)) i }) ∷ others world os placed i
+  one_key key field (asks.Call resolver ty arguments) world [] jobs members rest others within placed = absurd placed
+  one_key key field (asks.Call resolver ty arguments) world (o ∷ os) jobs members rest others within placed =
+      let behind = left_by world (asked_by_key (asks.Call resolver ty arguments)) in
+      let here = placed.0 in
+      let right : here.0 ≡ key_place world behind field (asks.Call resolver ty arguments) =
+      here.2 n within
+      ∙ (λ i. place_with field.pos
+      (outcome_by true (execution_of (basis_of scene)) (λ call. serving.answer call world) (root_spot scene).object (root_spot scene).parent (asks.Call resolver ty arguments))
+      (λ object parent. below_merged (basis_of scene) serving.answer world behind n field object parent i)) in
+      ap (λ q. members_with (root_spot scene).object ((key, record { basis = basis_of scene; field = field; asks = asks.Call resolver ty arguments }) ∷ members) (present (q ∷ os))) here.1
+      ∙ (λ i. (key, right i) ∷ others behind os placed.1 i)
+
+  -- all of them
+  pub keys_are : (fields : List (List ℕ × Positioned Field)) (world : W) (os : List (Option Place))
+      → AllByRecursion (λ field. IsWithin (setting_by (basis_of scene)) n (own_selections field)) (values_of fields)
+      → PlacedInTurn serving world (jobs_of_as true (basis_of scene) (root_spot scene) fields) os
+      → members_with (root_spot scene).object (asked_on (basis_of scene) (root_spot scene).object fields) (present os)
+      ≡ in_turn (answering scene serving.answer serving.effect).effect
+      (λ before behind field. placed (execution_of (basis_of scene)) true (λ call. serving.answer call before) (root_spot scene).object (root_spot scene).parent field (beneath behind field))
+      world fields
+  keys_are [] world [] within all = refl
+  keys_are [] world (o ∷ os) within all = absurd all
+  keys_are (member ∷ fields) world os within all =
+      let a = asks_of (execution_of (basis_of scene)) (root_spot scene).object member.1 in
+      let same : own_asking member.1 ≡ asked_by_key a = asking_is true (execution_of (basis_of scene)) (root_spot scene).parent (root_spot scene).object member.1 in
+      let rest : W → Members = λ w. in_turn (answering scene serving.answer serving.effect).effect
+      (λ before behind field. placed (execution_of (basis_of scene)) true (λ call. serving.answer call before) (root_spot scene).object (root_spot scene).parent field (beneath behind field))
+      w fields in
+      one_key member.0 member.1 a world os (jobs_of_as true (basis_of scene) (root_spot scene) fields) (asked_on (basis_of scene) (root_spot scene).object fields) rest
+      (λ w ps. keys_are fields w ps within.1) within.0
+      (subst (λ q. PlacedInTurn serving world (job_of (basis_of scene) (root_spot scene) member.1 q ++ jobs_of_as true (basis_of scene) (root_spot scene) fields) os) same all)
+      ∙ (λ i. (
+        member.0,
+        place_with member.1.pos
+            (sym (outcome_is true (execution_of (basis_of scene)) (root_spot scene).parent (λ call. serving.answer call world) (root_spot scene).object member.1) i)
+            (beneath (left_by world (sym same i)) member.1),
+      ) ∷ rest (left_by world (sym same i)))
+
+module _ {V W : Type 0} (scene : Scene V) (serving : Serving V W) where
+  -- the members of the root are those of the definition
+  pub members_in_turn : (world : W) (os : List (Option Place)) (n : ℕ) → Nests scene n → PlacedInTurn serving world (key_jobs scene) os
+      → members_with (root_spot scene).object (asked_in (basis_of scene) (root_spot scene).object (root_selections scene)) (present os)
+      ≡ serial_members scene serving.answer serving.effect world n
+  members_in_turn world os zero nests placed = cc
+  members_in_turn world os (suc n) nests placed =
+      keys_are scene serving n (keys_of scene) world os
+      (merged_all (λ field. IsWithin (setting_by (basis_of scene)) n (own_selections field)) (λ f g h k. both_within (setting_by (basis_of scene)) n f g h k)
+      (setting_by (basis_of scene)) (collected (basis_of scene) (root_spot scene).object (root_selections scene))
+      (nests_within (setting_by (basis_of scene)) n (operation_set scene.env.now.operation) nests (root_spot scene).object)) placed
+
+  -- one root key, and the world behind it
+  one_past : (world : W) (field : Positioned Field) (asking : Option (Asking V)) (jobs : List (Job V))
+      → world_past serving job_subject world (job_of (basis_of scene) (root_spot scene) field asking ++ jobs)
+      ≡ world_past serving job_subject (world_of (execution_of (basis_of scene)) serving.effect world asking) jobs
+  one_past world field None jobs = refl
+  one_past world field (Some asking) jobs = refl
+
+  keys_past : (fields : List (List ℕ × Positioned Field)) (world : W)
+      → world_past serving job_subject world (jobs_of_as true (basis_of scene) (root_spot scene) fields)
+      ≡ world_behind (answering scene serving.answer serving.effect).effect world fields
+  keys_past [] world = refl
+  keys_past (member ∷ fields) world =
+      let asking = field_asking true (execution_of (basis_of scene)) (root_spot scene).object (root_spot scene).parent member.1 in
+      one_past world member.1 asking (jobs_of_as true (basis_of scene) (root_spot scene) fields)
+      ∙ keys_past fields (world_of (execution_of (basis_of scene)) serving.effect world asking)
+
+  -- the world behind the tasks of all root keys is the last one of the definition
+  pub last_past : (world : W) → world_past serving job_subject world (key_jobs scene) ≡ last_world_of scene serving.effect world
+  last_past world = keys_past (keys_of scene) world

@@ -1,0 +1,10 @@
+use Rattle.std.proofs.Common.{ap, ◌∙◌}
+use Rattle.gql_merged.specs.Parents.{jobs_here}
+use Rattle.gql_merged.specs.declared.parent.Parent.{Parent}
+use Rattle.gql_merged.proofs.RunLemmas.{root_here}
+use Rattle.gql_merged.proofs.run.root_of.Goals as goal
+
+pub returns-clause-jobs : goal.returns-clause-jobs
+returns-clause-jobs g c =
+    ap (λ (p : Parent g.row.V.Denot). jobs_here p) c.in_ok-root.ensures.ok
+    ∙ root_here c.args.scene.now c.in_ok-level.level c.in_ok-root_level.field-0 c.in_ok-level.ensures.ok c.in_ok-root_level.ensures.object c.in_ok-root_level.ensures.members

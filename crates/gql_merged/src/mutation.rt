@@ -1,0 +1,103 @@
+//! Merged execution of a mutation (GraphQL, October 2021, section 6.2.2).
+ghost use Rattle.std.specs.Prelude.{ℕ, ◌≡◌, true, length, IfOk, IfErr, OnOk, OnErr};
+ghost use Rattle.gql_engine.specs.Phases.{HaltsInTurn, RootsStand, RunsInTurn};
+ghost use Rattle.gql_engine.specs.Progress.{seen};
+ghost use Rattle.gql_engine.specs.Rounds.{RoundsStopped, RoundsWhole};
+ghost use Rattle.gql_engine.specs.Steps.{IsCounted};
+ghost use Rattle.gql_meaning.specs.Responses.{root_place};
+ghost use Rattle.gql_resolve.specs.Call.{is_mutation};
+ghost use Rattle.gql_merged.specs.Assembled.{members_with};
+ghost use Rattle.gql_merged.specs.Jobs.{asked_by_job};
+ghost use Rattle.gql_merged.specs.Parents.{standing_behind};
+ghost use Rattle.gql_merged.specs.Run.{Nests};
+ghost use Rattle.gql_merged.specs.Serial.{key_work, last_world_of, no_jobs, serial_response};
+ghost use Rattle.gql_merged.specs.Standing.{present};
+
+use crate::keys::answer_keys;
+use crate::members::members_at;
+use crate::parent::Parent;
+use crate::run::{root_of, root_with};
+use crate::task_making::make_tasks;
+use crate::tree_plan::TreePlan;
+use gql_base::{NoMemory, Pos, Steps};
+use gql_engine::{Rounds, Scene, fresh_arena};
+use gql_place::Place;
+use gql_resolve::{ResolverSet, Turns};
+use std::alloc::Global;
+use std::collections::VecDeque;
+use std::rc::Rc;
+use std::sync::ledger::Ledger;
+
+/// The place of the whole response of a mutation, and the number of its root keys that asked an
+/// answer: whoever goes on from there can tell which effects stand. Each root key is answered alone,
+/// with its effect on the world, and then all beneath it in the world that it leaves; the next one
+/// goes on from there, also after a failure. Want of memory tells how many root keys have their
+/// effect.
+pub fn run_mutation_counted<R: ResolverSet, H: Rounds, P: Turns, S: Ledger>(
+    alloc: Global,
+    scene: &Scene<'_, R::Own>,
+    resolvers: &mut R,
+    hooks: &mut H,
+    turns: &mut P,
+    steps: &mut Steps<S>,
+) -> Result<(Place, u64), NoMemory>
+    requires { is_mutation scene.now.env.now.operation.node.ty ≡ true }
+    ensures places { R.is_lawful resolvers.old → H.are_quiet hooks.old → (n : ℕ)
+        → Nests scene.now n → IfOk result (λ run. run.0
+        ≡ serial_response scene.now (R.answer (R.rules resolvers.old))
+        (R.effect (R.rules resolvers.old)) (R.world resolvers.old) n) }
+    ensures count { IfOk result (λ run. run.1 ≡ length (key_work scene.now).first) }
+    ensures rules { R.rules resolvers.new ≡ R.rules resolvers.old }
+    ensures lawful { R.is_lawful resolvers.old → R.is_lawful resolvers.new }
+    ensures world { R.is_lawful resolvers.old → H.are_quiet hooks.old → OnOk result
+        (R.world resolvers.new ≡ last_world_of scene.now (R.effect (R.rules resolvers.old))
+        (R.world resolvers.old)) }
+    ensures quiet { H.are_quiet hooks.old → H.are_quiet hooks.new }
+    ensures record { R.is_lawful resolvers.old → H.are_quiet hooks.old → OnOk result
+        (RunsInTurn R.ResolverSet P.Turns (key_work scene.now)
+        (seen resolvers.old turns.old) (seen resolvers.new turns.new)) }
+    ensures stopped { R.is_lawful resolvers.old → H.are_quiet hooks.old → OnErr result
+        (HaltsInTurn R.ResolverSet P.Turns (key_work scene.now)
+        (seen resolvers.old turns.old) (seen resolvers.new turns.new)) }
+    ensures roots { R.is_lawful resolvers.old → H.are_quiet hooks.old → IfErr result (λ want.
+        RootsStand R.ResolverSet P.Turns (key_work scene.now)
+        (seen resolvers.old turns.old) (seen resolvers.new turns.new) want.roots) }
+    ensures rounds { OnOk result (RoundsWhole asked_by_job H.Rounds
+        (no_jobs scene.now) hooks.old hooks.new) }
+    ensures unfinished { OnErr result
+        (RoundsStopped asked_by_job H.Rounds (no_jobs scene.now) hooks.old hooks.new) }
+    ensures counted { IsCounted (R.begun resolvers.old) (R.begun resolvers.new)
+        steps.old steps.new }
+{
+    let root = root_of(alloc, scene)?;
+    let mut tasks = Vec::new(alloc);
+    make_tasks(&root, &mut tasks)?;
+    let mut plan = TreePlan::empty(alloc);
+    let mut arena = fresh_arena(alloc, 0)?;
+    let keys = VecDeque::from_vec(tasks);
+    let own = answer_keys(
+        alloc, keys, &mut plan, &mut arena, resolvers, hooks, turns, steps,
+    )?;
+    place_of_keys(alloc, scene.env.operation.pos, &root, own)
+}
+
+/// The place of the root, of the places of its keys, and their number.
+fn place_of_keys<'a, V: Drop>(
+    alloc: Global,
+    pos: Pos,
+    root: &Rc<Parent<'a, V>>,
+    own: Vec<Option<Place>>,
+) -> Result<(Place, u64), NoMemory>
+    ensures place { IfOk result (λ run. run.0 ≡ root_place pos
+        (members_with (standing_behind root.entry.now).spot.object
+        (standing_behind root.entry.now).members (present own.items))) }
+    ensures count { IfOk result (λ run. run.1 ≡ length own.items) }
+    ensures roots { IfErr result (λ want. want.roots ≡ length own.items) }
+{
+    let roots = own.len() as u64;
+    let mut own = VecDeque::from_vec(own);
+    match members_at(alloc, root.level.as_ref(), &mut own) {
+        Ok(members) => Ok((root_with(alloc, pos, members), roots)),
+        Err(_) => Err(NoMemory { roots }),
+    }
+}
