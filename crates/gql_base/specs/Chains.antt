@@ -3,19 +3,19 @@ use Rattle.std.specs.Prelude.{◌≡◌, ℕ, ◌+◌, ◌*◌, ◌%◌, ◌^◌
 use Rattle.std.specs.Prelude.{slice_get}
 use Rattle.gql_base.specs.declared.chains.Chains.{Chains}
 
--- a mark once the bytes of a name are mixed in
+-- a hash once the bytes of a name are mixed in
 abbrev pub mixed_with : ℕ → List ℕ → ℕ
-mixed_with mark [] = mark
-mixed_with mark (byte ∷ bytes) =
-    mixed_with ((((mark + byte) % 2 ^ 64) * 1099511628211) % 2 ^ 64) bytes
+mixed_with hash [] = hash
+mixed_with hash (byte ∷ bytes) =
+    mixed_with ((((hash + byte) % 2 ^ 64) * 1099511628211) % 2 ^ 64) bytes
 
--- the mark of the bytes of a name
-abbrev pub mark_of : List ℕ → ℕ
-mark_of bytes = mixed_with 14695981039346656037 bytes
+-- the hash of the bytes of a name
+abbrev pub hash_of : List ℕ → ℕ
+hash_of bytes = mixed_with 14695981039346656037 bytes
 
 -- the chain of a name among so many
 abbrev pub chain_of : List ℕ → ℕ → ℕ
-chain_of name count = mark_of name % count
+chain_of name count = hash_of name % count
 
 -- a place is met on the way from the last place of a chain to its first
 pub data Leads (before : List (Option ℕ)) : Option ℕ → ℕ → Type 0 where

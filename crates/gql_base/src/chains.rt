@@ -1,5 +1,5 @@
 ghost use Rattle.std.specs.Prelude.{◌≡◌, ◌∷◌, [], ◌++◌, ◌<◌, IfOk, OnOk, OnErr, length};
-ghost use Rattle.gql_base.specs.Chains.{AreChained, chain_of, mark_of};
+ghost use Rattle.gql_base.specs.Chains.{AreChained, chain_of, hash_of};
 ghost use Rattle.gql_base.specs.Names.{place_of, AreDistinct};
 
 use crate::made::Made;
@@ -14,7 +14,7 @@ const LEAST: usize = 16;
 const LONG: usize = 32;
 
 /// The places of names, which stand in a list beside them, in chains: of one chain are the names
-/// whose marks leave the same remainder by the number of chains.
+/// whose hashes leave the same remainder by the number of chains.
 #[derive(Debug, Drop)]
 pub(crate) struct Chains {
     /// The last place of each chain.
@@ -102,18 +102,18 @@ fn chain_of(name: &str, count: usize) -> usize
     ensures chain { result ≡ chain_of name.now count }
     ensures within { result < count }
 {
-    (mark_of(name.as_bytes()) % (count as u64)) as usize
+    (hash_of(name.as_bytes()) % (count as u64)) as usize
 }
 
-/// The mark of the bytes of a name: names with the same have the same mark, and others hardly ever.
-fn mark_of(bytes: &[u8]) -> u64
-    ensures { result ≡ mark_of bytes.now }
+/// The hash of the bytes of a name.
+fn hash_of(bytes: &[u8]) -> u64
+    ensures { result ≡ hash_of bytes.now }
 {
-    let mut mark: u64 = 14_695_981_039_346_656_037;
+    let mut hash: u64 = 14_695_981_039_346_656_037;
     for byte in bytes {
-        mark = mark
+        hash = hash
             .wrapping_add(u64::from(*byte))
             .wrapping_mul(1_099_511_628_211);
     }
-    mark
+    hash
 }
