@@ -136,7 +136,7 @@ const BUILT: [(&str, &str, bool); 10] = [
         "\"types\":[{\"kind\":\"object\",\"name\":\"Q\",\"fields\":[{\"name\":\"f\",\
 \"type\":\"Int\",\"answer\":{\"bump\":0}}]}]",
         ",\"cells\":[1]",
-        false,
+        true,
     ),
     ("\"types\":[]", ",\"hooks\":\"log\"", false),
     ("\"types\":[],\"subscription\":\"S\"", "", false),
