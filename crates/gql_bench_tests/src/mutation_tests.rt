@@ -18,10 +18,11 @@ fn bench_text(alloc: Global, query: &str) -> Made<String> {
 {{\"kind\":\"object\",\"name\":\"M\",\"fields\":[\
 {{\"name\":\"a\",\"type\":\"Int\",\"args\":[{{\"name\":\"by\",\"type\":\"Int\"}}],\
 \"answer\":{{\"bump\":0}}}},\
-{{\"name\":\"b\",\"type\":\"Int\",\"args\":[{{\"name\":\"by\",\"type\":\"Float\"}}],\
+{{\"name\":\"b\",\"type\":\"Int\",\"args\":[{{\"name\":\"by\",\"type\":\"Big\"}}],\
 \"answer\":{{\"bump\":1,\"delay\":3}}}},\
 {{\"name\":\"o\",\"type\":\"Q\",\"answer\":{{\"const\":null}}}},\
-{{\"name\":\"bad\",\"type\":\"Int!\",\"answer\":{{\"fail\":\"no\"}}}}]}}]}},\
+{{\"name\":\"bad\",\"type\":\"Int!\",\"answer\":{{\"fail\":\"no\"}}}}]}},\
+{{\"kind\":\"scalar\",\"name\":\"Big\"}}]}},\
 \"cells\":[0,7],\"turns\":[3,1,2],\"request\":{{\"query\":\"{query}\"}}}}"
     )
 }
@@ -88,7 +89,7 @@ fn cells_behind_requests(rt: HostRuntime) -> Result<(), Fail> {
         ("behind a root that failed", "mutation { bad a }", [1, 7]),
         (
             "not behind an argument that is no whole number",
-            "mutation { b(by: 1.5) a }",
+            "mutation { b(by: [1]) a }",
             [1, 7],
         ),
         ("nothing beneath a root", "mutation { o { a } }", [0, 7]),

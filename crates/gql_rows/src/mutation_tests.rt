@@ -152,13 +152,6 @@ fn what_can_not_be_raised(rt: HostRuntime) -> Result<(), Fail> {
             NOT_SIGNED,
         ),
         (
-            "a fraction",
-            "mutation { bump(by: 1.5) cell }",
-            CELL,
-            "0",
-            NOT_SIGNED,
-        ),
-        (
             "a list",
             "mutation { bump(by: [1]) cell }",
             CELL,
