@@ -6,6 +6,8 @@ mod error_tests;
 #[cfg(test)]
 mod json_tests;
 #[cfg(test)]
+mod names_tests;
+#[cfg(test)]
 mod pairs_tests;
 #[cfg(test)]
 mod tests;
