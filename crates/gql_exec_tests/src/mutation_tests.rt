@@ -42,7 +42,7 @@ struct Outcome {
 
 /// What a request comes to over a ballot whose last vote is 7, and whose answers come after a
 /// pending poll.
-fn outcome(alloc: Global, query: &str) -> Result<Option<Outcome>, NoMemory> {
+fn outcome_of(alloc: Global, query: &str) -> Result<Option<Outcome>, NoMemory> {
     let Some(schema) = schema(alloc)? else {
         return Ok(None);
     };
@@ -68,51 +68,54 @@ fn leaves(
     vote: u64,
     begun: usize,
 ) -> Result<bool, NoMemory> {
-    match outcome(alloc, query)? {
-        Some(outcome) => Ok(
-            outcome.json.as_str() == json
-                && outcome.vote == vote
-                && outcome.begun == begun
-                && outcome.polls == begun * 2,
+    match outcome_of(alloc, query)? {
+        Some(found) => Ok(
+            found.json.as_str() == json
+                && found.vote == vote
+                && found.begun == begun
+                && found.polls == begun.saturating_mul(2),
         ),
         None => Ok(false),
     }
 }
 
+/// Requests, each with its response, the last vote behind it, and how many resolvers began.
+const ANSWERED: [(&str, &str, u64, usize); 5] = [
+    (
+        "mutation { first second first }",
+        "{\"data\":{\"first\":7,\"second\":3}}",
+        5,
+        2,
+    ),
+    (
+        "mutation { second a: first b: second }",
+        "{\"data\":{\"second\":7,\"a\":5,\"b\":3}}",
+        5,
+        3,
+    ),
+    (
+        "mutation { __typename first }",
+        "{\"data\":{\"__typename\":\"Mutation\",\"first\":7}}",
+        3,
+        1,
+    ),
+    (
+        "mutation { __typename }",
+        "{\"data\":{\"__typename\":\"Mutation\"}}",
+        7,
+        0,
+    ),
+    (
+        "{ value a: value }",
+        "{\"data\":{\"value\":7,\"a\":7}}",
+        7,
+        2,
+    ),
+];
+
 #[test]
 fn votes_in_the_order_of_the_root_keys(rt: HostRuntime) -> Result<(), Fail> {
-    for (query, json, vote, begun) in [
-        (
-            "mutation { first second first }",
-            "{\"data\":{\"first\":7,\"second\":3}}",
-            5,
-            2,
-        ),
-        (
-            "mutation { second a: first b: second }",
-            "{\"data\":{\"second\":7,\"a\":5,\"b\":3}}",
-            5,
-            3,
-        ),
-        (
-            "mutation { __typename first }",
-            "{\"data\":{\"__typename\":\"Mutation\",\"first\":7}}",
-            3,
-            1,
-        ),
-        (
-            "mutation { __typename }",
-            "{\"data\":{\"__typename\":\"Mutation\"}}",
-            7,
-            0,
-        ),
-        (
-            "{ value a: value }",
-            "{\"data\":{\"value\":7,\"a\":7}}",
-            7,
-            2,
-        ),
-    ] {
+    for (query, json, vote, begun) in ANSWERED {
         assert!(rt;
             leaves(rt.alloc(), query, json, vote, begun).map_err(|_| AllocError)?,
             "at {query}"
@@ -121,34 +124,37 @@ fn votes_in_the_order_of_the_root_keys(rt: HostRuntime) -> Result<(), Fail> {
     Ok(())
 }
 
+/// Mutations that are refused, one at each stage, with their responses.
+const REFUSED: [(&str, &str); 5] = [
+    (
+        "mutation { first",
+        "{\"data\":null,\"errors\":[{\"message\":\"Syntax error: unexpected token\",\
+\"locations\":[{\"line\":1,\"column\":17}]}]}",
+    ),
+    (
+        "mutation { first ...F } fragment F on Mutation { ...F }",
+        "{\"data\":null,\"errors\":[{\"message\":\"The recursion depth of the query cannot be greater than `32`\",\
+\"locations\":[{\"line\":1,\"column\":48}]}]}",
+    ),
+    (
+        "mutation { first lost }",
+        "{\"data\":null,\"errors\":[{\"message\":\"Unknown field \\\"lost\\\" on type \\\"Mutation\\\".\",\
+\"locations\":[{\"line\":1,\"column\":18}]}]}",
+    ),
+    (
+        "mutation A { first } mutation B { second }",
+        "{\"data\":null,\"errors\":[{\"message\":\"Operation name required in request.\"}]}",
+    ),
+    (
+        "mutation($v: Boolean!) { first @include(if: $v) second }",
+        "{\"data\":null,\"errors\":[{\"message\":\"Variable \\\"$v\\\" has no fitting value.\",\
+\"locations\":[{\"line\":1,\"column\":10}]}]}",
+    ),
+];
+
 #[test]
 fn a_refused_mutation_leaves_the_last_vote(rt: HostRuntime) -> Result<(), Fail> {
-    for (query, json) in [
-        (
-            "mutation { first",
-            "{\"data\":null,\"errors\":[{\"message\":\"Syntax error: unexpected token\",\
-\"locations\":[{\"line\":1,\"column\":17}]}]}",
-        ),
-        (
-            "mutation { first ...F } fragment F on Mutation { ...F }",
-            "{\"data\":null,\"errors\":[{\"message\":\"The recursion depth of the query cannot be greater than `32`\",\
-\"locations\":[{\"line\":1,\"column\":48}]}]}",
-        ),
-        (
-            "mutation { first lost }",
-            "{\"data\":null,\"errors\":[{\"message\":\"Unknown field \\\"lost\\\" on type \\\"Mutation\\\".\",\
-\"locations\":[{\"line\":1,\"column\":18}]}]}",
-        ),
-        (
-            "mutation A { first } mutation B { second }",
-            "{\"data\":null,\"errors\":[{\"message\":\"Operation name required in request.\"}]}",
-        ),
-        (
-            "mutation($v: Boolean!) { first @include(if: $v) second }",
-            "{\"data\":null,\"errors\":[{\"message\":\"Variable \\\"$v\\\" has no fitting value.\",\
-\"locations\":[{\"line\":1,\"column\":10}]}]}",
-        ),
-    ] {
+    for (query, json) in REFUSED {
         assert!(rt;
             leaves(rt.alloc(), query, json, 7, 0).map_err(|_| AllocError)?,
             "at {query}"
