@@ -50,7 +50,7 @@ const ANSWERS: [(&str, &str); 24] = [
     ),
     ("{\"sum\":[]}", "now 0"),
     ("{\"read\":1}", "now -9"),
-    ("{\"bump\":0}", "now 4"),
+    ("{\"bump\":0}", "0 4"),
     ("{\"delay\":2,\"const\":null}", "2 null"),
     ("{\"added\":[\"v\",\"w\"],\"const\":1}", "0 1 + v + w"),
     (

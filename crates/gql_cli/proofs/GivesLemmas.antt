@@ -9,12 +9,9 @@ use Rattle.gql_bench.specs.declared.bench.Bench.{Bench}
 use Rattle.gql_bench.specs.declared.list_turns.ListTurns.{ListTurns}
 use Rattle.gql_cli.proofs.ExecutionLemmas.{executed, Starts}
 use Rattle.gql_cli.proofs.LawLemmas.{if-response}
-use Rattle.gql_cli.specs.Answer.{AnswersOver, Asked, IsAnswerTo, IsResponseTo}
+use Rattle.gql_cli.specs.Answer.{Asked, IsResponseTo}
 use Rattle.gql_cli.specs.Command.{form_command}
 use Rattle.gql_cli.specs.Gives.{BenchGives, Gives, HoldsTold, IsAnswer, JsonGives, json_of, outcome_for, response_text, WithRecord}
-use Rattle.gql_cli.specs.Request.{IsLater}
-use Rattle.gql_cli.specs.declared.answer.Answer.{Answer}
-use Rattle.gql_cli.specs.declared.answer.Answer.TheVariants as answer
 use Rattle.gql_cli.specs.declared.command.Command.{Command}
 use Rattle.gql_cli.specs.declared.outcome.Outcome.{Outcome}
 use Rattle.gql_cli.specs.declared.outcome.Outcome.TheVariants.{Answered, BadSchema, BadShape, HasErrors, NotBuilt, NotJson, ReadFault, TooLong, Usage}
@@ -24,17 +21,13 @@ use Rattle.gql_request.specs.declared.response.Response.{Response}
 use Rattle.gql_resolve.specs.declared.record_entry.RecordEntry.{RecordEntry}
 use Rattle.gql_resolve.specs.declared.resolver_set.ResolverSet.{Ghosts as Resolving}
 
--- the answer to a request of a bench, over a set and turns that were made for the bench
-pub answers_to : {S F E : Type 0} (set : Resolving S ℤ (List ℤ) F) (bench : Bench) (start new : Seen S ListTurns) → Starts set bench start
-    → (asked : Asked bench) (result : Result Answer E)
-    → IfOk result (AnswersOver (Executes set ghosts start new (asks asked.schema asked.request)) (IsLater asked.schema asked.request.inner))
-    → IfOk result (IsAnswerTo bench (set.told new.set))
-answers_to set bench start new at asked (Ok (answer.Response response)) (now, runs) =
-    let (entries, told, is) = executed set bench start new at (asks asked.schema asked.request) response runs in
-    record { asks_for = asked; now = now; entries = entries; is_told = told; executed = is }
-answers_to set bench start new at asked (Ok (answer.BadSchema text)) is = absurd is
-answers_to set bench start new at asked (Ok answer.NotBuilt) later = inr (asked, later)
-answers_to set bench start new at asked (Err want) is = tt
+-- the response to the request of a bench, over a set and turns that were made for the bench
+pub response_to : {S F : Type 0} (set : Resolving S ℤ (List ℤ) F) (bench : Bench) (start new : Seen S ListTurns) → Starts set bench start
+    → (asked : Asked bench) (response : Response) → Executes set ghosts start new (asks asked.schema asked.request) response
+    → IsResponseTo bench (set.told new.set) response
+response_to set bench start new at asked response executes =
+    let (entries, told, is) = executed set bench start new at (asks asked.schema asked.request) response executes in
+    record { asks_for = asked; entries = entries; is_told = told; executed = is }
 
 module _ (command : Command) (bench : Bench) where
   -- an answer is given

@@ -1,5 +1,5 @@
 -- The bytes of a bench give one thing to a command.
-use Rattle.std.proofs.Common.{◌≡◌, ℕ, ℤ, Bool, true, false, ◌&&◌, List, length, Option, Some, None, Result, Ok, Err, inl, inr, refl, ap, sym, ◌∙◌, subst}
+use Rattle.std.proofs.Common.{◌≡◌, ℕ, ℤ, Bool, true, false, ◌&&◌, List, [], length, Option, Some, None, Result, Ok, Err, inl, inr, refl, ap, sym, ◌∙◌, subst}
 use Rattle.std.proofs.Props.{props}
 use mathlib.Core.HLevel.{is_prop→PathP}
 use Rattle.serde_json.specs.Data.{Data}
@@ -11,13 +11,13 @@ use Rattle.gql_bench.specs.Found.{HasTables, IsBadAt, IsReadAs}
 use Rattle.gql_bench.specs.ListTurns.{list_turns}
 use Rattle.gql_bench.specs.Table.{table_delay}
 use Rattle.gql_bench.specs.declared.bench.Bench.{Bench}
-use Rattle.gql_cli.proofs.RecordLaws.{IsWhole, one-record}
+use Rattle.gql_cli.proofs.RecordLaws.{IsWhole, one-record, one-record-in-turn}
 use Rattle.gql_cli.proofs.RefusalLemmas.{never-sound, one-refusal}
-use Rattle.gql_cli.specs.Answer.{Asked, IsRefusedTable, IsResponseTo}
+use Rattle.gql_cli.specs.Answer.{Asked, HasNoRequest, IsRefusedTable, IsResponseTo}
 use Rattle.gql_cli.specs.Command.{form_command}
-use Rattle.gql_cli.specs.Execution.{ComesOf, GoesOn, IsExecuted, IsRecord, story}
+use Rattle.gql_cli.specs.Execution.{bench_serving, ComesOf, GoesOn, IsExecuted, IsRecord, IsRecordAtOnce, RecordBy, story}
 use Rattle.gql_cli.specs.Gives.{BenchGives, Gives, IfResponse, IsAnswer, IsBadShape, IsUnbuilt, IsUnsound, JsonGives, json_of, outcome_for, response_text, schema_line, shape_line}
-use Rattle.gql_cli.specs.Request.{IsLater, single}
+use Rattle.gql_cli.specs.Request.{single}
 use Rattle.gql_cli.specs.declared.command.Command.{Command}
 use Rattle.gql_cli.specs.declared.outcome.Outcome.{Outcome}
 use Rattle.gql_cli.specs.declared.outcome.Outcome.TheVariants.{Answered, BadSchema, BadShape, HasErrors, NotBuilt, NotJson, ReadFault, TooLong, Usage}
@@ -25,7 +25,8 @@ use Rattle.gql_engine.specs.declared.scene.Scene.{Scene}
 use Rattle.gql_cli.proofs.SchemaLemmas.{one_builder, one_schema}
 use Rattle.gql_exec.proofs.ReadyLemmas.{one_ready}
 use Rattle.gql_exec.specs.Builder.{IsSchemaOf, whole_table}
-use Rattle.gql_exec.specs.Execution.{Ask, asks}
+use Rattle.gql_engine.specs.Record.{fresh}
+use Rattle.gql_exec.specs.Execution.{Ask, asks, mutates}
 use Rattle.gql_exec.specs.Root.{root_for}
 use Rattle.gql_exec.specs.Scene.{scene_for}
 use Rattle.gql_exec.specs.Schema.{settings_of as schema_settings, types_in}
@@ -35,7 +36,8 @@ use Rattle.gql_form.specs.declared.bench_form.BenchForm.{BenchForm}
 use Rattle.gql_form.specs.declared.work_form.WorkForm.{WorkForm}
 use Rattle.gql_form.specs.declared.work_form.WorkForm.TheVariants as work
 use Rattle.gql_merged.specs.Jobs.{Job}
-use Rattle.gql_merged.specs.Run.{root_jobs}
+use Rattle.gql_merged.specs.Run.{job_subject, root_jobs}
+use Rattle.gql_merged.specs.Serial.{key_jobs}
 use Rattle.gql_request.specs.declared.query_env.QueryEnv.{QueryEnv}
 use Rattle.gql_request.specs.declared.response.Response.{Response}
 use Rattle.gql_resolve.specs.declared.record_entry.RecordEntry.{RecordEntry}
@@ -48,13 +50,21 @@ module _ (bench : Bench) where
   delay job = table_delay bench.rules job.asking.call.resolver
 
   module _ (scene : Scene ℤ) where
-    whole-record : (told : List RecordEntry) → IsRecord bench scene told → IsWhole list_turns (story bench) delay (bench.turns, 0) (root_jobs scene) told
+    whole-record : (told : List RecordEntry) → IsRecordAtOnce bench scene told → IsWhole list_turns (story bench) delay (bench.turns, 0) (root_jobs scene) told
     whole-record told is = record { turned = is.turned; whole = is.whole; paced = is.paced }
+
+    record-by : (mutation : Bool) (one other : List RecordEntry) → RecordBy bench mutation scene one → RecordBy bench mutation scene other → one ≡ other
+    record-by true one other a b =
+        let told = one-record-in-turn (bench_serving bench) tt job_subject list_turns bench.cells (key_jobs scene) (fresh []) [] (bench.turns, 0) a.starts b.starts
+            a.behind b.behind a.phases b.phases in
+        let both : Some one ≡ Some other = sym a.told ∙ told ∙ b.told in
+        cc
+    record-by false one other a b =
+        one-record list_turns (story bench) delay (bench.turns, 0) (root_jobs scene) one other (whole-record one a) (whole-record other b)
 
     -- a scene has one record
     pub scene-record : (one other : List RecordEntry) → IsRecord bench scene one → IsRecord bench scene other → one ≡ other
-    scene-record one other a b =
-        one-record list_turns (story bench) delay (bench.turns, 0) (root_jobs scene) one other (whole-record one a) (whole-record other b)
+    scene-record = record-by (mutates scene)
 
   -- two responses are one, with their records
   abbrev AreOne : Response → Response → List RecordEntry → List RecordEntry → Type 0
@@ -99,11 +109,6 @@ module _ (bench : Bench) where
       let same : asks a.asks_for.schema a.asks_for.request ≡ asks b.asks_for.schema b.asks_for.request = λ i. asks (schema i) (request i) in
       executed-same (asks b.asks_for.schema b.asks_for.request) r s a.entries b.entries
       (subst (λ ask. IsExecuted bench ask r a.entries) same a.executed) b.executed
-
-  later-same : (one other : Asked bench) → IsLater one.schema one.request.inner → IsLater other.schema other.request.inner
-  later-same one other later =
-      let (schema, request) = asked-same one other in
-      subst (λ (p : Schema × DynamicRequest ℤ). IsLater p.0 p.1.inner) (λ i. (schema i, request i)) later
 
   -- a table that is refused has no schema
   never-schema : (text : List ℕ) → IsRefusedTable bench text → (schema : Schema) → IsSchemaOf bench.builder schema → ⊥
@@ -158,21 +163,20 @@ module _ (command : Command) (bench : Bench) where
         if-response one (entries ≡ others) es,
       )
 
-  module _ (alone : is_built bench ≡ true → single bench.requests ≡ None → ⊥) where
-    -- a bench that is built, with a schema and a request that is, isn't unbuilt
-    never-unbuilt : is_built bench ≡ true → ((asked : Asked bench) → IsLater asked.schema asked.request.inner → ⊥) → IsUnbuilt bench → ⊥
-    never-unbuilt built now (inl none) = let both = sym built ∙ none in cc
-    never-unbuilt built now (inr (inl none)) = alone built none
-    never-unbuilt built now (inr (inr (asked, late))) = now asked late
+  module _ (alone : is_built bench ≡ true → HasNoRequest bench → ⊥) where
+    -- a bench that is built isn't unbuilt
+    never-unbuilt : is_built bench ≡ true → IsUnbuilt bench → ⊥
+    never-unbuilt built (inl none) = let both = sym built ∙ none in cc
+    never-unbuilt built (inr none) = alone built none
 
     by-ways : (one other : Outcome) (entries others : List RecordEntry) → Way one entries → Way other others → Same one other entries others
     by-ways one other entries others (later a un) (later b un') = same-plain one other NotBuilt entries others a b tt
     by-ways one other entries others (later a un) (unsound text b why) =
-        absurd (never-unbuilt why.built (λ asked now. never-schema bench why.why why.refused asked.schema asked.is) un)
+        absurd (never-unbuilt why.built un)
     by-ways one other entries others (later a un) (answer b) =
-        absurd (never-unbuilt b.built (λ asked now. b.answered.now (later-same bench asked b.answered.asks_for now)) un)
+        absurd (never-unbuilt b.built un)
     by-ways one other entries others (unsound text a why) (later b un) =
-        absurd (never-unbuilt why.built (λ asked now. never-schema bench why.why why.refused asked.schema asked.is) un)
+        absurd (never-unbuilt why.built un)
     by-ways one other entries others (unsound text a why) (unsound said b why') =
         let (error, refused, is) = why.refused in
         let (error', refused', is') = why'.refused in
@@ -182,7 +186,7 @@ module _ (command : Command) (bench : Bench) where
     by-ways one other entries others (unsound text a why) (answer b) =
         absurd (never-schema bench why.why why.refused b.answered.asks_for.schema b.answered.asks_for.is)
     by-ways one other entries others (answer a) (later b un) =
-        absurd (never-unbuilt a.built (λ asked now. a.answered.now (later-same bench asked a.answered.asks_for now)) un)
+        absurd (never-unbuilt a.built un)
     by-ways one other entries others (answer a) (unsound text b why) =
         absurd (never-schema bench why.why why.refused a.answered.asks_for.schema a.answered.asks_for.is)
     by-ways one other entries others (answer a) (answer b) = answer-same one other entries others a b

@@ -3,8 +3,11 @@ use Rattle.std.proofs.Common.{◌≡◌, ◌⊎◌, ℕ, zero, suc, ◌<◌, ◌
 use Rattle.std.proofs.lemmas.List.{append_cancel_left}
 use Rattle.std.proofs.lemmas.Bool.{cases_order}
 use Rattle.std.proofs.lemmas.Option.{slice_get_within}
+use Rattle.gql_engine.specs.Arena.{Subject}
 use Rattle.gql_engine.specs.Pace.{EachPaced, pending_then_ready, told_of}
-use Rattle.gql_engine.specs.Record.{Choice, Made, NamesTask, Story, Turned, after_entry, after_mark, beneath_of, fresh, made_at, waiting}
+use Rattle.gql_engine.specs.Phases.{after_root, IsPhase, PacedSince, Phases, Serving, story_in, with_root}
+use Rattle.gql_engine.specs.Record.{Choice, Made, NamesTask, Stage, Story, Turned, after_entry, after_mark, beneath_of, fresh, made_at, state_at, waiting}
+use Rattle.gql_resolve.specs.Record.{with_more}
 use Rattle.gql_resolve.specs.declared.record_entry.RecordEntry.{RecordEntry}
 
 module _ {A : Type 0} where
@@ -157,3 +160,87 @@ module _ {Task State : Type 0} (choice : Choice State) (story : Story Task) (del
         owed = owed-all tasks told a.paced;
         owed' = owed-all tasks other b.paced;
       }
+
+module _ {V W Task State : Type 0} (serving : Serving V W) (keeps : serving.paced) (subject : Subject V Task) (choice : Choice State) where
+  -- the delay of a task
+  abbrev delay : Task → ℕ
+  delay task = serving.delay (subject.call task).resolver
+
+  -- what the record sees of a moment where it is told and the turns are known
+  abbrev known : Made Task → List RecordEntry → State → Option (List ℕ) → Stage Task State
+  known made told state starts = record { made = made; told = Some told; starts = starts; turns = Some state }
+
+  module _ (world : W) (root : Task) (made : Made Task) (told : List RecordEntry) (state : State) where
+    abbrev tale : Story Task
+    tale = story_in serving subject world root
+
+    -- the tasks of the phase as it begins
+    abbrev begun_with : Made Task
+    begun_with = after_root made root
+
+    module _ (starts : Option (List ℕ)) (new : Stage Task State) (phase : IsPhase serving subject choice world root (known made told state starts) new) where
+      abbrev own : List RecordEntry
+      own = phase.ran.entries
+
+      since : PacedSince (length made.tasks) delay (made_at tale begun_with own).tasks own
+      since = subst (λ (m : Made Task). PacedSince (length made.tasks) delay m.tasks own) phase.ran.made_is (phase.paces keeps told refl)
+
+      none-waits : waiting (made_at tale begun_with own) ≡ []
+      none-waits = ap waiting (sym phase.ran.made_is) ∙ phase.whole
+
+      -- where it ends
+      ends : new ≡ known (made_at tale begun_with own) (told ++ own) (state_at choice tale state begun_with own) new.starts
+      ends = λ i. record { made = phase.ran.made_is i; told = phase.ran.told_is i; starts = new.starts; turns = phase.ran.state_is i }
+
+      own-owed : Owed choice tale delay begun_with own
+      own-owed = λ k task past is.
+          let sizes = length-append made.tasks (root ∷ []) in
+          since.paced k task (omega arith) is
+
+      own-root : (k : ℕ) → k ≡ length made.tasks → told_of k own ≡ pending_then_ready (delay root)
+      own-root k last =
+          since.paced k root (omega arith) (all-keep choice tale delay begun_with own k root (ap (slice_get (made.tasks ++ root ∷ [])) last ∙ at-end made.tasks))
+        where
+          at-end : (tasks : List Task) → slice_get (tasks ++ root ∷ []) (length tasks) ≡ Some root
+          at-end [] = refl
+          at-end (t ∷ tasks) = at-end tasks
+
+    -- the phase of a root key has one record
+    one-phase : (a b : Option (List ℕ)) (one other : Stage Task State) (p : IsPhase serving subject choice world root (known made told state a) one)
+        (q : IsPhase serving subject choice world root (known made told state b) other) → p.ran.entries ≡ q.ran.entries
+    one-phase a b one other p q =
+        same-record choice tale delay state begun_with p.ran.entries q.ran.entries (p.ran.turned state refl) (q.ran.turned state refl)
+        (none-waits a one p) (none-waits b other q)
+        record {
+          seen = λ k there. by k there (cases_order k (length made.tasks));
+          owed = own-owed a one p;
+          owed' = own-owed b other q;
+        }
+      where
+        by : (k : ℕ) → k < length begun_with.tasks → (k ≡ length made.tasks) ⊎ ((k < length made.tasks) ⊎ (length made.tasks < k))
+            → told_of k p.ran.entries ≡ told_of k q.ran.entries
+        by k there (inl last) = own-root a one p k last ∙ sym (own-root b other q k last)
+        by k there (inr (inl before)) = (since a one p).earlier k before ∙ sym ((since b other q).earlier k before)
+        by k there (inr (inr behind)) = let sizes = length-append made.tasks (root ∷ []) in absurd (omega arith)
+
+  -- root keys one after another have one record
+  pub one-record-in-turn : (world : W) (roots : List Task) (made : Made Task) (told : List RecordEntry) (state : State) (a b : Option (List ℕ))
+      (one other : Stage Task State) → Phases serving subject choice world roots (known made told state a) one
+      → Phases serving subject choice world roots (known made told state b) other → one.told ≡ other.told
+  one-record-in-turn world [] made told state a b one other is same =
+      ap (λ (s : Stage Task State). s.told) is ∙ sym (ap (λ (s : Stage Task State). s.told) same)
+  one-record-in-turn world (root ∷ roots) made told state a b one other (middle, p, rest) (middle', q, rest') =
+      one-record-in-turn next roots (made_past p.ran.entries) (told ++ p.ran.entries) (state_past p.ran.entries) middle.starts middle'.starts one other
+      (subst (λ s. Phases serving subject choice next roots s one) (ends world root made told state a middle p) rest)
+      (subst (λ es. Phases serving subject choice next roots (known (made_past es) (told ++ es) (state_past es) middle'.starts) other)
+      (sym (one-phase world root made told state a b middle middle' p q))
+      (subst (λ s. Phases serving subject choice next roots s other) (ends world root made told state b middle' q) rest'))
+    where
+      abbrev next : W
+      next = serving.effect (subject.call root) world
+
+      abbrev made_past : List RecordEntry → Made Task
+      made_past es = made_at (tale world root made told state) (begun_with world root made told state) es
+
+      abbrev state_past : List RecordEntry → State
+      state_past es = state_at choice (tale world root made told state) state (begun_with world root made told state) es

@@ -1,8 +1,8 @@
 -- The answer to a bench's request.
-use Rattle.std.specs.Prelude.{◌≡◌, ◌⊎◌, ℕ, ℤ, List, Option, None, Some}
+use Rattle.std.specs.Prelude.{◌≡◌, ℤ, ℕ, List, Option, None, Some}
 use Rattle.gql_bench.specs.declared.bench.Bench.{Bench}
 use Rattle.gql_cli.specs.Execution.{IsExecuted}
-use Rattle.gql_cli.specs.Request.{IsLater, IsRequestOf, single}
+use Rattle.gql_cli.specs.Request.{IsRequestOf, single}
 use Rattle.gql_cli.specs.declared.answer.Answer.{Answer}
 use Rattle.gql_cli.specs.declared.answer.Answer.TheVariants as answer
 use Rattle.gql_exec.specs.Builder.{IsSchemaOf, whole_table}
@@ -13,12 +13,6 @@ use Rattle.gql_request.specs.declared.response.Response.{Response}
 use Rattle.gql_resolve.specs.declared.record_entry.RecordEntry.{RecordEntry}
 use Rattle.gql_schema.specs.Sound.{IsFirstRefusal}
 use Rattle.gql_schema.specs.declared.schema_error.SchemaError.{SchemaError}
-
--- the answer to a request over a schema, where it is executed so: it isn't where it isn't built
-abbrev pub AnswersOver : (Response → Type 0) → Type 0 → Answer → Type 0
-AnswersOver Executed Later (answer.Response response) = (Later → ⊥) × Executed response
-AnswersOver Executed Later (answer.BadSchema text) = ⊥
-AnswersOver Executed Later answer.NotBuilt = Later
 
 -- a bench with its schema and its request
 pub record Asked (bench : Bench) : Type 0 where
@@ -31,16 +25,13 @@ pub record Asked (bench : Bench) : Type 0 where
 pub record IsResponseTo (bench : Bench) (told : Option (List RecordEntry))
     (response : Response) : Type 0 where
   pub asks_for : Asked bench
-  pub now : ¬ IsLater asks_for.schema asks_for.request.inner
   pub entries : List RecordEntry
   pub is_told : told ≡ Some entries
   pub executed : IsExecuted bench (asks asks_for.schema asks_for.request) response entries
 
--- the bench has no single request, or one that isn't built
-abbrev pub IsLaterBench : Bench → Type 0
-IsLaterBench bench =
-    (single bench.requests ≡ None)
-    ⊎ ((asked : Asked bench) × IsLater asked.schema asked.request.inner)
+-- the bench has no single request
+abbrev pub HasNoRequest : Bench → Type 0
+HasNoRequest bench = single bench.requests ≡ None
 
 -- the table of a bench's types is refused, and this text says why
 abbrev pub IsRefusedTable : Bench → List ℕ → Type 0
@@ -52,4 +43,4 @@ IsRefusedTable bench text =
 abbrev pub IsAnswerTo : Bench → Option (List RecordEntry) → Answer → Type 0
 IsAnswerTo bench told (answer.Response response) = IsResponseTo bench told response
 IsAnswerTo bench told (answer.BadSchema text) = IsRefusedTable bench text
-IsAnswerTo bench told answer.NotBuilt = IsLaterBench bench
+IsAnswerTo bench told answer.NotBuilt = HasNoRequest bench

@@ -1,20 +1,25 @@
 -- The execution of a bench's request: its response, and the record of the polls that are made for
 -- it, in the order that the bench's turns fix.
-use Rattle.std.specs.Prelude.{◌≡◌, ℕ, ℤ, List, [], Result, Ok, Err}
+use Rattle.std.specs.Prelude.{◌≡◌, ℕ, ℤ, Bool, true, false, List, [], Option, Some, Result, Ok, Err}
 use Rattle.gql_admit.specs.Prepared.{Prepared}
 use Rattle.gql_bench.specs.ListTurns.{list_turns}
-use Rattle.gql_bench.specs.Table.{table_answer, table_delay}
+use Rattle.gql_bench.specs.Table.{table_answer, table_delay, table_effect}
 use Rattle.gql_bench.specs.declared.bench.Bench.{Bench}
 use Rattle.gql_engine.specs.Pace.{EachPaced}
+use Rattle.gql_engine.specs.Phases.{Phases, Serving}
 use Rattle.gql_engine.specs.Progress.{story_of}
-use Rattle.gql_engine.specs.Record.{Made, Story, Turned, fresh, made_at, waiting}
+use Rattle.gql_engine.specs.Record.{Made, Stage, Story, Turned, fresh, made_at, waiting}
 use Rattle.gql_engine.specs.declared.scene.Scene.{Scene}
-use Rattle.gql_exec.specs.Execution.{Ask, error_response, fault_response, response_in}
+use Rattle.gql_exec.specs.Execution.{Ask, error_response, fault_response, mutates}
+use Rattle.gql_exec.specs.PlaceResponse.{response_at}
 use Rattle.gql_exec.specs.Ready.{IsMadeReady}
 use Rattle.gql_exec.specs.Root.{root_for}
 use Rattle.gql_exec.specs.Scene.{scene_for}
 use Rattle.gql_merged.specs.Jobs.{Job}
-use Rattle.gql_merged.specs.Run.{job_subject, root_jobs}
+use Rattle.gql_merged.specs.Run.{job_subject, merged_response, root_jobs}
+use Rattle.gql_merged.specs.Serial.{key_jobs, serial_response}
+use Rattle.gql_place.specs.declared.place.Place.{Place}
+use Rattle.gql_request.specs.QueryEnv.{levels_of}
 use Rattle.gql_request.specs.declared.query_env.QueryEnv.{QueryEnv}
 use Rattle.gql_request.specs.declared.response.Response.{Response}
 use Rattle.gql_resolve.specs.Call.{Call}
@@ -23,9 +28,24 @@ use Rattle.gql_resolve.specs.declared.record_entry.RecordEntry.{RecordEntry}
 use Rattle.gql_schema.specs.declared.object.Object.{Object}
 
 module _ (bench : Bench) where
-  -- what is answered to a call: by the rules of the bench, in its cells
+  -- how calls are served: by the rules of the bench, in the cells as they stand
+  abbrev pub bench_serving : Serving ℤ (List ℤ)
+  bench_serving = record {
+    answer = table_answer bench.rules;
+    effect = table_effect bench.rules;
+    delay = table_delay bench.rules;
+    paced = Unit {0};
+  }
+
+  -- what is answered to a call in the bench's own cells
   abbrev pub answers_of : Call ℤ → Answer ℤ
   answers_of call = table_answer bench.rules call bench.cells
+
+  -- the place of the response to a scene: of a mutation, or of another operation
+  abbrev pub place_in : Bool → Scene ℤ → Place
+  place_in true scene = serial_response scene (table_answer bench.rules)
+      (table_effect bench.rules) bench.cells (levels_of scene.env.now)
+  place_in false scene = merged_response scene answers_of (levels_of scene.env.now)
 
   -- the tasks of merged execution, with the tasks beneath the answer of each
   abbrev pub story : Story (Job ℤ)
@@ -38,19 +58,48 @@ module _ (bench : Bench) where
   -- the whole record of a scene: the bench's turns choose each entry's task among those that wait,
   -- none waits at the end, and each task has as many pending entries as the delay of its resolver,
   -- and then its ready one
-  pub record IsRecord (scene : Scene ℤ) (entries : List RecordEntry) : Type 0 where
+  pub record IsRecordAtOnce (scene : Scene ℤ) (entries : List RecordEntry) : Type 0 where
     pub turned : Turned list_turns story (bench.turns, 0) (fresh (root_jobs scene)) entries
     pub whole : waiting (made_by scene entries) ≡ []
     pub paced : EachPaced (λ (job : Job ℤ). table_delay bench.rules job.asking.call.resolver)
         (made_by scene entries).tasks entries
 
+  -- before any task: no entry is told, and the turns begin
+  abbrev pub none_told : Option (List ℕ) → Stage (Job ℤ) (List ℕ × ℕ)
+  none_told starts = record {
+    made = fresh [];
+    told = Some [];
+    starts = starts;
+    turns = Some (bench.turns, 0);
+  }
+
+  -- the whole record of a mutation: the chain of those of its root keys, the first of which is
+  -- asked in the bench's cells
+  pub record IsRecordInTurn (scene : Scene ℤ) (entries : List RecordEntry) : Type 0 where
+    pub starts : Option (List ℕ)
+    pub behind : Stage (Job ℤ) (List ℕ × ℕ)
+    pub phases : Phases bench_serving job_subject list_turns bench.cells (key_jobs scene)
+        (none_told starts) behind
+    pub told : behind.told ≡ Some entries
+
+  -- the whole record of a scene: of a mutation, or of another operation
+  abbrev pub RecordBy : Bool → Scene ℤ → List RecordEntry → Type 0
+  RecordBy true scene entries = IsRecordInTurn scene entries
+  RecordBy false scene entries = IsRecordAtOnce scene entries
+
+  -- the whole record of a scene
+  abbrev pub IsRecord : Scene ℤ → List RecordEntry → Type 0
+  IsRecord scene entries = RecordBy (mutates scene) scene entries
+
   module _ (ask : Ask ℤ) (response : Response) (entries : List RecordEntry) where
+    -- the response to a scene and its record
+    abbrev pub Ran : Scene ℤ → Type 0
+    Ran scene = (response ≡ response_at (place_in (mutates scene) scene)) × IsRecord scene entries
+
     -- the response and the record of an admitted request: those of merged execution, or its fault,
     -- and then nothing is polled
     abbrev pub GoesOn : QueryEnv → Result Object (List ℕ) → Type 0
-    GoesOn env (Ok object) =
-        (response ≡ response_in (scene_for ask.schema ask.request env object) answers_of)
-        × IsRecord (scene_for ask.schema ask.request env object) entries
+    GoesOn env (Ok object) = Ran (scene_for ask.schema ask.request env object)
     GoesOn env (Err text) = (response ≡ fault_response text) × (entries ≡ [])
 
     -- those of a request by what was made of it: for one that is refused nothing is polled

@@ -10,7 +10,7 @@ use Rattle.gql_bench.specs.Built.{is_built}
 use Rattle.gql_bench.specs.Found.{HasTables, IsBadAt}
 use Rattle.gql_bench.specs.RecordText.{record_lines}
 use Rattle.gql_bench.specs.declared.bench.Bench.{Bench}
-use Rattle.gql_cli.specs.Answer.{IsLaterBench, IsRefusedTable, IsResponseTo}
+use Rattle.gql_cli.specs.Answer.{HasNoRequest, IsRefusedTable, IsResponseTo}
 use Rattle.gql_cli.specs.Command.{form_command}
 use Rattle.gql_cli.specs.Outcome.{line}
 use Rattle.gql_cli.specs.declared.command.Command.{Command}
@@ -53,9 +53,9 @@ pub record IsAnswer (command : Command) (bench : Bench) (outcome : Outcome)
   pub answered : IsResponseTo bench (Some entries) response
   pub is : outcome ≡ outcome_for response.errors (response_text command entries response)
 
--- the bench isn't built, or its request isn't
+-- the bench isn't built, or it has no single request
 abbrev pub IsUnbuilt : Bench → Type 0
-IsUnbuilt bench = (is_built bench ≡ false) ⊎ IsLaterBench bench
+IsUnbuilt bench = (is_built bench ≡ false) ⊎ HasNoRequest bench
 
 -- the line that tells a bad place
 abbrev pub shape_line : List ℕ → List ℕ

@@ -112,7 +112,6 @@ fn what_is_not_built_is_told(rt: HostRuntime) -> Result<(), Fail> {
             "object",
             "},{\"kind\":\"subscription\",\"name\":\"S\",\"fields\":[]",
         ),
-        ("field", "\"type\":\"Int\",\"answer\":{\"bump\":0}"),
     ] {
         assert!(rt; is_not_built(rt.alloc(), part, text)?, "at {text}");
     }
@@ -141,8 +140,14 @@ const MUTATIONS: &str = ",\"mutation\":\"Q\"";
 #[test]
 fn documents_with_mutations(rt: HostRuntime) -> Result<(), Fail> {
     for (schema, query, status, text) in [
-        (MUTATIONS, "mutation { a }", 3, NOT_BUILT),
-        (MUTATIONS, "query A { a } mutation B { lost }", 3, NOT_BUILT),
+        (MUTATIONS, "mutation { a }", 0, "{\"data\":{\"a\":1}}\n"),
+        (
+            MUTATIONS,
+            "query A { a } mutation B { lost }",
+            1,
+            "{\"data\":null,\"errors\":[{\"message\":\"Unknown field \\\"lost\\\" on type \\\"Q\\\".\",\
+\"locations\":[{\"line\":1,\"column\":28}]}]}\n",
+        ),
         (MUTATIONS, "{ a }", 0, "{\"data\":{\"a\":1}}\n"),
         (
             MUTATIONS,

@@ -1,5 +1,5 @@
-//! A table of types, and the response to a query over it, for tests.
-ghost use Rattle.std.specs.Prelude.{◌≡◌, false, None, IfOk, IsTrue};
+//! A table of types, and the response to a query or a mutation over it, for tests.
+ghost use Rattle.std.specs.Prelude.{◌≡◌, ◌<◌, true, false, None, IfOk, IsTrue};
 ghost use Rattle.gql_doc.specs.Depth.{deep_from};
 ghost use Rattle.gql_doc.specs.declared.document.ExecutableDocument.{ExecutableDocument as Document};
 ghost use Rattle.gql_doc.specs.declared.document.DocumentOperations.TheVariants.{Single};
@@ -8,18 +8,22 @@ ghost use Rattle.gql_schema.specs.Field.{field_name};
 
 use crate::answers::Answers;
 use gql_admit::check_depth;
-use gql_base::{Made, NoMemory, Pairs, Text, TypeRef, Value, Variables, json_of, push_errors};
+use gql_base::{
+    Made, NoMemory, Pairs, Steps, Text, TypeRef, Value, Variables, json_of, push_errors,
+};
 use gql_doc::{
     DocumentOperations, ExecutableDocument, FragmentDefinition, OperationDefinition, OperationType,
     Positioned, parse_query,
 };
 use gql_engine::Scene;
-use gql_merged::run_merged;
+use gql_merged::{run_merged, run_mutation_counted};
 use gql_place::{Place, faults, raise};
 use gql_request::{Data, Hooks, IntrospectionMode, QueryEnv};
 use gql_resolve::{FieldValue, Layers, Turns};
 use gql_schema::{Enum, Field, Interface, Object, Scalar, ScalarRule, SchemaType, Types, Union};
 use std::alloc::Global;
+use std::marker::Brand;
+use std::sync::ledger::{Blank, Ledger};
 
 /// How many levels beneath that of an operation the sets of a query may lie.
 const DEPTH: usize = 64;
@@ -183,7 +187,7 @@ impl Ground {
                 session: &self.data,
                 schema: &self.data,
             },
-            serial: false,
+            serial: env.operation.node.ty == OperationType::Mutation,
         }
     }
 }
@@ -220,7 +224,60 @@ fn place_of<P: Turns>(
     run_merged(alloc, &scene, set, &mut hooks, turns)
 }
 
-/// The response to a request that is a query.
+/// The place of a mutation, and the number of its root keys.
+fn place_in_turn<P: Turns, S: Ledger>(
+    alloc: Global,
+    ground: &Ground,
+    env: &QueryEnv,
+    set: &mut Answers,
+    turns: &mut P,
+    blank: Blank,
+) -> Result<(Place, u64), NoMemory>
+    requires name { blank.name ≡ S.name }
+    requires parts { blank.parts ≡ S.parts }
+    requires some { 0 < blank.parts }
+    requires kind { is_mutation env.now.operation.node.ty ≡ true }
+{
+    let mut steps: Steps<S> = Steps::new(blank);
+    let scene = ground.scene(env);
+    let mut hooks = Hooks::none(alloc);
+    run_mutation_counted(alloc, &scene, set, &mut hooks, turns, &mut steps)
+}
+
+/// The response to a mutation, behind the number of its root keys.
+fn response_in_turn<P: Turns, S: Ledger>(
+    alloc: Global,
+    env: &QueryEnv,
+    set: &mut Answers,
+    turns: &mut P,
+    blank: Blank,
+) -> Result<String, NoMemory>
+    requires name { blank.name ≡ S.name }
+    requires parts { blank.parts ≡ S.parts }
+    requires some { 0 < blank.parts }
+    requires kind { is_mutation env.now.operation.node.ty ≡ true }
+{
+    let ground = Ground::new(alloc)?;
+    let (place, roots) = place_in_turn::<P, S>(alloc, &ground, env, set, turns, blank)?;
+    let response = response_text(alloc, &place)?;
+    Ok(format!(in alloc; "{roots}{response}")?)
+}
+
+/// The response to a query.
+fn response_at_once<P: Turns>(
+    alloc: Global,
+    env: &QueryEnv,
+    set: &mut Answers,
+    turns: &mut P,
+) -> Result<String, NoMemory>
+    requires { is_mutation env.now.operation.node.ty ≡ false }
+{
+    let ground = Ground::new(alloc)?;
+    let place = place_of(alloc, &ground, env, set, turns)?;
+    Ok(response_text(alloc, &place)?)
+}
+
+/// The response to a request that is a query or a mutation.
 fn response_to<P: Turns>(
     alloc: Global,
     env: &QueryEnv,
@@ -228,13 +285,12 @@ fn response_to<P: Turns>(
     turns: &mut P,
 ) -> Result<String, NoMemory> {
     match env.operation.node.ty {
-        OperationType::Query => {}
-        OperationType::Mutation => return Ok(String::from_str(alloc, "no query")?),
-        OperationType::Subscription => return Ok(String::from_str(alloc, "no query")?),
+        OperationType::Query => response_at_once(alloc, env, set, turns),
+        OperationType::Mutation => {
+            response_in_turn::<P, Brand>(alloc, env, set, turns, Blank::new(1))
+        }
+        OperationType::Subscription => Ok(String::from_str(alloc, "no response")?),
     }
-    let ground = Ground::new(alloc)?;
-    let place = place_of(alloc, &ground, env, set, turns)?;
-    Ok(response_text(alloc, &place)?)
 }
 
 fn environment(
@@ -269,7 +325,7 @@ fn request_of(alloc: Global, document: ExecutableDocument) -> Made<Option<QueryE
     }
 }
 
-/// The response to a query, its data before its errors.
+/// The response to a request, its data before its errors.
 pub fn response_of<P: Turns>(
     alloc: Global,
     query: &str,

@@ -1,5 +1,5 @@
-//! Responses to queries, under turns that take the first task that waits and under such that take
-//! the last.
+//! Responses to queries and mutations, under turns that take the first task that waits and under
+//! such that take the last.
 use crate::answers::Answers;
 use crate::scenes::{LISTS, response_of};
 use gql_base::{Made, NoMemory};
@@ -71,6 +71,23 @@ const ERRORS: [(&str, &str); 3] = [
         "{ rows { id fail } }",
         "null[{\"message\":\"boom\",\"locations\":[{\"line\":1,\"column\":13}],\"path\":[\"rows\",0,\"fail\"]},{\"message\":\"boom\",\"locations\":[{\"line\":1,\"column\":13}],\"path\":[\"rows\",1,\"fail\"]}]",
     ),
+];
+
+/// Mutations, each with the number of its root keys and its response.
+const MUTATIONS: [(&str, &str); 4] = [
+    (
+        "mutation { red one { id } red one { next { id } } }",
+        "2{\"red\":\"RED\",\"one\":{\"id\":1,\"next\":{\"id\":2}}}[{\"message\":\"beside\",\"locations\":[{\"line\":1,\"column\":16}],\"path\":[\"one\"]},{\"message\":\"beside\",\"locations\":[{\"line\":1,\"column\":37}],\"path\":[\"one\",\"next\"]}]",
+    ),
+    (
+        "mutation { gone: none red }",
+        "2null[{\"message\":\"internal: non-null types require a return value\",\"locations\":[{\"line\":1,\"column\":12}],\"path\":[\"gone\"]}]",
+    ),
+    (
+        "mutation { __typename lost rows { id } }",
+        "1{\"__typename\":\"Query\",\"rows\":[{\"id\":1},{\"id\":2}]}",
+    ),
+    ("mutation { __typename }", "0{\"__typename\":\"Query\"}"),
 ];
 
 /// Fields whose answer isn't of their type, each with the fault that it comes to.
@@ -178,6 +195,17 @@ fn objects_and_lists_have_their_members(rt: HostRuntime) -> Result<(), Fail> {
 fn errors_have_their_paths(rt: HostRuntime) -> Result<(), Fail> {
     assert_eq!(rt; first_wrong(rt.alloc(), &ERRORS, false)?, None);
     assert_eq!(rt; first_wrong(rt.alloc(), &ERRORS, true)?, None);
+    Ok(())
+}
+
+#[test]
+fn mutations_have_their_root_keys(rt: HostRuntime) -> Result<(), Fail> {
+    assert_eq!(rt; first_wrong(rt.alloc(), &MUTATIONS, false)?, None);
+    assert_eq!(rt; first_wrong(rt.alloc(), &MUTATIONS, true)?, None);
+    assert_eq!(rt;
+        starts_of(rt.alloc(), "mutation { one { id } red one { id name } }")?,
+        4
+    );
     Ok(())
 }
 

@@ -23,6 +23,8 @@ mod fit_tests;
 #[cfg(test)]
 mod many_tests;
 #[cfg(test)]
+mod mutation_tests;
+#[cfg(test)]
 mod object_tests;
 #[cfg(test)]
 mod record_tests;

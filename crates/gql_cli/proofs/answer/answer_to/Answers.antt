@@ -1,5 +1,5 @@
 use Rattle.std.proofs.Common.{Some, ap, sym, ◌∙◌}
-use Rattle.gql_cli.proofs.GivesLemmas.{answers_to}
+use Rattle.gql_cli.proofs.GivesLemmas.{response_to}
 use Rattle.gql_cli.specs.Request.{single}
 use Rattle.gql_engine.specs.Progress.{seen}
 use Rattle.gql_exec.specs.declared.dynamic_request.DynamicRequest.{DynamicRequest}
@@ -7,12 +7,11 @@ use Rattle.gql_cli.proofs.answer.answer_to.Goals as goal
 
 pub returns : goal.returns
 returns g c =
-    answers_to g.S.ResolverSet c.args.bench (seen c.args.set.now c.new-turns.result) (seen c.answer_over.new.set c.answer_over.new.turns)
+    response_to g.S.ResolverSet c.args.bench (seen c.args.set.now c.new-turns.result) (seen c.response_over.new.set c.response_over.new.turns)
     record {
       lawful = c.requires.set.lawful;
       paced = c.requires.set.paced;
-      answers = c.requires.set.answers;
-      delays = c.requires.set.delays;
+      serves = c.requires.set.serves;
       untold = c.requires.set.untold;
       world = c.requires.world;
       turns = c.new-turns.ensures;
@@ -26,4 +25,4 @@ returns g c =
         ap (λ (r : DynamicRequest _). r.root_value) c.root_value-request.ensures,
       );
     }
-    c.answer_over.result c.answer_over.ensures
+    c.in_ok-response.response c.in_ok-response.ensures
