@@ -4,4 +4,5 @@ pub mod DataLemmas
 pub mod NestLemmas
 pub mod BatchLemmas
 pub mod ResponseLemmas
+pub mod HeaderLemmas
 pub mod SendLemmas
