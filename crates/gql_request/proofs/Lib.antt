@@ -5,4 +5,5 @@ pub mod NestLemmas
 pub mod BatchLemmas
 pub mod ResponseLemmas
 pub mod HeaderLemmas
+pub mod HeaderRows
 pub mod SendLemmas

@@ -1,7 +1,7 @@
 -- A field of a name is found beneath another exactly where one stands in its set.
 use Rattle.std.proofs.Common.{◌≡◌, ℕ, zero, suc, ◌+◌, ◌<◌, ◌⊎◌, ◌↔◌, inl, inr, Bool, true, false, cond, List, [], ◌∷◌, ◌++◌, length, map, filter, Option, Some, None, refl, ap, sym, subst, ◌∙◌, arith}
 use Rattle.std.proofs.lemmas.List.{append-nil, map-append, length-append}
-use Rattle.std.proofs.lemmas.Grind.{filter-append}
+use Rattle.std.proofs.lemmas.List.Elements.{filter-append}
 use Rattle.std.specs.Cmp.Lexicographic.{bytes_decides}
 use Rattle.std.specs.List.{Contains, flat_map}
 use Rattle.std.specs.Option.{option_map}
@@ -11,6 +11,7 @@ use Rattle.gql_base.specs.Pairs.{under}
 use Rattle.gql_doc.specs.Depth.{Fragments, deep_from, fragment_set, selections_of, set_beneath, set_under}
 use Rattle.gql_doc.specs.declared.document.Field.{Field, out-Field}
 use Rattle.gql_doc.specs.declared.document.FragmentDefinition.{FragmentDefinition}
+use Rattle.gql_doc.specs.declared.document.FragmentSpread.{FragmentSpread}
 use Rattle.gql_doc.specs.declared.document.InlineFragment.{InlineFragment, out-InlineFragment}
 use Rattle.gql_doc.specs.declared.document.Positioned.{Positioned}
 use Rattle.gql_doc.specs.declared.document.Selection.{Selection, out-Selection}
@@ -20,7 +21,7 @@ use Rattle.gql_doc.proofs.DepthLaws.{first_at}
 use Rattle.gql_request.specs.QueryEnv.{NestsIn, levels_of}
 use Rattle.gql_request.specs.declared.query_env.QueryEnv.{QueryEnv}
 use Rattle.gql_select.specs.Collected.{collect_within, fields_of, fields_of_spread, fields_under}
-use Rattle.gql_resolve.specs.Beneath.{Seen, Stands, fields_beneath, fields_within, in_query, name_of, named, selections_in, setting_of}
+use Rattle.gql_resolve.specs.Beneath.{Seen, Stands, as_field, by_spread, fields_beneath, fields_within, in_place, in_query, name_of, named, selections_in, setting_of}
 use Rattle.gql_resolve.specs.Nesting.{RestNests}
 use Rattle.gql_resolve.proofs.NestingLemmas.{set_nests}
 use Rattle.gql_resolve.proofs.StepLemmas.{inline_fields}
@@ -58,37 +59,41 @@ module _ (env : QueryEnv) (name : List ℕ) where
       by true is h = is refl
       by false is h = absurd (omega arith)
 
-  found_stands : (left : ℕ) (selections : List (Positioned Selection)) → 0 < length (named name (fields_within env left selections))
-      → Stands env.fragments name selections
-  found_stands zero selections some = absurd (omega arith)
-  found_stands (suc left) selections some = each selections (λ s c. c) some
-    where
-      first : (selection : Positioned Selection) → Contains selections selection → (o : Selection-F Selection Field InlineFragment SelectionSet)
-          → out-Selection selection.node ≡ o → 0 < length (hits (here left o)) → Stands env.fragments name selections
-      first selection stands (Selection-F.Field field) is h = Stands.as_field selections selection field stands is (hit_is field h)
-      first selection stands (Selection-F.InlineFragment fragment) is h =
-          Stands.in_place selections selection fragment stands is
-          (found_stands left (selections_of (out-InlineFragment fragment.node).selection_set)
-          (subst (λ (fs : List (Positioned Field)). 0 < length (hits fs))
-          (inline_fields env left (out-InlineFragment fragment.node).type_condition (selections_of (out-InlineFragment fragment.node).selection_set)) h))
-      first selection stands (Selection-F.FragmentSpread spread) is h = known (under spread.node.fragment_name.node env.fragments) refl h
-        where
-          known : (o : Option (Positioned FragmentDefinition)) → under spread.node.fragment_name.node env.fragments ≡ o
-              → 0 < length (hits (fields_of_spread (setting_of env) [] (collect_within (setting_of env) left []) o)) → Stands env.fragments name selections
-          known None found h = absurd (omega arith)
-          known (Some fragment) found h =
-              Stands.by_spread selections selection spread fragment stands is found (found_stands left (selections_of (fragment_set fragment)) h)
+  -- what is to be shown of the sets one level deeper
+  abbrev Finds : ℕ → Type 0
+  Finds left = (selections : List (Positioned Selection)) → 0 < length (named name (fields_within env left selections)) → Stands env.fragments name selections
 
-      each : (xs : List (Positioned Selection)) → ((s : Positioned Selection) → Contains xs s → Contains selections s) → 0 < length (hits (all left xs))
-          → Stands env.fragments name selections
-      each [] stand h = absurd (omega arith)
-      each (x ∷ xs) stand h =
-          let both = one_of_both (hits (here left (out-Selection x.node))) (hits (all left xs))
-          (subst (λ (ys : List Seen). 0 < length ys) (hits_both (here left (out-Selection x.node)) (all left xs)) h) in
-          elim both [
-            | inl now ↦ first x (stand x (zero, omega arith, refl)) (out-Selection x.node) refl now
-            | inr later ↦ each xs (λ s c. stand s (suc c.0, omega (arith, c.1), c.2)) later
-          ]
+  module _ (left : ℕ) (deeper : Finds left) (whole : List (Positioned Selection)) (selection : Positioned Selection) (stands : Contains whole selection) where
+    by_known : (spread : Positioned FragmentSpread) → out-Selection selection.node ≡ Selection-F.FragmentSpread spread → (o : Option (Positioned FragmentDefinition))
+        → under spread.node.fragment_name.node env.fragments ≡ o
+        → 0 < length (hits (fields_of_spread (setting_of env) [] (collect_within (setting_of env) left []) o)) → Stands env.fragments name whole
+    by_known spread is None found h = absurd (omega arith)
+    by_known spread is (Some fragment) found h = by_spread whole selection spread fragment stands is found (deeper (selections_of (fragment_set fragment)) h)
+
+    by_layer : (o : Selection-F Selection Field InlineFragment SelectionSet) → out-Selection selection.node ≡ o → 0 < length (hits (here left o))
+        → Stands env.fragments name whole
+    by_layer (Selection-F.Field field) is h = as_field whole selection field stands is (hit_is field h)
+    by_layer (Selection-F.InlineFragment fragment) is h =
+        in_place whole selection fragment stands is
+        (deeper (selections_of (out-InlineFragment fragment.node).selection_set)
+        (subst (λ (fs : List (Positioned Field)). 0 < length (hits fs))
+        (inline_fields env left (out-InlineFragment fragment.node).type_condition (selections_of (out-InlineFragment fragment.node).selection_set)) h))
+    by_layer (Selection-F.FragmentSpread spread) is h = by_known spread is (under spread.node.fragment_name.node env.fragments) refl h
+
+  by_selections : (left : ℕ) → Finds left → (whole xs : List (Positioned Selection)) → ((s : Positioned Selection) → Contains xs s → Contains whole s)
+      → 0 < length (hits (all left xs)) → Stands env.fragments name whole
+  by_selections left deeper whole [] stand h = absurd (omega arith)
+  by_selections left deeper whole (x ∷ xs) stand h =
+      let both = one_of_both (hits (here left (out-Selection x.node))) (hits (all left xs))
+      (subst (λ (ys : List Seen). 0 < length ys) (hits_both (here left (out-Selection x.node)) (all left xs)) h) in
+      elim both [
+        | inl now ↦ by_layer left deeper whole x (stand x (zero, omega arith, refl)) (out-Selection x.node) refl now
+        | inr later ↦ by_selections left deeper whole xs (λ s c. stand s (suc c.0, omega (arith, c.1), c.2)) later
+      ]
+
+  found_stands : (left : ℕ) → Finds left
+  found_stands zero = λ selections some. absurd (omega arith)
+  found_stands (suc left) = λ selections some. by_selections left (found_stands left) selections selections (λ s c. c) some
 
   -- what a selection among others stands for
   one_stands : (left : ℕ) (selections : List (Positioned Selection)) (selection : Positioned Selection) → Contains selections selection
@@ -115,17 +120,17 @@ module _ (env : QueryEnv) (name : List ℕ) where
 
   stands_found : (selections : List (Positioned Selection)) → Stands env.fragments name selections → (left : ℕ) → RestNests env.fragments left selections
       → 0 < length (named name (fields_within env left selections))
-  stands_found selections stands zero nests = absurd nests
-  stands_found selections (Stands.as_field _ selection field stands is same) (suc left) nests =
+  stands_found selections stands zero nests = cc
+  stands_found selections (as_field _ selection field stands is same) (suc left) nests =
       one_stands left selections selection stands
       (subst (λ o. 0 < length (hits (here left o))) (sym is) (one_hit field same))
-  stands_found selections (Stands.in_place _ selection fragment stands is inner) (suc left) nests =
+  stands_found selections (in_place _ selection fragment stands is inner) (suc left) nests =
       let set = (out-InlineFragment fragment.node).selection_set in
       let found = stands_found (selections_of set) inner left (led_nests left selections selection set nests stands (ap (set_under env.fragments) is)) in
       one_stands left selections selection stands
       (subst (λ o. 0 < length (hits (here left o))) (sym is)
       (subst (λ (fs : List (Positioned Field)). 0 < length (hits fs)) (sym (inline_fields env left (out-InlineFragment fragment.node).type_condition (selections_of set))) found))
-  stands_found selections (Stands.by_spread _ selection spread fragment stands is known inner) (suc left) nests =
+  stands_found selections (by_spread _ selection spread fragment stands is known inner) (suc left) nests =
       let set = fragment_set fragment in
       let leads : set_beneath env.fragments selection ≡ Some set = ap (set_under env.fragments) is ∙ ap (option_map fragment_set) known in
       let found = stands_found (selections_of set) inner left (led_nests left selections selection set nests stands leads) in

@@ -5,3 +5,6 @@ pub mod StepLemmas
 pub mod OpenLemmas
 pub mod BeneathLaws
 pub mod GuardLemmas
+pub mod SelectionSendLemmas
+pub mod ReadingLemmas
+pub mod NamedLemmas

@@ -32,29 +32,29 @@ set_nests fragments zero set none = cc
 set_nests fragments (suc left) set none = none
 
 -- that what stands beneath a selection nests within one level less
-abbrev Beneath : Fragments → ℕ → Positioned Selection → Type 0
-Beneath fragments left selection = option_and_then (deep_from fragments (left - 1)) (set_beneath fragments selection) ≡ None
+abbrev pub FirstNests : Fragments → ℕ → Positioned Selection → Type 0
+FirstNests fragments left selection = option_and_then (deep_from fragments (left - 1)) (set_beneath fragments selection) ≡ None
 
 module _ (fragments : Fragments) (left : ℕ) (first : Positioned Selection) (rest : List (Positioned Selection)) (nests : RestNests fragments left (first ∷ rest)) where
   pub rest_nests : RestNests fragments left rest
   rest_nests = by left nests
     where
       by : (n : ℕ) → RestNests fragments n (first ∷ rest) → RestNests fragments n rest
-      by zero none = absurd none
+      by zero none = cc
       by (suc n) none = none_second _ _ none
 
   pub some_levels : 0 < left
   some_levels = by left nests
     where
       by : (n : ℕ) → RestNests fragments n (first ∷ rest) → 0 < n
-      by zero none = absurd none
+      by zero none = cc
       by (suc n) none = omega arith
 
-  pub first_nests : Beneath fragments left first
+  pub first_nests : FirstNests fragments left first
   first_nests = by left nests
     where
       by : (n : ℕ) → RestNests fragments n (first ∷ rest) → option_and_then (deep_from fragments (n - 1)) (set_beneath fragments first) ≡ None
-      by zero none = absurd none
+      by zero none = cc
       by (suc n) none = none_first _ _ none
 
   pub inline_nests : (fragment : Positioned InlineFragment) → out-Selection first.node ≡ Selection-F.InlineFragment fragment
@@ -73,7 +73,7 @@ module _ (fragments : Fragments) (left : ℕ) (first : Positioned Selection) (re
     where
       by : (n : ℕ) → RestNests fragments n (first ∷ rest) → (xs : List (Positioned Selection)) → selections_of (field_set field) ≡ xs
           → deep_from fragments n (field_set field) ≡ None
-      by zero none xs same = absurd none
+      by zero none xs same = cc
       by (suc n) none [] same = subst (λ xs. first_in (λ x. option_and_then (deep_from fragments n) (set_beneath fragments x)) xs ≡ None) (sym same) refl
       by (suc n) none (x ∷ xs) same =
           let leads : set_beneath fragments first ≡ Some (field_set field) = ap (set_under fragments) is ∙ ap (λ ys. if_any ys (field_set field)) same in

@@ -54,13 +54,13 @@ inline_fields env left None selections = refl
 inline_fields env left (Some condition) selections = refl
 
 -- what is left of an open set, by its parts
-within_is : (open : OpenSet) (env : QueryEnv) (left : ℕ) (selections : List (Positioned Selection)) → open.env.now ≡ env → open.left ≡ left → open.selections.now ≡ selections
-    → within open ≡ fields_within env left selections
-within_is open env left selections e l s = λ i. fields_within (e i) (l i) (s i)
+within_is : (opened : OpenSet) (env : QueryEnv) (left : ℕ) (selections : List (Positioned Selection)) → opened.env.now ≡ env → opened.left ≡ left → opened.selections.now ≡ selections
+    → within opened ≡ fields_within env left selections
+within_is opened env left selections e l s = λ i. fields_within (e i) (l i) (s i)
 
-steps_is : (open : OpenSet) (env : QueryEnv) (left : ℕ) (selections : List (Positioned Selection)) → open.env.now ≡ env → open.left ≡ left → open.selections.now ≡ selections
-    → steps_left open ≡ steps_within env.fragments left selections
-steps_is open env left selections e l s = λ i. steps_within (e i).fragments (l i) (s i)
+steps_is : (opened : OpenSet) (env : QueryEnv) (left : ℕ) (selections : List (Positioned Selection)) → opened.env.now ≡ env → opened.left ≡ left → opened.selections.now ≡ selections
+    → steps_left opened ≡ steps_within env.fragments left selections
+steps_is opened env left selections e l s = λ i. steps_within (e i).fragments (l i) (s i)
 
 module _ (env : QueryEnv) (left : ℕ) (first : Positioned Selection) (rest : List (Positioned Selection)) (nests : RestNests env.fragments left (first ∷ rest))
     (behind : OpenSet) (of_env : behind.env.now ≡ env) (of_left : behind.left ≡ left) (of_rest : behind.selections.now ≡ rest) where
@@ -70,7 +70,7 @@ module _ (env : QueryEnv) (left : ℕ) (first : Positioned Selection) (rest : Li
   given_first field found is named asked = by left nests ∙ (λ i. record { field = named (~ i); env = asked (~ i) } ∷ within_is behind env left rest of_env of_left of_rest (~ i))
     where
       by : (n : ℕ) → RestNests env.fragments n (first ∷ rest) → fields_within env n (first ∷ rest) ≡ in_query env field ∷ fields_within env n rest
-      by zero none = absurd none
+      by zero none = cc
       by (suc n) none = more_fields env n first rest (field ∷ []) (ap (fields_here env n) is)
 
   entered : (inner : OpenSet) (selections : List (Positioned Selection)) → inner.env.now ≡ env → inner.left ≡ left - 1 → inner.selections.now ≡ selections
@@ -85,12 +85,12 @@ module _ (env : QueryEnv) (left : ℕ) (first : Positioned Selection) (rest : Li
     where
       all_fields : (n : ℕ) → RestNests env.fragments n (first ∷ rest)
           → fields_within env n (first ∷ rest) ≡ fields_within env (n - 1) selections ++ fields_within env n rest
-      all_fields zero none = absurd none
+      all_fields zero none = cc
       all_fields (suc n) none = more_fields env n first rest (collect_within (setting_of env) n [] selections) (fields n)
 
       all_steps : (n : ℕ) → RestNests env.fragments n (first ∷ rest)
           → length (steps_within env.fragments (n - 1) selections) + length (steps_within env.fragments n rest) < length (steps_within env.fragments n (first ∷ rest))
-      all_steps zero none = absurd none
+      all_steps zero none = cc
       all_steps (suc n) none = more_steps env n first rest (steps_within env.fragments n selections) (steps n)
 
   -- a fragment in place comes first
@@ -120,12 +120,12 @@ module _ (env : QueryEnv) (left : ℕ) (first : Positioned Selection) (rest : Li
   }
     where
       all_fields : (n : ℕ) → RestNests env.fragments n (first ∷ rest) → fields_within env n (first ∷ rest) ≡ fields_within env n rest
-      all_fields zero nothing = absurd nothing
+      all_fields zero nothing = cc
       all_fields (suc n) nothing = more_fields env n first rest []
           (ap (fields_here env n) is ∙ ap (fields_of_spread (setting_of env) [] (collect_within (setting_of env) n [])) none)
 
       all_steps : (n : ℕ) → RestNests env.fragments n (first ∷ rest)
           → length (steps_within env.fragments n rest) < length (steps_within env.fragments n (first ∷ rest))
-      all_steps zero nothing = absurd nothing
+      all_steps zero nothing = cc
       all_steps (suc n) nothing = more_steps env n first rest []
           (ap (steps_here env n) is ∙ ap (steps_of_spread env.fragments (steps_within env.fragments n)) none)

@@ -21,12 +21,12 @@ use Rattle.gql_resolve.specs.declared.stepping.Step.TheVariants as step
 
 -- the fields that are left of an open set
 abbrev pub within : OpenSet → List Seen
-within open = fields_within open.env.now open.left open.selections.now
+within opened = fields_within opened.env.now opened.left opened.selections.now
 
 -- what is left of all open sets, the innermost first
 abbrev pub all_open : {X : Type 0} → (OpenSet → List X) → List OpenSet → List X
 all_open f [] = []
-all_open f (open ∷ inner) = all_open f inner ++ f open
+all_open f (opened ∷ inner) = all_open f inner ++ f opened
 
 module _ (fragments : Fragments) (deeper : List (Positioned Selection) → List (Unit {0})) where
   abbrev pub steps_of_spread : Option (Positioned FragmentDefinition) → List (Unit {0})
@@ -49,7 +49,7 @@ steps_within fragments (suc left) selections =
     ++ tt ∷ []
 
 abbrev pub steps_left : OpenSet → List (Unit {0})
-steps_left open = steps_within open.env.now.fragments open.left open.selections.now
+steps_left opened = steps_within opened.env.now.fragments opened.left opened.selections.now
 
 -- that a set is to be gone through first, and then these selections
 pub record Enters (env : QueryEnv) (left : ℕ) (selections : List (Positioned Selection))

@@ -5,4 +5,4 @@ use Rattle.gql_resolve.specs.OpenSets.{all_open, within}
 use Rattle.gql_resolve.specs.declared.selection_fields_iter.SelectionFieldsIter.{SelectionFieldsIter}
 
 abbrev pub fields_left : SelectionFieldsIter → List Seen
-fields_left fields = all_open within fields.open
+fields_left fields = all_open within fields.sets

@@ -29,7 +29,7 @@ pub trait GuardExt<V>: Guard<V> + Sized {
     /// The guard that passes exactly where both pass, and else has the error of the first that
     /// fails.
     final fn and<R: Guard<V>>(self, other: R) -> And<Self, R>
-        ensures { result ≡ And self other }
+        ensures { (result.0 ≡ self) × (result.1 ≡ other) }
     {
         And(self, other)
     }
@@ -37,7 +37,7 @@ pub trait GuardExt<V>: Guard<V> + Sized {
     /// The guard that passes exactly where one of both passes, and else has the error of the other
     /// guard.
     final fn or<R: Guard<V>>(self, other: R) -> Or<Self, R>
-        ensures { result ≡ Or self other }
+        ensures { (result.0 ≡ self) × (result.1 ≡ other) }
     {
         Or(self, other)
     }

@@ -1,4 +1,5 @@
 ghost use Rattle.std.specs.Prelude.{◌≡◌, ◌<◌, ◌≤◌, ◌-◌, None};
+ghost use Rattle.std.proofs.Props.{props};
 ghost use Rattle.gql_doc.specs.Depth.{deep_from, selections_of};
 ghost use Rattle.gql_request.specs.QueryEnv.{NestsIn, levels_of};
 ghost use Rattle.gql_resolve.specs.Nesting.{RestNests};
@@ -12,7 +13,7 @@ pub(crate) struct OpenSet<'a> {
     pub(crate) env: &'a QueryEnv,
     pub(crate) left: usize,
     pub(crate) selections: &'a [Positioned<Selection>],
-    ghost nests: { RestNests env.now.fragments left selections.now },
+    ghost nests: { RestNests env.now.fragments left selections.now } by { Prim.hlevel props },
     ghost inside: { left ≤ levels_of env.now },
 }
 

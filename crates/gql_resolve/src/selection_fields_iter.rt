@@ -11,7 +11,7 @@ use std::alloc::Global;
 /// and known spreads. No set is copied.
 #[derive(Debug, Drop)]
 pub struct SelectionFieldsIter<'a> {
-    pub(crate) open: Items<OpenSet<'a>>,
+    pub(crate) sets: Items<OpenSet<'a>>,
 }
 
 impl<'a> SelectionFieldsIter<'a> {
@@ -22,9 +22,9 @@ impl<'a> SelectionFieldsIter<'a> {
     pub(crate) fn of(alloc: Global, set: OpenSet<'a>) -> Made<SelectionFieldsIter<'a>>
         ensures { IfOk result (λ fields. fields_left fields ≡ within set.entry) }
     {
-        let mut open = Items::new(alloc);
-        open.push(set)?;
-        Ok(SelectionFieldsIter { open })
+        let mut sets = Items::new(alloc);
+        sets.push(set)?;
+        Ok(SelectionFieldsIter { sets })
     }
 
     /// The next field, or none where all are given. Where memory is wanting, no field is lost.
@@ -33,7 +33,7 @@ impl<'a> SelectionFieldsIter<'a> {
             (λ given. TakesFirst (fields_left self.old) given (fields_left self.new)) }
         ensures err { OnErr result (fields_left self.new ≡ fields_left self.old) }
     {
-        while !self.open.is_empty() {
+        while !self.sets.is_empty() {
             if let Some(field) = self.advance()? {
                 return Ok(Some(field));
             }
@@ -43,26 +43,26 @@ impl<'a> SelectionFieldsIter<'a> {
 
     /// Looks once at what is left of the innermost set.
     fn advance(&mut self) -> Made<Option<SelectionField<'a>>>
-        requires { 0 < length self.old.open }
-        ensures { Advances self.old.open result self.new.open }
+        requires { 0 < length self.old.sets }
+        ensures { Advances self.old.sets result self.new.sets }
     {
-        let place = self.open.len() - 1;
-        match step(self.open.as_slice()[place]) {
+        let place = self.sets.len() - 1;
+        match step(self.sets.as_slice()[place]) {
             Step::Done => {
-                self.open.pop();
+                self.sets.pop();
                 Ok(None)
             }
             Step::Gives(field, rest) => {
-                self.open.set(place, rest);
+                self.sets.set(place, rest);
                 Ok(Some(field))
             }
             Step::Enters(inner, rest) => {
-                self.open.push(inner)?;
-                self.open.set(place, rest);
+                self.sets.push(inner)?;
+                self.sets.set(place, rest);
                 Ok(None)
             }
             Step::Passes(rest) => {
-                self.open.set(place, rest);
+                self.sets.set(place, rest);
                 Ok(None)
             }
         }

@@ -7,4 +7,4 @@ abbrev pub invariant-loop-is_empty : goal.invariant-loop-is_empty
 invariant-loop-is_empty l = fields_left l.self ≡ fields_left l.fn.self
 
 abbrev pub decreases-loop-is_empty : goal.decreases-loop-is_empty
-decreases-loop-is_empty l = length (all_open steps_left l.self.open)
+decreases-loop-is_empty l = length (all_open steps_left l.self.sets)
