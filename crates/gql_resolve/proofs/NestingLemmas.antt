@@ -55,7 +55,7 @@ module _ (fragments : Fragments) (left : ℕ) (first : Positioned Selection) (re
     where
       by : (n : ℕ) → RestNests fragments n (first ∷ rest) → option_and_then (deep_from fragments (n - 1)) (set_beneath fragments first) ≡ None
       by zero none = cc
-      by (suc n) none = none_first _ _ none
+      by (suc n) none = let e : suc n - 1 ≡ n = omega arith in rw e (none_first _ _ none)
 
   pub inline_nests : (fragment : Positioned InlineFragment) → out-Selection first.node ≡ Selection-F.InlineFragment fragment
       → deep_from fragments (left - 1) (out-InlineFragment fragment.node).selection_set ≡ None

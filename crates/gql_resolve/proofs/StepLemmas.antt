@@ -86,12 +86,16 @@ module _ (env : QueryEnv) (left : ℕ) (first : Positioned Selection) (rest : Li
       all_fields : (n : ℕ) → RestNests env.fragments n (first ∷ rest)
           → fields_within env n (first ∷ rest) ≡ fields_within env (n - 1) selections ++ fields_within env n rest
       all_fields zero none = cc
-      all_fields (suc n) none = more_fields env n first rest (collect_within (setting_of env) n [] selections) (fields n)
+      all_fields (suc n) none =
+          let e : suc n - 1 ≡ n = omega arith in
+          rw e (more_fields env n first rest (collect_within (setting_of env) n [] selections) (fields n))
 
       all_steps : (n : ℕ) → RestNests env.fragments n (first ∷ rest)
           → length (steps_within env.fragments (n - 1) selections) + length (steps_within env.fragments n rest) < length (steps_within env.fragments n (first ∷ rest))
       all_steps zero none = cc
-      all_steps (suc n) none = more_steps env n first rest (steps_within env.fragments n selections) (steps n)
+      all_steps (suc n) none =
+          let e : suc n - 1 ≡ n = omega arith in
+          rw e (more_steps env n first rest (steps_within env.fragments n selections) (steps n))
 
   -- a fragment in place comes first
   pub inline_entered : (fragment : Positioned InlineFragment) (inner : OpenSet) → out-Selection first.node ≡ Selection-F.InlineFragment fragment → inner.env.now ≡ env

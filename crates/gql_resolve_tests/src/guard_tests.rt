@@ -10,14 +10,14 @@ use std::test::Fail;
 #[derive(Clone, Copy)]
 struct Passes;
 
-impl<V> Guard<V> for Passes {
+impl Guard<u64> for Passes {
     ghost use Rattle.std.specs.Prelude.{◌≡◌, Ok};
 
     ghost can_check = { λ guard context. Unit {0} };
 
     ghost gives = { λ guard context passed. passed ≡ Ok tt };
 
-    fn check(&self, _alloc: Global, _context: &ResolverContext<'_, V>) -> Made<Result<(), Error>> {
+    fn check(&self, _alloc: Global, _context: &ResolverContext<'_, u64>) -> Made<Result<(), Error>> {
         Ok(Ok(()))
     }
 }
@@ -26,7 +26,7 @@ impl<V> Guard<V> for Passes {
 #[derive(Clone, Copy)]
 struct Fails(&'static str);
 
-impl<V> Guard<V> for Fails {
+impl Guard<u64> for Fails {
     ghost use Rattle.std.specs.Prelude.{◌≡◌, Err};
     ghost use Rattle.gql_base.specs.ErrorExtensions.{bare};
 
@@ -34,7 +34,7 @@ impl<V> Guard<V> for Fails {
 
     ghost gives = { λ guard context passed. passed ≡ Err (bare guard.0.now) };
 
-    fn check(&self, alloc: Global, _context: &ResolverContext<'_, V>) -> Made<Result<(), Error>> {
+    fn check(&self, alloc: Global, _context: &ResolverContext<'_, u64>) -> Made<Result<(), Error>> {
         Ok(Err(Error::new(alloc, self.0)?))
     }
 }
