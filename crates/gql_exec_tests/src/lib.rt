@@ -4,8 +4,6 @@
 #[cfg(test)]
 mod ballot;
 #[cfg(test)]
-mod mutation_tests;
-#[cfg(test)]
 mod request_tests;
 #[cfg(test)]
 mod response_tests;
