@@ -1,6 +1,8 @@
-//! Tests of `gql_resolve`: resolver sets.
+//! Tests of `gql_resolve`: resolver sets, and guards.
 #![tactic(auto)]
 
+#[cfg(test)]
+mod guard_tests;
 #[cfg(test)]
 mod parts;
 #[cfg(test)]
