@@ -1,5 +1,6 @@
 pub mod Admission
 pub mod Bare
+pub mod Batch
 pub mod Builder
 pub mod DynamicRequest
 pub mod Execution

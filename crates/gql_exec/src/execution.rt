@@ -41,6 +41,7 @@ impl Schema {
             (asks self.now request.now) want.roots) }
         ensures rules { R.rules resolvers.new ≡ R.rules resolvers.old }
         ensures lawful { R.is_lawful resolvers.old → R.is_lawful resolvers.new }
+        ensures paced { R.is_paced resolvers.old → R.is_paced resolvers.new }
         ensures starts { is_schema_only self.now request.now.inner ≡ true
             → R.is_lawful resolvers.old → ForSome (P.state turns.old) (λ s. OnOk result
             (StartsNone R.ResolverSet resolvers.old resolvers.new)) }
@@ -69,6 +70,7 @@ impl Schema {
             (asks self.now request.now) want.roots) }
         ensures rules { R.rules resolvers.new ≡ R.rules resolvers.old }
         ensures lawful { R.is_lawful resolvers.old → R.is_lawful resolvers.new }
+        ensures paced { R.is_paced resolvers.old → R.is_paced resolvers.new }
     {
         let mut steps: Steps<S> = Steps::new(blank);
         self.execute_counted(alloc, resolvers, hooks, request, turns, &mut steps)
@@ -91,6 +93,7 @@ impl Schema {
             (asks self.now request.now) want.roots) }
         ensures rules { R.rules resolvers.new ≡ R.rules resolvers.old }
         ensures lawful { R.is_lawful resolvers.old → R.is_lawful resolvers.new }
+        ensures paced { R.is_paced resolvers.old → R.is_paced resolvers.new }
         ensures counted { IsCounted (R.begun resolvers.old) (R.begun resolvers.new)
             steps.old steps.new }
     {
@@ -163,6 +166,7 @@ fn respond<R: ResolverSet, P: Turns, S: Ledger>(
         want.roots) }
     ensures rules { R.rules resolvers.new ≡ R.rules resolvers.old }
     ensures lawful { R.is_lawful resolvers.old → R.is_lawful resolvers.new }
+    ensures paced { R.is_paced resolvers.old → R.is_paced resolvers.new }
     ensures counted { IsCounted (R.begun resolvers.old) (R.begun resolvers.new)
         steps.old steps.new }
 {
@@ -190,6 +194,7 @@ fn respond_at_once<R: ResolverSet, P: Turns, S: Ledger>(
         want.roots) }
     ensures rules { R.rules resolvers.new ≡ R.rules resolvers.old }
     ensures lawful { R.is_lawful resolvers.old → R.is_lawful resolvers.new }
+    ensures paced { R.is_paced resolvers.old → R.is_paced resolvers.new }
     ensures counted { IsCounted (R.begun resolvers.old) (R.begun resolvers.new)
         steps.old steps.new }
 {
@@ -217,6 +222,7 @@ fn respond_in_turn<R: ResolverSet, P: Turns, S: Ledger>(
         want.roots) }
     ensures rules { R.rules resolvers.new ≡ R.rules resolvers.old }
     ensures lawful { R.is_lawful resolvers.old → R.is_lawful resolvers.new }
+    ensures paced { R.is_paced resolvers.old → R.is_paced resolvers.new }
     ensures counted { IsCounted (R.begun resolvers.old) (R.begun resolvers.new)
         steps.old steps.new }
 {

@@ -2,6 +2,7 @@
 //! and its data, the builder that makes one, and the execution of requests over it.
 #![tactic(auto)]
 
+mod batch;
 mod builder;
 mod dynamic_request;
 mod execution;
@@ -12,6 +13,7 @@ mod schema;
 mod settings;
 mod shared;
 
+pub use batch::BatchNoMemory;
 pub use builder::SchemaBuilder;
 pub use dynamic_request::{DynamicRequest, DynamicRequestExt};
 pub use place_response::response_at;

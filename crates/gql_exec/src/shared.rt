@@ -1,7 +1,11 @@
 //! Schemas and requests can be moved to threads and shared between them.
-use crate::{Schema, SchemaBuilder, Settings};
+use crate::{BatchNoMemory, Schema, SchemaBuilder, Settings};
 
 fn shared<T: Send + Sync>() {}
+
+fn of_want() {
+    shared::<BatchNoMemory>();
+}
 
 fn of_settings() {
     shared::<Settings>();

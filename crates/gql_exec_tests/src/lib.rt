@@ -4,6 +4,8 @@
 #[cfg(test)]
 mod ballot;
 #[cfg(test)]
+mod batch_tests;
+#[cfg(test)]
 mod request_tests;
 #[cfg(test)]
 mod response_tests;

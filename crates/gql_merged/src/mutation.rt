@@ -49,6 +49,7 @@ pub fn run_mutation_counted<R: ResolverSet, H: Rounds, P: Turns, S: Ledger>(
     ensures count { IfOk result (λ run. run.1 ≡ length (key_work scene.now).first) }
     ensures rules { R.rules resolvers.new ≡ R.rules resolvers.old }
     ensures lawful { R.is_lawful resolvers.old → R.is_lawful resolvers.new }
+    ensures paced { R.is_paced resolvers.old → R.is_paced resolvers.new }
     ensures world { R.is_lawful resolvers.old → H.are_quiet hooks.old → OnOk result
         (R.world resolvers.new ≡ last_world_of scene.now (R.effect (R.rules resolvers.old))
         (R.world resolvers.old)) }

@@ -52,6 +52,7 @@ pub fn run_merged<R: ResolverSet, P: Turns>(
         ≡ merged_response scene.now (due_by R.ResolverSet resolvers.old) n) }
     ensures rules { R.rules resolvers.new ≡ R.rules resolvers.old }
     ensures lawful { R.is_lawful resolvers.old → R.is_lawful resolvers.new }
+    ensures paced { R.is_paced resolvers.old → R.is_paced resolvers.new }
     ensures world { R.is_lawful resolvers.old → R.world resolvers.new ≡ R.world resolvers.old }
     ensures record { R.is_lawful resolvers.old → OnOk result
         (RunsWhole R.ResolverSet P.Turns (merged_work scene.now)
@@ -82,6 +83,7 @@ fn run_on_blank<R: ResolverSet, P: Turns, S: Ledger>(
         ≡ merged_response scene.now (due_by R.ResolverSet resolvers.old) n) }
     ensures rules { R.rules resolvers.new ≡ R.rules resolvers.old }
     ensures lawful { R.is_lawful resolvers.old → R.is_lawful resolvers.new }
+    ensures paced { R.is_paced resolvers.old → R.is_paced resolvers.new }
     ensures world { R.is_lawful resolvers.old → R.world resolvers.new ≡ R.world resolvers.old }
     ensures record { R.is_lawful resolvers.old → OnOk result
         (RunsWhole R.ResolverSet P.Turns (merged_work scene.now)
@@ -111,6 +113,7 @@ pub fn run_merged_counted<R: ResolverSet, H: Rounds, P: Turns, S: Ledger>(
         ≡ merged_response scene.now (due_by R.ResolverSet resolvers.old) n) }
     ensures rules { R.rules resolvers.new ≡ R.rules resolvers.old }
     ensures lawful { R.is_lawful resolvers.old → R.is_lawful resolvers.new }
+    ensures paced { R.is_paced resolvers.old → R.is_paced resolvers.new }
     ensures world { R.is_lawful resolvers.old → R.world resolvers.new ≡ R.world resolvers.old }
     ensures quiet { H.are_quiet hooks.old → H.are_quiet hooks.new }
     ensures record { R.is_lawful resolvers.old → H.are_quiet hooks.old → OnOk result

@@ -1,0 +1,48 @@
+-- The execution of a batch of requests over a schema: one after another over one world, each by
+-- itself as a request alone (GraphQL, October 2021, section 6).
+use Rattle.std.specs.Prelude.{◌≡◌, ◌≤◌, ℕ, List, [], ◌∷◌, Option, Some, None, length, slice_get}
+use Rattle.std.specs.Prelude.{take}
+use Rattle.gql_engine.specs.Progress.{Seen}
+use Rattle.gql_exec.specs.Execution.{asks, Executes, Stops}
+use Rattle.gql_exec.specs.declared.dynamic_request.DynamicRequest.{DynamicRequest}
+use Rattle.gql_exec.specs.declared.schema.Schema.{Schema}
+use Rattle.gql_request.specs.declared.response.Response.{Response}
+use Rattle.gql_resolve.specs.declared.resolver_set.ResolverSet.{Ghosts as Resolving}
+use Rattle.gql_resolve.specs.declared.turns.Turns.{Ghosts as Choosing}
+
+module _ {R Own World Future P : Type 0} (set : Resolving R Own World Future)
+    (turns : Choosing P) (schema : Schema) where
+  -- a request of a batch is executed between two moments; whatever comes of it, the set keeps its
+  -- rules, and is lawful and paced still
+  pub record ExecutesOne (request : DynamicRequest Own) (response : Response)
+      (old new : Seen R P) : Type 0 where
+    pub executed : Executes set turns old new (asks schema request) response
+    pub rules : set.rules new.set ≡ set.rules old.set
+    pub lawful : set.is_lawful old.set → set.is_lawful new.set
+    pub paced : set.is_paced old.set → set.is_paced new.set
+
+  -- requests and their responses, one for each in its order: every request is executed from the
+  -- moment that the one before it left, and nothing is done but that
+  abbrev pub ExecutesAll : List (DynamicRequest Own) → List Response → Seen R P → Seen R P → Type 0
+  ExecutesAll [] [] old new = new ≡ old
+  ExecutesAll [] (response ∷ responses) old new = ⊥
+  ExecutesAll (request ∷ requests) [] old new = ⊥
+  ExecutesAll (request ∷ requests) (response ∷ responses) old new =
+      (next : Seen R P) × ExecutesOne request response old next
+      × ExecutesAll requests responses next new
+
+  -- what became of the next request where memory was wanting, with so many root keys of a mutation
+  -- behind their effects; behind the last request nothing more was done
+  abbrev pub StopsAt : Option (DynamicRequest Own) → ℕ → Seen R P → Seen R P → Type 0
+  StopsAt None roots old new = (new ≡ old) × (roots ≡ 0)
+  StopsAt (Some request) roots old new = Stops set turns old new (asks schema request) roots
+
+  -- a batch that ended for want of memory: so many of its requests were executed whole, from the
+  -- first one on, and the next one ended so
+  pub record StopsAfter (requests : List (DynamicRequest Own)) (done roots : ℕ)
+      (old new : Seen R P) : Type 0 where
+    pub within : done ≤ length requests
+    pub responses : List Response
+    pub between : Seen R P
+    pub whole : ExecutesAll (take done requests) responses old between
+    pub next : StopsAt (slice_get requests done) roots between new

@@ -1,0 +1,80 @@
+//! The execution of batches: requests one after another over one world.
+ghost use Rattle.std.specs.Prelude.{◌≡◌, length, IfErr, IfOk};
+ghost use Rattle.gql_engine.specs.Progress.{seen};
+ghost use Rattle.gql_exec.specs.Batch.{ExecutesAll, StopsAfter};
+
+use crate::dynamic_request::DynamicRequest;
+use crate::schema::Schema;
+use gql_base::Items;
+use gql_request::{Hooks, Response};
+use gql_resolve::{ResolverSet, Turns};
+use std::alloc::{AllocError, Global};
+
+/// The want of memory of a batch.
+#[derive(Clone, Copy, PartialEq, Eq, Debug)]
+pub struct BatchNoMemory {
+    /// The number of requests that were executed whole, from the first one on.
+    pub done: u64,
+    /// Of the next request, the number of root keys of a mutation whose effect stands.
+    pub roots: u64,
+}
+
+/// Where memory is wanting before a batch, nothing is done.
+impl From<AllocError> for BatchNoMemory {
+    ghost use Rattle.std.specs.Prelude.{◌≡◌};
+
+    ghost from_gives = { λ _ made. (made.done ≡ 0) × (made.roots ≡ 0) };
+
+    fn from(_error: AllocError) -> BatchNoMemory {
+        BatchNoMemory { done: 0, roots: 0 }
+    }
+}
+
+impl Schema {
+    /// The responses to requests, which are executed one after another in their order over one
+    /// resolver set: each in the world that those before it left. Where memory is wanting, it is
+    /// known of how many requests the effects stand, and how far the next one came. A request whose
+    /// response finds no room is done, too.
+    #[tactic(auto, using(crate::proofs::BatchLemmas::batch_steps))]
+    pub fn execute_batch<R: ResolverSet, P: Turns>(
+        &self,
+        alloc: Global,
+        resolvers: &mut R,
+        hooks: &mut Hooks,
+        requests: &[DynamicRequest<R::Own>],
+        turns: &mut P,
+    ) -> Result<Items<Response>, BatchNoMemory>
+        ensures executed { IfOk result (λ responses. ExecutesAll R.ResolverSet P.Turns self.now
+            requests.now responses (seen resolvers.old turns.old) (seen resolvers.new turns.new)) }
+        ensures as_many { IfOk result (λ responses. length responses ≡ length requests.now) }
+        ensures stopped { IfErr result (λ want. StopsAfter R.ResolverSet P.Turns self.now
+            requests.now want.done want.roots (seen resolvers.old turns.old)
+            (seen resolvers.new turns.new)) }
+        ensures rules { R.rules resolvers.new ≡ R.rules resolvers.old }
+        ensures lawful { R.is_lawful resolvers.old → R.is_lawful resolvers.new }
+        ensures paced { R.is_paced resolvers.old → R.is_paced resolvers.new }
+    {
+        let mut responses = Items::with_capacity(alloc, requests.len())?;
+        for request in requests {
+            let done = responses.len() as u64;
+            match self.execute(alloc, resolvers, hooks, request, turns) {
+                Ok(response) => match responses.push(response) {
+                    Ok(()) => {}
+                    Err(_) => {
+                        return Err(BatchNoMemory {
+                            done: done + 1,
+                            roots: 0,
+                        });
+                    }
+                },
+                Err(want) => {
+                    return Err(BatchNoMemory {
+                        done,
+                        roots: want.roots,
+                    });
+                }
+            }
+        }
+        Ok(responses)
+    }
+}
