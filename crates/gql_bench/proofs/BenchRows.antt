@@ -14,6 +14,7 @@ use Rattle.gql_form.specs.declared.fields.FieldForm.{FieldForm}
 use Rattle.gql_form.specs.declared.rule_form.RuleForm.{RuleForm}
 use Rattle.gql_form.specs.declared.rule_form.RuleForm.TheVariants as forms
 use Rattle.gql_form.specs.declared.schema_form.SchemaForm.{SchemaForm}
+use Rattle.gql_form.specs.declared.session_form.SessionForm.{SessionForm}
 use Rattle.gql_form.specs.declared.setup_form.HooksForm.TheVariants as hooks
 use Rattle.gql_form.specs.declared.type_form.TypeForm.{TypeForm}
 use Rattle.gql_form.specs.declared.type_form.TypeForm.TheVariants as types
@@ -124,8 +125,11 @@ module _ (request : Request) where
   a_subscription_is_not_built : is_built_form (bench_for (work.One request) three_types) ≡ false
   a_subscription_is_not_built = refl
 
-a_batch_is_not_built : (batch : BatchRequest) → is_built_form (bench_for (work.Batch batch) (one_field forms.None)) ≡ false
-a_batch_is_not_built batch = refl
+a_batch_is_built : (batch : BatchRequest) → is_built_form (bench_for (work.Batch batch) (one_field forms.None)) ≡ true
+a_batch_is_built batch = search (rules, answered_lemmas)
+
+a_session_is_not_built : (session : SessionForm) → is_built_form (bench_for (work.Session session) (one_field forms.None)) ≡ false
+a_session_is_not_built session = refl
 
 -- {"kind":"object","name":"U","key":"a","fields":[{"name":"a","type":"Int","answer":{"member":"a"}}]}
 abbrev keyed : TypeForm

@@ -37,15 +37,16 @@ is_bump _ = false
 abbrev pub bumps : Rule → Bool
 bumps rule = is_bump rule.kind
 
--- one request, neither a batch of them nor a session
-abbrev pub is_request : WorkForm → Bool
-is_request (work.One request) = true
-is_request _ = false
+-- a request or a batch of them, and no session
+abbrev pub has_requests : WorkForm → Bool
+has_requests (work.One request) = true
+has_requests (work.Batch requests) = true
+has_requests (work.Session session) = false
 
 -- a bench with none of these forms
 abbrev pub is_built_form : BenchForm → Bool
 is_built_form form =
-    (not (is_logged form.setup.hooks) && is_request form.work)
+    (not (is_logged form.setup.hooks) && has_requests form.work)
     && not (has_subscription form.setup.schema)
 
 -- whether a bench was made of such a form

@@ -1,8 +1,8 @@
 //! Which benches are built.
 ghost use Rattle.std.specs.Prelude.{◌≡◌, ◌&&◌, not, is_some};
 ghost use Rattle.std.specs.List.{list_any};
-ghost use Rattle.gql_bench.specs.Built.{bumps, has_subscription, is_built_form, is_logged};
-ghost use Rattle.gql_bench.specs.Built.{is_request, is_subscription};
+ghost use Rattle.gql_bench.specs.Built.{bumps, has_requests, has_subscription, is_built_form};
+ghost use Rattle.gql_bench.specs.Built.{is_logged, is_subscription};
 
 use crate::rule::{Rule, RuleKind};
 use gql_form::{BenchForm, HooksForm, SchemaForm, TypeForm, WorkForm};
@@ -11,7 +11,7 @@ use gql_form::{BenchForm, HooksForm, SchemaForm, TypeForm, WorkForm};
 pub(crate) fn is_built_form(form: &BenchForm) -> bool
     ensures { result ≡ is_built_form form.now }
 {
-    let command = !is_logged(form.setup.hooks) && is_request(&form.work);
+    let command = !is_logged(form.setup.hooks) && has_requests(&form.work);
     command && !has_subscription(&form.setup.schema)
 }
 
@@ -25,13 +25,13 @@ pub(crate) fn is_logged(hooks: HooksForm) -> bool
     }
 }
 
-/// Whether a command answers one request.
-fn is_request(work: &WorkForm) -> bool
-    ensures { result ≡ is_request work.now }
+/// Whether a command answers requests.
+fn has_requests(work: &WorkForm) -> bool
+    ensures { result ≡ has_requests work.now }
 {
     match work {
-        WorkForm::One(_) => true,
-        WorkForm::Batch(_) | WorkForm::Session(_) => false,
+        WorkForm::One(_) | WorkForm::Batch(_) => true,
+        WorkForm::Session(_) => false,
     }
 }
 

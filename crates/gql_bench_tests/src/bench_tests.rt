@@ -183,6 +183,6 @@ fn which_benches_are_built(rt: HostRuntime) -> Result<(), Fail> {
     assert_eq!(rt; first_wrong(rt.alloc())?, None);
     assert_eq!(rt; is_built(rt.alloc(), Command::Ws, SESSION)?, Some(false));
     let batch = "{\"schema\":{\"query\":\"Q\",\"types\":[]},\"requests\":[{}]}";
-    assert_eq!(rt; is_built(rt.alloc(), Command::Batch, batch)?, Some(false));
+    assert_eq!(rt; is_built(rt.alloc(), Command::Batch, batch)?, Some(true));
     Ok(())
 }

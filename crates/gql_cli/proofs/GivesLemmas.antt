@@ -1,5 +1,5 @@
 -- What a bench gives, from the answer to its request to what its bytes give.
-use Rattle.std.proofs.Common.{◌≡◌, ℕ, ℤ, true, List, [], ◌∷◌, Option, Some, Result, Ok, Err, IfOk, IfSome, MatchOption, inr, ap, sym, ◌∙◌, subst}
+use Rattle.std.proofs.Common.{◌≡◌, ℕ, ℤ, true, List, [], ◌∷◌, Option, Some, Result, Ok, Err, IfOk, IfSome, MatchOption, ap, sym, ◌∙◌, subst}
 use Rattle.serde_json.specs.Data.{Data}
 use Rattle.gql_base.specs.declared.server_error.ServerError.{ServerError}
 use Rattle.gql_bench.specs.Built.{is_built}
@@ -7,27 +7,32 @@ use Rattle.gql_bench.specs.Found.{HasTables}
 use Rattle.gql_bench.specs.contracts.list_turns.ListTurnsTurns.TheImpl.{ghosts}
 use Rattle.gql_bench.specs.declared.bench.Bench.{Bench}
 use Rattle.gql_bench.specs.declared.list_turns.ListTurns.{ListTurns}
-use Rattle.gql_cli.proofs.ExecutionLemmas.{executed, Starts}
+use Rattle.gql_cli.proofs.ExecutionLemmas.{all_executed, Stands}
 use Rattle.gql_cli.proofs.LawLemmas.{if-response}
-use Rattle.gql_cli.specs.Answer.{Asked, IsResponseTo}
+use Rattle.gql_cli.specs.Answer.{IsResponseTo}
 use Rattle.gql_cli.specs.Command.{form_command}
-use Rattle.gql_cli.specs.Gives.{BenchGives, Gives, HoldsTold, IsAnswer, JsonGives, json_of, outcome_for, response_text, WithRecord}
+use Rattle.gql_cli.specs.Execution.{first_of}
+use Rattle.gql_cli.specs.Gives.{BenchGives, errors_in, Gives, HoldsTold, IsAnswer, JsonGives, json_of, outcome_for, response_text, WithRecord}
+use Rattle.gql_cli.specs.Request.{AreAlike, requests_for}
 use Rattle.gql_cli.specs.declared.command.Command.{Command}
 use Rattle.gql_cli.specs.declared.outcome.Outcome.{Outcome}
 use Rattle.gql_cli.specs.declared.outcome.Outcome.TheVariants.{Answered, BadSchema, BadShape, HasErrors, NotBuilt, NotJson, ReadFault, TooLong, Usage}
 use Rattle.gql_engine.specs.Progress.{Seen}
-use Rattle.gql_exec.specs.Execution.{asks, Executes}
-use Rattle.gql_request.specs.declared.response.Response.{Response}
+use Rattle.gql_exec.specs.Batch.{ExecutesAll}
+use Rattle.gql_exec.specs.Builder.{IsSchemaOf}
+use Rattle.gql_exec.specs.declared.schema.Schema.{Schema}
+use Rattle.gql_request.specs.BatchResponse.{responses_of}
+use Rattle.gql_request.specs.declared.batch_response.BatchResponse.{BatchResponse}
 use Rattle.gql_resolve.specs.declared.record_entry.RecordEntry.{RecordEntry}
 use Rattle.gql_resolve.specs.declared.resolver_set.ResolverSet.{Ghosts as Resolving}
 
--- the response to the request of a bench, over a set and turns that were made for the bench
-pub response_to : {S F : Type 0} (set : Resolving S ℤ (List ℤ) F) (bench : Bench) (start new : Seen S ListTurns) → Starts set bench start
-    → (asked : Asked bench) (response : Response) → Executes set ghosts start new (asks asked.schema asked.request) response
-    → IsResponseTo bench (set.told new.set) response
-response_to set bench start new at asked response executes =
-    let (entries, told, is) = executed set bench start new at (asks asked.schema asked.request) response executes in
-    record { asks_for = asked; entries = entries; is_told = told; executed = is }
+-- the response to the requests of a bench, over a set and turns that were made for the bench
+pub response_to : {S F : Type 0} (set : Resolving S ℤ (List ℤ) F) (bench : Bench) (start new : Seen S ListTurns) → Stands set bench [] (first_of bench) start
+    → (schema : Schema) → IsSchemaOf bench.builder schema → (response : BatchResponse) → AreAlike bench.requests response
+    → ExecutesAll set ghosts schema (requests_for bench) (responses_of response) start new → IsResponseTo bench (set.told new.set) response
+response_to set bench start new at schema made response alike executes =
+    let (entries, told, is) = all_executed set bench schema (requests_for bench) (responses_of response) [] (first_of bench) start new at executes in
+    record { schema = schema; is = made; alike = alike; entries = entries; is_told = told; executed = is }
 
 module _ (command : Command) (bench : Bench) where
   -- an answer is given
@@ -40,9 +45,9 @@ module _ (command : Command) (bench : Bench) where
 
   -- a response is given with the record that the set which is held told
   pub response_gives : {S E : Type 0} (told : S → Option (List RecordEntry)) (held : Option S) (set : S) → held ≡ Some set → (shown : List RecordEntry)
-      → MatchOption held (shown ≡ []) (λ s. IfSome (told s) (λ entries. shown ≡ entries)) → is_built bench ≡ true → (response : Response)
+      → MatchOption held (shown ≡ []) (λ s. IfSome (told s) (λ entries. shown ≡ entries)) → is_built bench ≡ true → (response : BatchResponse)
       → IsResponseTo bench (told set) response → (result : Result Outcome E)
-      → IfOk result (λ outcome. outcome ≡ outcome_for response.errors (response_text command shown response))
+      → IfOk result (λ outcome. outcome ≡ outcome_for (errors_in (responses_of response)) (response_text command shown response))
       → IfOk result (WithRecord (BenchGives command bench) (HoldsTold held told))
   response_gives told held set is shown shows built response answered (Err want) made = tt
   response_gives {S} told held set is shown shows built response answered (Ok outcome) made =
@@ -50,8 +55,8 @@ module _ (command : Command) (bench : Bench) where
       let by_set : IfSome (told set) (λ es. shown ≡ es)
       = subst (λ (h : Option S). MatchOption h (shown ≡ []) (λ s. IfSome (told s) (λ es. shown ≡ es))) is shows in
       let same : shown ≡ entries = subst (λ (known : Option (List RecordEntry)). IfSome known (λ es. shown ≡ es)) answered.is_told by_set in
-      let made' : outcome ≡ outcome_for response.errors (response_text command entries response)
-      = made ∙ ap (λ es. outcome_for response.errors (response_text command es response)) same in
+      let made' : outcome ≡ outcome_for (errors_in (responses_of response)) (response_text command entries response)
+      = made ∙ ap (λ es. outcome_for (errors_in (responses_of response)) (response_text command es response)) same in
       let gives : IsAnswer command bench outcome entries = record {
         built = built;
         response = response;
@@ -60,7 +65,7 @@ module _ (command : Command) (bench : Bench) where
       } in
       let holds : HoldsTold held told entries
       = subst (λ (h : Option S). HoldsTold h told entries) (sym is) answered.is_told in
-      (entries, answer-gives response.errors (response_text command entries response) outcome entries made' gives, if-response outcome (HoldsTold held told entries) holds)
+      (entries, answer-gives (errors_in (responses_of response)) (response_text command entries response) outcome entries made' gives, if-response outcome (HoldsTold held told entries) holds)
 
   -- what a bench gives, its JSON gives
   json-gives : (json : Data) → HasTables (form_command command) json bench → (outcome : Outcome) (entries : List RecordEntry)

@@ -1,11 +1,11 @@
 -- The bytes of a bench give one thing to a command.
-use Rattle.std.proofs.Common.{◌≡◌, ℕ, ℤ, Bool, true, false, ◌&&◌, not, List, [], length, Option, Some, None, Result, Ok, Err, inl, inr, refl, ap, sym, ◌∙◌, subst}
+use Rattle.std.proofs.Common.{◌≡◌, ℕ, ℤ, Bool, true, false, List, [], ◌∷◌, ◌++◌, length, Option, Some, None, Result, Ok, Err, refl, ap, sym, ◌∙◌, subst}
 use Rattle.std.proofs.Props.{props}
 use mathlib.Core.HLevel.{is_prop→PathP}
 use Rattle.serde_json.specs.Data.{Data}
 use Rattle.gql_admit.specs.Prepared.{Prepared}
-use Rattle.gql_bench.specs.Bench.{IsBenchOf, requests_in}
-use Rattle.gql_bench.specs.Built.{has_subscription, is_built, is_logged, is_request}
+use Rattle.gql_bench.specs.Bench.{IsBenchOf}
+use Rattle.gql_bench.specs.Built.{is_built}
 use Rattle.gql_bench.specs.Cells.{AreBelow}
 use Rattle.gql_bench.specs.Found.{HasTables, IsBadAt, IsReadAs}
 use Rattle.gql_bench.specs.ListTurns.{list_turns}
@@ -13,11 +13,11 @@ use Rattle.gql_bench.specs.Table.{table_delay}
 use Rattle.gql_bench.specs.declared.bench.Bench.{Bench}
 use Rattle.gql_cli.proofs.RecordLaws.{IsWhole, one-record, one-record-in-turn}
 use Rattle.gql_cli.proofs.RefusalLemmas.{never-sound, one-refusal}
-use Rattle.gql_cli.specs.Answer.{Asked, HasNoRequest, IsRefusedTable, IsResponseTo}
+use Rattle.gql_cli.specs.Answer.{IsRefusedTable, IsResponseTo}
 use Rattle.gql_cli.specs.Command.{form_command}
-use Rattle.gql_cli.specs.Execution.{bench_serving, ComesOf, GoesOn, IsExecuted, IsRecord, IsRecordAtOnce, RecordBy, story}
-use Rattle.gql_cli.specs.Gives.{BenchGives, Gives, IfResponse, IsAnswer, IsBadShape, IsUnbuilt, IsUnsound, JsonGives, json_of, outcome_for, response_text, schema_line, shape_line}
-use Rattle.gql_cli.specs.Request.{single}
+use Rattle.gql_cli.specs.Execution.{bench_serving, Between, ComesOf, ExecutedInOrder, first_of, GoesOn, IsExecuted, IsRecord, IsRecordAtOnce, RecordBy, story}
+use Rattle.gql_cli.specs.Gives.{BenchGives, errors_in, Gives, IfResponse, IsAnswer, IsBadShape, IsUnbuilt, IsUnsound, JsonGives, json_of, outcome_for, response_text, schema_line, shape_line}
+use Rattle.gql_cli.specs.Request.{AreAlike, requests_for}
 use Rattle.gql_cli.specs.declared.command.Command.{Command}
 use Rattle.gql_cli.specs.declared.outcome.Outcome.{Outcome}
 use Rattle.gql_cli.specs.declared.outcome.Outcome.TheVariants.{Answered, BadSchema, BadShape, HasErrors, NotBuilt, NotJson, ReadFault, TooLong, Usage}
@@ -25,7 +25,7 @@ use Rattle.gql_engine.specs.declared.scene.Scene.{Scene}
 use Rattle.gql_cli.proofs.SchemaLemmas.{one_builder, one_schema}
 use Rattle.gql_exec.proofs.ReadyLemmas.{one_ready}
 use Rattle.gql_exec.specs.Builder.{IsSchemaOf, whole_table}
-use Rattle.gql_engine.specs.Record.{fresh}
+use Rattle.gql_engine.specs.Record.{fresh, state_at}
 use Rattle.gql_exec.specs.Execution.{Ask, asks, mutates}
 use Rattle.gql_exec.specs.Root.{root_for}
 use Rattle.gql_exec.specs.Scene.{scene_for}
@@ -33,11 +33,14 @@ use Rattle.gql_exec.specs.Schema.{settings_of as schema_settings, types_in}
 use Rattle.gql_exec.specs.declared.dynamic_request.DynamicRequest.{DynamicRequest}
 use Rattle.gql_exec.specs.declared.schema.Schema.{Schema}
 use Rattle.gql_form.specs.declared.bench_form.BenchForm.{BenchForm}
-use Rattle.gql_form.specs.declared.work_form.WorkForm.{WorkForm}
-use Rattle.gql_form.specs.declared.work_form.WorkForm.TheVariants as work
 use Rattle.gql_merged.specs.Jobs.{Job}
 use Rattle.gql_merged.specs.Run.{job_subject, root_jobs}
 use Rattle.gql_merged.specs.Serial.{key_jobs}
+use Rattle.gql_request.specs.BatchResponse.{responses_of}
+use Rattle.gql_request.specs.declared.batch_request.BatchRequest.{BatchRequest}
+use Rattle.gql_request.specs.declared.batch_request.BatchRequest.TheVariants as batch
+use Rattle.gql_request.specs.declared.batch_response.BatchResponse.{BatchResponse}
+use Rattle.gql_request.specs.declared.batch_response.BatchResponse.TheVariants as responding
 use Rattle.gql_request.specs.declared.query_env.QueryEnv.{QueryEnv}
 use Rattle.gql_request.specs.declared.response.Response.{Response}
 use Rattle.gql_resolve.specs.declared.record_entry.RecordEntry.{RecordEntry}
@@ -45,70 +48,98 @@ use Rattle.gql_schema.specs.Table.{types_of}
 use Rattle.gql_schema.specs.declared.object.Object.{Object}
 use Rattle.gql_schema.specs.declared.schema_error.SchemaError.{SchemaError}
 
+-- two things are one, and two others
+abbrev AreOne : {A B : Type 0} → A → A → B → B → Type 0
+AreOne one other here there = (one ≡ other) × (here ≡ there)
+
+-- two responses are one, with their records and what they leave
+abbrev SameRun : Response → Response → List RecordEntry → List RecordEntry → Between → Between → Type 0
+SameRun r s es fs after behind = (r ≡ s) × (es ≡ fs) × (after ≡ behind)
+
+-- responses that stand alike to requests are one where their lists are
+alike-same : (requests : BatchRequest) (one other : BatchResponse) → AreAlike requests one → AreAlike requests other → responses_of one ≡ responses_of other
+    → one ≡ other
+alike-same (batch.Single request) (responding.Single r) (responding.Single s) a b same = let alone : r ≡ s = cc in ap responding.Single alone
+alike-same (batch.Single request) (responding.Single r) (responding.Batch ss) a b same = absurd b
+alike-same (batch.Single request) (responding.Batch rs) other a b same = absurd a
+alike-same (batch.Batch requests) (responding.Single r) other a b same = absurd a
+alike-same (batch.Batch requests) (responding.Batch rs) (responding.Single s) a b same = absurd b
+alike-same (batch.Batch requests) (responding.Batch rs) (responding.Batch ss) a b same = ap responding.Batch same
+
 module _ (bench : Bench) where
   abbrev delay : Job ℤ → ℕ
   delay job = table_delay bench.rules job.asking.call.resolver
 
-  module _ (scene : Scene ℤ) where
-    whole-record : (told : List RecordEntry) → IsRecordAtOnce bench scene told → IsWhole list_turns (story bench) delay (bench.turns, 0) (root_jobs scene) told
-    whole-record told is = record { turned = is.turned; whole = is.whole; paced = is.paced }
+  module _ (before : Between) (scene : Scene ℤ) where
+    whole-record : (told : List RecordEntry) (turns : List ℕ × ℕ) → IsRecordAtOnce bench before scene told turns
+        → IsWhole list_turns (story bench before) delay before.turns (root_jobs scene) told
+    whole-record told turns is = record { turned = is.turned; whole = is.whole; paced = is.paced }
 
-    record-by : (mutation : Bool) (one other : List RecordEntry) → RecordBy bench mutation scene one → RecordBy bench mutation scene other → one ≡ other
-    record-by true one other a b =
-        let told = one-record-in-turn (bench_serving bench) tt job_subject list_turns bench.cells (key_jobs scene) (fresh []) [] (bench.turns, 0) a.starts b.starts
-        a.behind b.behind a.phases b.phases in
-        let both : Some one ≡ Some other = sym a.told ∙ told ∙ b.told in
-        cc
-    record-by false one other a b =
-        one-record list_turns (story bench) delay (bench.turns, 0) (root_jobs scene) one other (whole-record one a) (whole-record other b)
+    record-by : (mutation : Bool) (one other : List RecordEntry) (t u : List ℕ × ℕ) → RecordBy bench before mutation scene one t
+        → RecordBy bench before mutation scene other u → AreOne one other t u
+    record-by true one other t u a b =
+        let (told, turns) = one-record-in-turn (bench_serving bench) tt job_subject list_turns before.cells (key_jobs scene) (fresh []) [] before.turns a.starts
+        b.starts a.behind b.behind a.phases b.phases in
+        let records : Some one ≡ Some other = sym a.told ∙ told ∙ b.told in
+        let states : Some t ≡ Some u = sym a.leaves ∙ turns ∙ b.leaves in
+        (cc, cc)
+    record-by false one other t u a b =
+        let same = one-record list_turns (story bench before) delay before.turns (root_jobs scene) one other (whole-record one t a) (whole-record other u b) in
+        (same, a.leaves ∙ ap (state_at list_turns (story bench before) before.turns (fresh (root_jobs scene))) same ∙ sym b.leaves)
 
-    -- a scene has one record
-    pub scene-record : (one other : List RecordEntry) → IsRecord bench scene one → IsRecord bench scene other → one ≡ other
-    scene-record = record-by (mutates scene)
+    -- a scene has one record, and leaves one thing
+    pub scene-record : (one other : List RecordEntry) (after behind : Between) → IsRecord bench before scene one after → IsRecord bench before scene other behind
+        → AreOne one other after behind
+    scene-record one other after behind a b =
+        let (same, turns) = record-by (mutates scene) one other after.turns behind.turns a.entries_are b.entries_are in
+        let cells = a.cells_are ∙ sym b.cells_are in
+        (same, λ i. record { cells = cells i; turns = turns i })
 
-  -- two responses are one, with their records
-  abbrev AreOne : Response → Response → List RecordEntry → List RecordEntry → Type 0
-  AreOne r s es fs = (r ≡ s) × (es ≡ fs)
+  module _ (before : Between) (ask : Ask ℤ) (r s : Response) (es fs : List RecordEntry) (after behind : Between) where
+    goes-same : (env : QueryEnv) (root : Result Object (List ℕ)) → GoesOn bench before ask r es after env root → GoesOn bench before ask s fs behind env root
+        → SameRun r s es fs after behind
+    goes-same env (Ok object) (a, m) (b, n) =
+        let (same, left) = scene-record before (scene_for ask.schema ask.request env object) es fs after behind m n in
+        (a ∙ sym b, same, left)
+    goes-same env (Err text) (a, m, p) (b, n, q) = (a ∙ sym b, m ∙ sym n, p ∙ sym q)
 
-  module _ (ask : Ask ℤ) (r s : Response) (es fs : List RecordEntry) where
-    goes-same : (env : QueryEnv) (root : Result Object (List ℕ)) → GoesOn bench ask r es env root → GoesOn bench ask s fs env root → AreOne r s es fs
-    goes-same env (Ok object) (a, m) (b, n) = (a ∙ sym b, scene-record (scene_for ask.schema ask.request env object) es fs m n)
-    goes-same env (Err text) (a, m) (b, n) = (a ∙ sym b, m ∙ sym n)
-
-    comes-same : (outcome : Prepared) → ComesOf bench ask r es outcome → ComesOf bench ask s fs outcome → AreOne r s es fs
+    comes-same : (outcome : Prepared) → ComesOf bench before ask r es after outcome → ComesOf bench before ask s fs behind outcome → SameRun r s es fs after behind
     comes-same (Ok env) a b = goes-same env (root_for ask.schema env.operation.node.ty) a b
-    comes-same (Err errors) (a, m) (b, n) = (a ∙ sym b, m ∙ sym n)
+    comes-same (Err errors) (a, m, p) (b, n, q) = (a ∙ sym b, m ∙ sym n, p ∙ sym q)
 
     -- a request over a schema has one response and one record
-    pub executed-same : IsExecuted bench ask r es → IsExecuted bench ask s fs → AreOne r s es fs
+    pub executed-same : IsExecuted bench before ask r es after → IsExecuted bench before ask s fs behind → SameRun r s es fs after behind
     executed-same a b =
         let same = one_ready ask.schema ask.request.inner a.outcome b.outcome a.ready b.ready in
-        comes-same b.outcome (subst (λ outcome. ComesOf bench ask r es outcome) same a.comes) b.comes
+        comes-same b.outcome (subst (λ outcome. ComesOf bench before ask r es after outcome) same a.comes) b.comes
 
-  -- a bench has one schema and one request at most
-  asked-same : (one other : Asked bench) → (one.schema ≡ other.schema) × (one.request ≡ other.request)
-  asked-same one other =
-      let inner : Some one.request.inner ≡ Some other.request.inner = sym one.asked.0 ∙ other.asked.0 in
-      let request : one.request.inner ≡ other.request.inner = cc in
-      let root = one.asked.1 ∙ sym other.asked.1 in
-      (schema-same, λ i. record { inner = request i; root_value = root i })
-    where
-      table : types_of (types_in one.schema) ≡ types_of (types_in other.schema)
-      table = one.is.table ∙ sym other.is.table
+  -- and so have requests one after another
+  in-order-same : (schema : Schema) (requests : List (DynamicRequest ℤ)) (rs ss : List Response) (es fs : List RecordEntry) (before : Between)
+      → ExecutedInOrder bench schema requests rs es before → ExecutedInOrder bench schema requests ss fs before → AreOne rs ss es fs
+  in-order-same schema [] [] [] es fs before a b = (refl, a ∙ sym b)
+  in-order-same schema [] [] (s ∷ ss) es fs before a b = absurd b
+  in-order-same schema [] (r ∷ rs) ss es fs before a b = absurd a
+  in-order-same schema (request ∷ requests) [] ss es fs before a b = absurd a
+  in-order-same schema (request ∷ requests) (r ∷ rs) [] es fs before a b = absurd b
+  in-order-same schema (request ∷ requests) (r ∷ rs) (s ∷ ss) es fs before (own, others, after, one, told, all) (own', others', after', one', told', all') =
+      let (response, entries, left) = executed-same before (asks schema request) r s own own' after after' one one' in
+      let (responses, rest) = in-order-same schema requests rs ss others others' after' (subst (λ (b : Between). ExecutedInOrder bench schema requests rs others b) left all) all' in
+      ((λ i. response i ∷ responses i), told ∙ (λ i. entries i ++ rest i) ∙ sym told')
 
-      settings : schema_settings one.schema ≡ schema_settings other.schema
-      settings = one.is.settings ∙ sym other.is.settings
+  -- a bench has one schema at most
+  schemas-same : (one other : Schema) → IsSchemaOf bench.builder one → IsSchemaOf bench.builder other → one ≡ other
+  schemas-same one other a b =
+      let table : types_of (types_in one) ≡ types_of (types_in other) = a.table ∙ sym b.table in
+      let settings : schema_settings one ≡ schema_settings other = a.settings ∙ sym b.settings in
+      one_schema one other table settings
 
-      schema-same : one.schema ≡ other.schema
-      schema-same = one_schema one.schema other.schema table settings
-
-  response-same : (told said : Option (List RecordEntry)) (r s : Response) → (a : IsResponseTo bench told r) → (b : IsResponseTo bench said s)
+  response-same : (told said : Option (List RecordEntry)) (r s : BatchResponse) → (a : IsResponseTo bench told r) → (b : IsResponseTo bench said s)
       → AreOne r s a.entries b.entries
   response-same told said r s a b =
-      let (schema, request) = asked-same a.asks_for b.asks_for in
-      let same : asks a.asks_for.schema a.asks_for.request ≡ asks b.asks_for.schema b.asks_for.request = λ i. asks (schema i) (request i) in
-      executed-same (asks b.asks_for.schema b.asks_for.request) r s a.entries b.entries
-      (subst (λ ask. IsExecuted bench ask r a.entries) same a.executed) b.executed
+      let schema = schemas-same a.schema b.schema a.is b.is in
+      let (responses, entries) = in-order-same b.schema (requests_for bench) (responses_of r) (responses_of s) a.entries b.entries (first_of bench)
+      (subst (λ known. ExecutedInOrder bench known (requests_for bench) (responses_of r) a.entries (first_of bench)) schema a.executed) b.executed in
+      (alike-same bench.requests r s a.alike b.alike responses, entries)
 
   -- a table that is refused has no schema
   never-schema : (text : List ℕ) → IsRefusedTable bench text → (schema : Schema) → IsSchemaOf bench.builder schema → ⊥
@@ -159,49 +190,41 @@ module _ (command : Command) (bench : Bench) where
       let mine : entries ≡ a.answered.entries = let is = a.answered.is_told in cc in
       let yours : others ≡ b.answered.entries = let is = b.answered.is_told in cc in
       let es : entries ≡ others = mine ∙ told ∙ sym yours in (
-        a.is ∙ (λ i. outcome_for (response i).errors (response_text command (es i) (response i))) ∙ sym b.is,
+        a.is ∙ (λ i. outcome_for (errors_in (responses_of (response i))) (response_text command (es i) (response i))) ∙ sym b.is,
         if-response one (entries ≡ others) es,
       )
 
-  module _ (alone : is_built bench ≡ true → HasNoRequest bench → ⊥) where
-    -- a bench that is built isn't unbuilt
-    never-unbuilt : is_built bench ≡ true → IsUnbuilt bench → ⊥
-    never-unbuilt built (inl none) = let both = sym built ∙ none in cc
-    never-unbuilt built (inr none) = alone built none
+  -- a bench that is built isn't unbuilt
+  never-unbuilt : is_built bench ≡ true → IsUnbuilt bench → ⊥
+  never-unbuilt built none = let both = sym built ∙ none in cc
 
-    by-ways : (one other : Outcome) (entries others : List RecordEntry) → Way one entries → Way other others → Same one other entries others
-    by-ways one other entries others (later a un) (later b un') = same-plain one other NotBuilt entries others a b tt
-    by-ways one other entries others (later a un) (unsound text b why) =
-        absurd (never-unbuilt why.built un)
-    by-ways one other entries others (later a un) (answer b) =
-        absurd (never-unbuilt b.built un)
-    by-ways one other entries others (unsound text a why) (later b un) =
-        absurd (never-unbuilt why.built un)
-    by-ways one other entries others (unsound text a why) (unsound said b why') =
-        let (error, refused, is) = why.refused in
-        let (error', refused', is') = why'.refused in
-        let texts = is ∙ ap (λ (e : SchemaError). e.text) (one-refusal (whole_table bench.builder) error error' refused refused') ∙ sym is' in
-        let lines = why.is ∙ ap schema_line texts ∙ sym why'.is in
-        same-plain one other (BadSchema said) entries others (a ∙ ap BadSchema lines) b tt
-    by-ways one other entries others (unsound text a why) (answer b) =
-        absurd (never-schema bench why.why why.refused b.answered.asks_for.schema b.answered.asks_for.is)
-    by-ways one other entries others (answer a) (later b un) =
-        absurd (never-unbuilt a.built un)
-    by-ways one other entries others (answer a) (unsound text b why) =
-        absurd (never-schema bench why.why why.refused a.answered.asks_for.schema a.answered.asks_for.is)
-    by-ways one other entries others (answer a) (answer b) = answer-same one other entries others a b
+  by-ways : (one other : Outcome) (entries others : List RecordEntry) → Way one entries → Way other others → Same one other entries others
+  by-ways one other entries others (later a un) (later b un') = same-plain one other NotBuilt entries others a b tt
+  by-ways one other entries others (later a un) (unsound text b why) =
+      absurd (never-unbuilt why.built un)
+  by-ways one other entries others (later a un) (answer b) =
+      absurd (never-unbuilt b.built un)
+  by-ways one other entries others (unsound text a why) (later b un) =
+      absurd (never-unbuilt why.built un)
+  by-ways one other entries others (unsound text a why) (unsound said b why') =
+      let (error, refused, is) = why.refused in
+      let (error', refused', is') = why'.refused in
+      let texts = is ∙ ap (λ (e : SchemaError). e.text) (one-refusal (whole_table bench.builder) error error' refused refused') ∙ sym is' in
+      let lines = why.is ∙ ap schema_line texts ∙ sym why'.is in
+      same-plain one other (BadSchema said) entries others (a ∙ ap BadSchema lines) b tt
+  by-ways one other entries others (unsound text a why) (answer b) =
+      absurd (never-schema bench why.why why.refused b.answered.schema b.answered.is)
+  by-ways one other entries others (answer a) (later b un) =
+      absurd (never-unbuilt a.built un)
+  by-ways one other entries others (answer a) (unsound text b why) =
+      absurd (never-schema bench why.why why.refused a.answered.schema a.answered.is)
+  by-ways one other entries others (answer a) (answer b) = answer-same one other entries others a b
 
-    pub bench-gives-same : (one other : Outcome) (entries others : List RecordEntry) → BenchGives command bench one entries
-        → BenchGives command bench other others → Same one other entries others
-    bench-gives-same one other entries others a b = by-ways one other entries others (way one entries a) (way other others b)
+  pub bench-gives-same : (one other : Outcome) (entries others : List RecordEntry) → BenchGives command bench one entries
+      → BenchGives command bench other others → Same one other entries others
+  bench-gives-same one other entries others a b = by-ways one other entries others (way one entries a) (way other others b)
 
 module _ (form : BenchForm) where
-  -- a bench that is built has one request
-  alone-work : (w : WorkForm) → is_request w ≡ true → single (requests_in w) ≡ None → ⊥
-  alone-work (work.One request) is none = cc
-  alone-work (work.Batch requests) is none = cc
-  alone-work (work.Session session) is none = cc
-
   -- a form is read as one bench
   bench-same : (one other : Bench) → IsBenchOf form one → IsBenchOf form other → one ≡ other
   bench-same one other a b =
@@ -223,23 +246,6 @@ module _ (form : BenchForm) where
         built = (a.built ∙ sym b.built) i;
         placed = is_prop→PathP (λ j. AreBelow (length (cells j)) (rules j)) (λ j. hlevel props) one.placed other.placed i;
       }
-
-first-true : (a b : Bool) → (a && b) ≡ true → a ≡ true
-first-true true b both = refl
-first-true false b both = both
-
-second-true : (a b : Bool) → (a && b) ≡ true → b ≡ true
-second-true true b both = both
-second-true false b both = cc
-
--- a bench that is read as a form and is built has one request
-alone-bench : (form : BenchForm) (bench : Bench) → IsBenchOf form bench → is_built bench ≡ true → single bench.requests ≡ None → ⊥
-alone-bench form bench is built none =
-    let hooks = not (is_logged form.setup.hooks) in
-    let whole : ((hooks && is_request form.work) && not (has_subscription form.setup.schema)) ≡ true = sym is.built ∙ built in
-    let request = second-true hooks (is_request form.work)
-    (first-true (hooks && is_request form.work) (not (has_subscription form.setup.schema)) whole) in
-    alone-work form form.work request (ap single (sym is.requests) ∙ none)
 
 module _ (command : Command) (json : Data) where
   -- what a JSON value gives, by its two ways
@@ -278,7 +284,7 @@ module _ (command : Command) (json : Data) where
   by-json-ways one other entries others (of_bench bench (form, read, tables) gives) (bad said b (place, here, is)) = absurd (never-both place here form read)
   by-json-ways one other entries others (of_bench bench (form, read, tables) gives) (of_bench bench' (form', read', tables') gives') =
       let same = benches-same bench bench' form read tables form' read' tables' in
-      bench-gives-same command bench' (alone-bench form' bench' tables') one other entries others
+      bench-gives-same command bench' one other entries others
       (subst (λ b. BenchGives command b one entries) same gives) gives'
 
   json-same : (one other : Outcome) (entries others : List RecordEntry) → JsonGives command json one entries → JsonGives command json other others

@@ -227,12 +227,18 @@ module _ {V W Task State : Type 0} (serving : Serving V W) (keeps : serving.pace
         by k there (inr (inl before)) = (since a one p).earlier k before ∙ sym ((since b other q).earlier k before)
         by k there (inr (inr behind)) = let sizes = length-append made.tasks (root ∷ []) in absurd (omega arith)
 
-  -- root keys one after another have one record
+  -- two moments at which the same is told, and the turns are in one state
+  abbrev Alone : Stage Task State → Stage Task State → Type 0
+  Alone one other = (one.told ≡ other.told) × (one.turns ≡ other.turns)
+
+  -- root keys one after another have one record, and leave the turns in one state
   pub one-record-in-turn : (world : W) (roots : List Task) (made : Made Task) (told : List RecordEntry) (state : State) (a b : Option (List ℕ))
       (one other : Stage Task State) → Phases serving subject choice world roots (known made told state a) one
-      → Phases serving subject choice world roots (known made told state b) other → one.told ≡ other.told
-  one-record-in-turn world [] made told state a b one other is same =
-      ap (λ (s : Stage Task State). s.told) is ∙ sym (ap (λ (s : Stage Task State). s.told) same)
+      → Phases serving subject choice world roots (known made told state b) other → Alone one other
+  one-record-in-turn world [] made told state a b one other is same = (
+    ap (λ (s : Stage Task State). s.told) is ∙ sym (ap (λ (s : Stage Task State). s.told) same),
+    ap (λ (s : Stage Task State). s.turns) is ∙ sym (ap (λ (s : Stage Task State). s.turns) same),
+  )
   one-record-in-turn world (root ∷ roots) made told state a b one other (middle, p, rest) (middle', q, rest') =
       let next = serving.effect (subject.call root) world in
       let tale = story_in serving subject world root in

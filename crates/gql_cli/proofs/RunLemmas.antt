@@ -7,7 +7,7 @@ use Rattle.gql_cli.specs.Gives.{Gives, IfResponse}
 use Rattle.gql_cli.specs.Outcome.{due_status, due_text}
 use Rattle.gql_cli.specs.Run.{Ends, HasRun, IsComplete, IsCutOff, IsDue, IsGiven, IsGivenWith, IsListed, IsWritten, ReadFailed, WriteFailed}
 use Rattle.gql_cli.specs.declared.command.Command.{Command}
-use Rattle.gql_cli.specs.declared.command.Command.TheVariants.{Execute, Record}
+use Rattle.gql_cli.specs.declared.command.Command.TheVariants.{Batch, Execute, Record}
 use Rattle.gql_cli.specs.declared.outcome.Outcome.{Outcome}
 use Rattle.gql_cli.specs.declared.outcome.Outcome.TheVariants.{Answered, BadSchema, BadShape, HasErrors, NotBuilt, NotJson, ReadFault, TooLong, Usage}
 use Rattle.gql_io.specs.Counts.{IsFull}
@@ -24,6 +24,11 @@ words-same Execute Execute same = refl
 words-same Execute Record same = cc
 words-same Record Execute same = cc
 words-same Record Record same = refl
+words-same Batch Batch same = refl
+words-same Execute Batch same = cc
+words-same Record Batch same = cc
+words-same Batch Execute same = cc
+words-same Batch Record same = cc
 
 some-each : {A : Type 0} (o : Option A) (P : A → Type 0) → ((x : A) → P x) → IfSome o P
 some-each None P each = tt

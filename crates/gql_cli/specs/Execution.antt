@@ -1,6 +1,7 @@
--- The execution of a bench's request: its response, and the record of the polls that are made for
--- it, in the order that the bench's turns fix.
-use Rattle.std.specs.Prelude.{◌≡◌, ℕ, ℤ, Bool, true, false, List, [], Option, Some, Result, Ok, Err}
+-- The execution of a bench's requests, one after another: the response to each, and the record of
+-- the polls that are made for it, in the order that the bench's turns fix.
+use Rattle.std.specs.Prelude.{◌≡◌, ℕ, ℤ, Bool, true, false, List, [], ◌∷◌, ◌++◌, Option, Some}
+use Rattle.std.specs.Prelude.{Result, Ok, Err}
 use Rattle.gql_admit.specs.Prepared.{Prepared}
 use Rattle.gql_bench.specs.ListTurns.{list_turns}
 use Rattle.gql_bench.specs.Table.{table_answer, table_delay, table_effect}
@@ -8,16 +9,18 @@ use Rattle.gql_bench.specs.declared.bench.Bench.{Bench}
 use Rattle.gql_engine.specs.Pace.{EachPaced}
 use Rattle.gql_engine.specs.Phases.{Phases, Serving}
 use Rattle.gql_engine.specs.Progress.{story_of}
-use Rattle.gql_engine.specs.Record.{Made, Stage, Story, Turned, fresh, made_at, waiting}
+use Rattle.gql_engine.specs.Record.{Made, Stage, Story, Turned, fresh, made_at, state_at, waiting}
 use Rattle.gql_engine.specs.declared.scene.Scene.{Scene}
-use Rattle.gql_exec.specs.Execution.{Ask, error_response, fault_response, mutates}
+use Rattle.gql_exec.specs.Execution.{Ask, asks, error_response, fault_response, mutates}
 use Rattle.gql_exec.specs.PlaceResponse.{response_at}
 use Rattle.gql_exec.specs.Ready.{IsMadeReady}
 use Rattle.gql_exec.specs.Root.{root_for}
 use Rattle.gql_exec.specs.Scene.{scene_for}
+use Rattle.gql_exec.specs.declared.dynamic_request.DynamicRequest.{DynamicRequest}
+use Rattle.gql_exec.specs.declared.schema.Schema.{Schema}
 use Rattle.gql_merged.specs.Jobs.{Job}
 use Rattle.gql_merged.specs.Run.{job_subject, merged_response, root_jobs}
-use Rattle.gql_merged.specs.Serial.{key_jobs, serial_response}
+use Rattle.gql_merged.specs.Serial.{key_jobs, last_world_of, serial_response}
 use Rattle.gql_place.specs.declared.place.Place.{Place}
 use Rattle.gql_request.specs.QueryEnv.{levels_of}
 use Rattle.gql_request.specs.declared.query_env.QueryEnv.{QueryEnv}
@@ -26,6 +29,15 @@ use Rattle.gql_resolve.specs.Call.{Call}
 use Rattle.gql_resolve.specs.declared.answer.Answer.{Answer}
 use Rattle.gql_resolve.specs.declared.record_entry.RecordEntry.{RecordEntry}
 use Rattle.gql_schema.specs.declared.object.Object.{Object}
+
+-- what a request of a bench finds and leaves: the cells, and the state of the turns
+pub record Between : Type 0 where
+  pub cells : List ℤ
+  pub turns : List ℕ × ℕ
+
+-- what the first one finds: the bench's own cells, and its turns at their first number
+abbrev pub first_of : Bench → Between
+first_of bench = record { cells = bench.cells; turns = (bench.turns, 0) }
 
 module _ (bench : Bench) where
   -- how calls are served: by the rules of the bench, in the cells as they stand
@@ -37,78 +49,108 @@ module _ (bench : Bench) where
     paced = Unit {0};
   }
 
-  -- what is answered to a call in the bench's own cells
-  abbrev pub answers_of : Call ℤ → Answer ℤ
-  answers_of call = table_answer bench.rules call bench.cells
+  module _ (before : Between) where
+    -- what is answered to a call in the cells as the request finds them
+    abbrev pub answers_of : Call ℤ → Answer ℤ
+    answers_of call = table_answer bench.rules call before.cells
 
-  -- the place of the response to a scene: of a mutation, or of another operation
-  abbrev pub place_in : Bool → Scene ℤ → Place
-  place_in true scene = serial_response scene (table_answer bench.rules)
-      (table_effect bench.rules) bench.cells (levels_of scene.env.now)
-  place_in false scene = merged_response scene answers_of (levels_of scene.env.now)
+    -- the place of the response to a scene: of a mutation, or of another operation
+    abbrev pub place_in : Bool → Scene ℤ → Place
+    place_in true scene = serial_response scene (table_answer bench.rules)
+        (table_effect bench.rules) before.cells (levels_of scene.env.now)
+    place_in false scene = merged_response scene answers_of (levels_of scene.env.now)
 
-  -- the tasks of merged execution, with the tasks beneath the answer of each
-  abbrev pub story : Story (Job ℤ)
-  story = story_of job_subject (λ job. answers_of job.asking.call)
+    -- the cells behind it
+    abbrev pub cells_by : Bool → Scene ℤ → List ℤ
+    cells_by true scene = last_world_of scene (table_effect bench.rules) before.cells
+    cells_by false scene = before.cells
 
-  -- the tasks of a scene once these entries were made
-  abbrev pub made_by : Scene ℤ → List RecordEntry → Made (Job ℤ)
-  made_by scene entries = made_at story (fresh (root_jobs scene)) entries
+    -- the tasks of merged execution, with the tasks beneath the answer of each
+    abbrev pub story : Story (Job ℤ)
+    story = story_of job_subject (λ job. answers_of job.asking.call)
 
-  -- the whole record of a scene: the bench's turns choose each entry's task among those that wait,
-  -- none waits at the end, and each task has as many pending entries as the delay of its resolver,
-  -- and then its ready one
-  pub record IsRecordAtOnce (scene : Scene ℤ) (entries : List RecordEntry) : Type 0 where
-    pub turned : Turned list_turns story (bench.turns, 0) (fresh (root_jobs scene)) entries
-    pub whole : waiting (made_by scene entries) ≡ []
-    pub paced : EachPaced (λ (job : Job ℤ). table_delay bench.rules job.asking.call.resolver)
-        (made_by scene entries).tasks entries
+    -- the tasks of a scene once these entries were made
+    abbrev pub made_by : Scene ℤ → List RecordEntry → Made (Job ℤ)
+    made_by scene entries = made_at story (fresh (root_jobs scene)) entries
 
-  -- before any task: no entry is told, and the turns begin
-  abbrev pub none_told : Option (List ℕ) → Stage (Job ℤ) (List ℕ × ℕ)
-  none_told starts = record {
-    made = fresh [];
-    told = Some [];
-    starts = starts;
-    turns = Some (bench.turns, 0);
-  }
+    -- the whole record of a scene: the turns choose each entry's task among those that wait, none
+    -- waits at the end, and each task has as many pending entries as the delay of its resolver, and
+    -- then its ready one; and the state of the turns behind it
+    pub record IsRecordAtOnce (scene : Scene ℤ) (entries : List RecordEntry)
+        (turns : List ℕ × ℕ) : Type 0 where
+      pub turned : Turned list_turns story before.turns (fresh (root_jobs scene)) entries
+      pub whole : waiting (made_by scene entries) ≡ []
+      pub paced : EachPaced (λ (job : Job ℤ). table_delay bench.rules job.asking.call.resolver)
+          (made_by scene entries).tasks entries
+      pub leaves : turns
+          ≡ state_at list_turns story before.turns (fresh (root_jobs scene)) entries
 
-  -- the whole record of a mutation: the chain of those of its root keys, the first of which is
-  -- asked in the bench's cells
-  pub record IsRecordInTurn (scene : Scene ℤ) (entries : List RecordEntry) : Type 0 where
-    pub starts : Option (List ℕ)
-    pub behind : Stage (Job ℤ) (List ℕ × ℕ)
-    pub phases : Phases bench_serving job_subject list_turns bench.cells (key_jobs scene)
-        (none_told starts) behind
-    pub told : behind.told ≡ Some entries
+    -- before any task: no entry is told of the request, and the turns are as it finds them
+    abbrev pub none_told : Option (List ℕ) → Stage (Job ℤ) (List ℕ × ℕ)
+    none_told starts = record {
+      made = fresh [];
+      told = Some [];
+      starts = starts;
+      turns = Some before.turns;
+    }
 
-  -- the whole record of a scene: of a mutation, or of another operation
-  abbrev pub RecordBy : Bool → Scene ℤ → List RecordEntry → Type 0
-  RecordBy true scene entries = IsRecordInTurn scene entries
-  RecordBy false scene entries = IsRecordAtOnce scene entries
+    -- the whole record of a mutation: the chain of those of its root keys, the first of which is
+    -- asked in the cells as the request finds them; and the state of the turns behind it
+    pub record IsRecordInTurn (scene : Scene ℤ) (entries : List RecordEntry)
+        (turns : List ℕ × ℕ) : Type 0 where
+      pub starts : Option (List ℕ)
+      pub behind : Stage (Job ℤ) (List ℕ × ℕ)
+      pub phases : Phases bench_serving job_subject list_turns before.cells (key_jobs scene)
+          (none_told starts) behind
+      pub told : behind.told ≡ Some entries
+      pub leaves : behind.turns ≡ Some turns
 
-  -- the whole record of a scene
-  abbrev pub IsRecord : Scene ℤ → List RecordEntry → Type 0
-  IsRecord scene entries = RecordBy (mutates scene) scene entries
+    -- the whole record of a scene: of a mutation, or of another operation
+    abbrev pub RecordBy : Bool → Scene ℤ → List RecordEntry → List ℕ × ℕ → Type 0
+    RecordBy true scene entries turns = IsRecordInTurn scene entries turns
+    RecordBy false scene entries turns = IsRecordAtOnce scene entries turns
 
-  module _ (ask : Ask ℤ) (response : Response) (entries : List RecordEntry) where
-    -- the response to a scene and its record
-    abbrev pub Ran : Scene ℤ → Type 0
-    Ran scene = (response ≡ response_at (place_in (mutates scene) scene)) × IsRecord scene entries
+    -- the whole record of a scene, and what it leaves
+    pub record IsRecord (scene : Scene ℤ) (entries : List RecordEntry) (after : Between) : Type 0
+      where
+        pub entries_are : RecordBy (mutates scene) scene entries after.turns
+        pub cells_are : after.cells ≡ cells_by (mutates scene) scene
 
-    -- the response and the record of an admitted request: those of merged execution, or its fault,
-    -- and then nothing is polled
-    abbrev pub GoesOn : QueryEnv → Result Object (List ℕ) → Type 0
-    GoesOn env (Ok object) = Ran (scene_for ask.schema ask.request env object)
-    GoesOn env (Err text) = (response ≡ fault_response text) × (entries ≡ [])
+    module _ (ask : Ask ℤ) (response : Response) (entries : List RecordEntry) (after : Between)
+      where
+        -- the response to a scene and its record
+        abbrev pub Ran : Scene ℤ → Type 0
+        Ran scene = (response ≡ response_at (place_in (mutates scene) scene))
+            × IsRecord scene entries after
 
-    -- those of a request by what was made of it: for one that is refused nothing is polled
-    abbrev pub ComesOf : Prepared → Type 0
-    ComesOf (Ok env) = GoesOn env (root_for ask.schema env.operation.node.ty)
-    ComesOf (Err errors) = (response ≡ error_response errors) × (entries ≡ [])
+        -- the response and the record of an admitted request: those of merged execution, or its
+        -- fault, and then nothing is polled
+        abbrev pub GoesOn : QueryEnv → Result Object (List ℕ) → Type 0
+        GoesOn env (Ok object) = Ran (scene_for ask.schema ask.request env object)
+        GoesOn env (Err text) = (response ≡ fault_response text) × (entries ≡ []) × (after ≡ before)
 
-    -- the response to a request over the bench's rules, cells and turns, and its record
-    pub record IsExecuted : Type 0 where
-      pub outcome : Prepared
-      pub ready : IsMadeReady ask.schema ask.request.inner outcome
-      pub comes : ComesOf outcome
+        -- those of a request by what was made of it: for one that is refused nothing is polled
+        abbrev pub ComesOf : Prepared → Type 0
+        ComesOf (Ok env) = GoesOn env (root_for ask.schema env.operation.node.ty)
+        ComesOf (Err errors) =
+            (response ≡ error_response errors) × (entries ≡ []) × (after ≡ before)
+
+        -- the response to a request over the bench's rules, its record, and what it leaves
+        pub record IsExecuted : Type 0 where
+          pub outcome : Prepared
+          pub ready : IsMadeReady ask.schema ask.request.inner outcome
+          pub comes : ComesOf outcome
+
+  module _ (schema : Schema) where
+    -- the responses to requests over a schema, one after another, and their records, one behind
+    -- another: each request finds what the one before it left
+    abbrev pub ExecutedInOrder : List (DynamicRequest ℤ) → List Response → List RecordEntry
+        → Between → Type 0
+    ExecutedInOrder [] [] entries before = entries ≡ []
+    ExecutedInOrder [] (response ∷ responses) entries before = ⊥
+    ExecutedInOrder (request ∷ requests) [] entries before = ⊥
+    ExecutedInOrder (request ∷ requests) (response ∷ responses) entries before =
+        (own : List RecordEntry) × (others : List RecordEntry) × (after : Between)
+        × IsExecuted before (asks schema request) response own after
+        × (entries ≡ own ++ others)
+        × ExecutedInOrder requests responses others after

@@ -1,7 +1,8 @@
 -- What the bytes of a bench give to a command: what is to be written, and the record of the polls
 -- that were made for it.
-use Rattle.std.specs.Prelude.{◌≡◌, ◌⊎◌, ℕ, true, false, List, [], ◌∷◌, ◌++◌, codes, Option}
+use Rattle.std.specs.Prelude.{◌≡◌, ℕ, true, false, List, [], ◌∷◌, ◌++◌, codes, Option}
 use Rattle.std.specs.Prelude.{Some, None, MatchOption, if◌then◌else◌}
+use Rattle.std.specs.List.{flat_map}
 use Rattle.std.specs.Str.{is_utf8}
 use Rattle.serde_json.specs.Data.{Data}
 use Rattle.serde_json.specs.Read.{read}
@@ -10,16 +11,17 @@ use Rattle.gql_bench.specs.Built.{is_built}
 use Rattle.gql_bench.specs.Found.{HasTables, IsBadAt}
 use Rattle.gql_bench.specs.RecordText.{record_lines}
 use Rattle.gql_bench.specs.declared.bench.Bench.{Bench}
-use Rattle.gql_cli.specs.Answer.{HasNoRequest, IsRefusedTable, IsResponseTo}
+use Rattle.gql_cli.specs.Answer.{IsRefusedTable, IsResponseTo}
 use Rattle.gql_cli.specs.Command.{form_command}
 use Rattle.gql_cli.specs.Outcome.{line}
 use Rattle.gql_cli.specs.declared.command.Command.{Command}
-use Rattle.gql_cli.specs.declared.command.Command.TheVariants.{Execute, Record}
+use Rattle.gql_cli.specs.declared.command.Command.TheVariants.{Batch, Execute, Record}
 use Rattle.gql_cli.specs.declared.outcome.Outcome.{Outcome}
 use Rattle.gql_cli.specs.declared.outcome.Outcome.TheVariants.{Answered, BadSchema}
 use Rattle.gql_cli.specs.declared.outcome.Outcome.TheVariants.{BadShape, HasErrors}
 use Rattle.gql_cli.specs.declared.outcome.Outcome.TheVariants.{NotBuilt, NotJson}
-use Rattle.gql_request.specs.Response.{response_json}
+use Rattle.gql_request.specs.BatchResponse.{batch_json, responses_of}
+use Rattle.gql_request.specs.declared.batch_response.BatchResponse.{BatchResponse}
 use Rattle.gql_request.specs.declared.response.Response.{Response}
 use Rattle.gql_resolve.specs.declared.record_entry.RecordEntry.{RecordEntry}
 
@@ -28,17 +30,22 @@ unfoldable pub json_of : List ℕ → Option Data
 json_of bytes = if is_utf8 bytes then read bytes else None
 
 -- the line of a response: its JSON, and the end of the line
-abbrev pub response_line : Response → List ℕ
-response_line response = line (response_json response)
+abbrev pub response_line : BatchResponse → List ℕ
+response_line response = line (batch_json response)
 
 -- the lines that a command writes of a record, before the response
 abbrev pub lines_for : Command → List RecordEntry → List ℕ
 lines_for Execute entries = []
 lines_for Record entries = record_lines entries
+lines_for Batch entries = []
 
 -- what a command writes of a response and its record
-abbrev pub response_text : Command → List RecordEntry → Response → List ℕ
+abbrev pub response_text : Command → List RecordEntry → BatchResponse → List ℕ
 response_text command entries response = lines_for command entries ++ response_line response
+
+-- the errors of all responses
+abbrev pub errors_in : List Response → List ServerError
+errors_in responses = flat_map (λ (response : Response). response.errors) responses
 
 -- what a response of this text is to a run, by its errors
 abbrev pub outcome_for : List ServerError → List ℕ → Outcome
@@ -49,13 +56,14 @@ outcome_for (error ∷ errors) text = HasErrors text
 pub record IsAnswer (command : Command) (bench : Bench) (outcome : Outcome)
     (entries : List RecordEntry) : Type 0 where
   pub built : is_built bench ≡ true
-  pub response : Response
+  pub response : BatchResponse
   pub answered : IsResponseTo bench (Some entries) response
-  pub is : outcome ≡ outcome_for response.errors (response_text command entries response)
+  pub is : outcome
+      ≡ outcome_for (errors_in (responses_of response)) (response_text command entries response)
 
--- the bench isn't built, or it has no single request
+-- the bench isn't built
 abbrev pub IsUnbuilt : Bench → Type 0
-IsUnbuilt bench = (is_built bench ≡ false) ⊎ HasNoRequest bench
+IsUnbuilt bench = is_built bench ≡ false
 
 -- the line that tells a bad place
 abbrev pub shape_line : List ℕ → List ℕ

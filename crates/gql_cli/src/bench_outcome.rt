@@ -1,7 +1,8 @@
 //! From a bench to what is to be written.
 ghost use Rattle.std.specs.Prelude.{◌≡◌, IfOk};
-ghost use Rattle.gql_cli.specs.Gives.{BenchGives, HoldsTold, WithRecord, lines_for, outcome_for};
-ghost use Rattle.gql_cli.specs.Gives.{response_text};
+ghost use Rattle.gql_cli.specs.Gives.{BenchGives, HoldsTold, WithRecord, errors_in, lines_for};
+ghost use Rattle.gql_cli.specs.Gives.{outcome_for, response_text};
+ghost use Rattle.gql_request.specs.BatchResponse.{responses_of};
 
 use crate::answer::{Answer, answer_to};
 use crate::command::Command;
@@ -9,11 +10,11 @@ use crate::lines::{line_after, line_of};
 use crate::outcome::Outcome;
 use gql_base::{Made, Text};
 use gql_bench::{Bench, Tables, text_behind};
-use gql_request::Response;
+use gql_request::BatchResponse;
 use gql_resolve::RecordEntry;
 use std::alloc::Global;
 
-/// What a bench gives to a command. Its request is executed over a set that `tables` makes, and
+/// What a bench gives to a command. Its requests are executed over a set that `tables` makes, and
 /// that is given back to them before the command writes of its record.
 pub(crate) fn bench_outcome<M: Tables>(
     alloc: Global,
@@ -36,18 +37,18 @@ pub(crate) fn bench_outcome<M: Tables>(
             let line = line_after(alloc, "schema: ", text.as_str())?;
             Ok(Outcome::BadSchema(line))
         }
-        Answer::NotBuilt => Ok(Outcome::NotBuilt),
     }
 }
 
 /// What a response is to a run, with the record of its polls.
+#[tactic(auto, using(crate::proofs::ErrorLemmas::all_answered, crate::proofs::ErrorLemmas::one_failed))]
 fn response_outcome(
     alloc: Global,
     command: Command,
     entries: &[RecordEntry],
-    response: &Response,
+    response: &BatchResponse,
 ) -> Made<Outcome>
-    ensures { IfOk result (λ outcome. outcome ≡ outcome_for response.now.errors
+    ensures { IfOk result (λ outcome. outcome ≡ outcome_for (errors_in (responses_of response.now))
         (response_text command entries.now response.now)) }
 {
     let text = written_text(alloc, command, entries, response)?;
@@ -63,13 +64,13 @@ fn written_text(
     alloc: Global,
     command: Command,
     entries: &[RecordEntry],
-    response: &Response,
+    response: &BatchResponse,
 ) -> Made<Text>
     ensures { IfOk result (λ text. text ≡ response_text command entries.now response.now) }
 {
     let line = line_of(alloc, response)?;
     match command {
-        Command::Execute => Ok(line),
+        Command::Execute | Command::Batch => Ok(line),
         Command::Record => text_behind(alloc, entries, &line),
     }
 }

@@ -10,6 +10,8 @@ pub enum Command {
     Execute,
     /// The record of the polls that were made for it, and then the response.
     Record,
+    /// The responses of a bench's requests, which are executed one after another.
+    Batch,
 }
 
 impl Command {
@@ -20,6 +22,7 @@ impl Command {
         match self {
             Command::Execute => FormCommand::Execute,
             Command::Record => FormCommand::Record,
+            Command::Batch => FormCommand::Batch,
         }
     }
 }

@@ -13,7 +13,7 @@ use gql_io::{Reading, Source, read_whole};
 use std::alloc::Global;
 
 /// Finds what is due: the words are looked at first, and where they are listed the source is read
-/// whole. A bench's request is executed over a set that `tables` makes and holds.
+/// whole. A bench's requests are executed over a set that `tables` makes and holds.
 pub(crate) fn decide<I: Source, M: Tables>(
     alloc: Global,
     words: &[String],
@@ -52,6 +52,7 @@ fn command_named(word: &str) -> Option<Command>
     match word {
         "execute" => Some(Command::Execute),
         "record" => Some(Command::Record),
+        "batch" => Some(Command::Batch),
         _ => None,
     }
 }

@@ -1,10 +1,11 @@
 //! The lines that a run writes.
-ghost use Rattle.std.specs.Prelude.{◌≡◌, ◌++◌, IfOk};
+ghost use Rattle.std.specs.Prelude.{◌≡◌, ◌++◌, IfOk, OnOk, string_bytes};
 ghost use Rattle.gql_cli.specs.Gives.{response_line};
 ghost use Rattle.gql_cli.specs.Outcome.{line};
+ghost use Rattle.gql_request.specs.BatchResponse.{batch_json};
 
-use gql_base::{JsonText, Made, Text};
-use gql_request::Response;
+use gql_base::{JsonText, Made, Text, push_list};
+use gql_request::BatchResponse;
 use std::alloc::Global;
 
 /// The line of a text after these words.
@@ -17,12 +18,23 @@ pub(crate) fn line_after(alloc: Global, words: &str, text: &str) -> Made<Text>
     Ok(Text::from_string(out))
 }
 
-/// The line of a response.
-pub(crate) fn line_of(alloc: Global, response: &Response) -> Made<Text>
+/// The line of a response, or of those to a batch.
+pub(crate) fn line_of(alloc: Global, response: &BatchResponse) -> Made<Text>
     ensures { IfOk result (λ text. text ≡ response_line response.now) }
 {
     let mut out = String::new(alloc);
-    response.push_text(&mut out)?;
+    push_response(&mut out, response)?;
     out.push_str("\n")?;
     Ok(Text::from_string(out))
+}
+
+/// Appends the JSON of a single response, or that of the list of them all.
+fn push_response(out: &mut String, response: &BatchResponse) -> Made<()>
+    ensures { OnOk result (string_bytes out.new ≡ string_bytes out.old
+        ++ batch_json response.now) }
+{
+    match response {
+        BatchResponse::Single(response) => response.push_text(out),
+        BatchResponse::Batch(responses) => push_list(out, responses.as_slice()),
+    }
 }

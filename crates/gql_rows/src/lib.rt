@@ -5,6 +5,8 @@
 #[cfg(test)]
 mod argument_tests;
 #[cfg(test)]
+mod batch_tests;
+#[cfg(test)]
 mod bench_tests;
 #[cfg(test)]
 mod benches;

@@ -1,4 +1,4 @@
-use Rattle.std.proofs.Common.{[], ap, inr, sym, ◌∙◌}
+use Rattle.std.proofs.Common.{[], ap, sym, ◌∙◌}
 use Rattle.gql_cli.proofs.GivesLemmas.{response_gives}
 use Rattle.gql_cli.specs.Gives.{schema_line}
 use Rattle.gql_cli.proofs.bench_outcome.bench_outcome.Goals as goal
@@ -20,6 +20,3 @@ returns-in_ok-line-in-BadSchema g c = (
   },
   tt,
 )
-
-pub returns-in-NotBuilt : goal.returns-in-NotBuilt
-returns-in-NotBuilt g c = ([], inr (rw c.in-NotBuilt.is at c.in_ok-response.ensures), tt)
