@@ -1,17 +1,24 @@
 -- What the takes of the cursor read.
-use Rattle.std.proofs.Common.{◌≡◌, ℕ, true, false, List, [], ◌∷◌, Some, None, Ok, Err, refl, sym, ap, ◌∙◌}
+use Rattle.std.proofs.Common.{◌≡◌, ℕ, true, false, List, [], ◌∷◌, Option, Some, None, Ok, Err, refl, sym, ap, ◌∙◌}
 use Rattle.gql_base.specs.declared.pos.Pos.{Pos}
 use Rattle.gql_tokens.specs.declared.token.Token.{Token}
 use Rattle.gql_tokens.specs.declared.token.Lexeme.{Lexeme}
 use Rattle.gql_tokens.specs.declared.token.Lexeme.TheVariants as lexeme
 use Rattle.gql_tokens.specs.declared.token.Punctuator.{Punctuator}
 use Rattle.gql_doc.specs.declared.trouble.Trouble.TheVariants.{Unexpected}
+use Rattle.gql_tokens.proofs.TokenFronts.{tokens_left}
 use Rattle.gql_doc.specs.Words.{Tokens}
 use Rattle.gql_doc.specs.Readers.{begins, behind_first, place_of, picked, take_one}
 use Rattle.std.specs.Prelude.{not, ◌&&◌, codes}
 use Rattle.gql_doc.specs.declared.document.OperationType.{OperationType}
 use Rattle.gql_doc.specs.declared.tree.ValueTree.{ValueTree}
 use Rattle.gql_doc.specs.Reading.{is_sign, is_word, is_name, is_fragment_name, is_scalar, is_end, says_name, says_word, says_scalar, if_so, with_pos, name_in, fragment_name_in, scalar_in, next_operation, take_sign, take_word, take_name, take_fragment_name, take_scalar, take_operation, take_end}
+
+-- where no token was read, none is left
+pub nothing_left : (before : Option Token) (place : Pos) (text : List ℕ) (old : Tokens) → before ≡ None → tokens_left before place text ≡ old
+    → begins (λ _. true) old ≡ true → ⊥
+nothing_left before place text old none is some =
+    let no_token : false ≡ true = sym (ap (begins (λ _. true)) (sym is ∙ ap (λ o. tokens_left o place text) none)) ∙ some in cc
 
 pub sign_taken : (sign : Punctuator) (tokens : Tokens) → begins (is_sign sign) tokens ≡ true → take_sign sign tokens ≡ (Ok (place_of tokens), behind_first tokens)
 unfolding take_sign

@@ -1,6 +1,11 @@
 //! The tokens that are left to read.
-ghost use Rattle.std.specs.Prelude.{◌≡◌, [], ◌∷◌, MatchOption};
+ghost use Rattle.std.specs.Prelude.{◌≡◌, ◌∷◌, true, drop, IfOk, OnOk};
+ghost use Rattle.std.specs.Str.{chars};
 ghost use Rattle.std.specs.Option.{option_copied};
+ghost use Rattle.gql_tokens.specs.Place.{text_start};
+ghost use Rattle.gql_tokens.specs.Lexer.{Lexes, EndFinally};
+ghost use Rattle.gql_tokens.specs.Reaching.{IsReached};
+ghost use Rattle.gql_tokens.proofs.TokenFronts.{tokens_behind, tokens_left, is_last};
 ghost use Rattle.gql_doc.specs.Readers.{first, behind_first, begins, place_of, too_deep as deep_at};
 ghost use Rattle.gql_doc.specs.Readers.{Leaves};
 ghost use Rattle.gql_doc.specs.Reading as reading;
@@ -16,55 +21,121 @@ ghost use Rattle.gql_doc.specs.Reading.{take_operation as read_operation, take_e
 use crate::document::{OperationType, Positioned};
 use crate::tree::ValueTree;
 use crate::trouble::{ReadError, Trouble};
-use gql_base::{Items, Name, Pos, Text};
-use gql_tokens::{Lexeme, Punctuator, Token};
+use gql_base::{Made, Name, Pos, Text};
+use gql_tokens::{Lexeme, Punctuator, Reached, Token, characters_of, is_final, next_token};
+use std::alloc::Global;
 use std::marker::Model;
+use std::mem;
 
-/// The tokens that are left, with the next one last. Contracts see them in their order.
+/// The tokens that are left to read. The next one is at hand, and those behind it are read from the
+/// text as they are asked for. Contracts see them all, in their order.
 #[derive(Debug, Drop)]
 pub struct Cursor {
-    tokens: Vec<Token>,
+    characters: Vec<char>,
+    reached: Reached,
+    next: Option<Token>,
 }
 
 impl Model for Cursor {
-    ghost use Rattle.std.specs.Prelude.{List, reverse};
+    ghost use Rattle.std.specs.Prelude.{List, drop};
     ghost use Rattle.gql_tokens.specs.declared.token.Token.{Token};
+    ghost use Rattle.gql_tokens.specs.Reaching.{IsReached};
+    ghost use Rattle.gql_tokens.proofs.TokenFronts.{tokens_left};
 
     ghost Value = { List Token };
 
-    ghost view = { λ cursor. reverse cursor.tokens.items };
+    ghost view = { λ cursor. tokens_left cursor.next cursor.reached.place
+        (drop cursor.reached.at cursor.characters.items) };
+
+    ghost invariant = { λ cursor. IsReached cursor.characters.items cursor.reached };
+}
+
+/// Whether no token stands behind this one.
+fn is_last(next: &Option<Token>) -> bool
+    ensures { result ≡ is_last next.now }
+{
+    match next {
+        Some(token) => is_final(&token.lexeme),
+        None => true,
+    }
+}
+
+/// The token that follows, unless the last one was read.
+fn following(
+    alloc: Global,
+    characters: &[char],
+    reached: &mut Reached,
+    last: bool,
+) -> Made<Option<Token>>
+    requires { IsReached characters.now reached.old }
+    ensures reached { IsReached characters.now reached.new }
+    ensures next { IfOk result (λ next.
+        tokens_behind last reached.old.place (drop reached.old.at characters.now)
+        ≡ tokens_left next reached.new.place (drop reached.new.at characters.now)) }
+{
+    if last {
+        return Ok(None);
+    }
+    let next = next_token(alloc, characters, reached)?;
+    Ok(Some(next))
 }
 
 impl Cursor {
-    /// All of these tokens.
-    pub fn new(tokens: Items<Token>) -> Cursor
-        ensures { result ≡ tokens }
+    /// The tokens of a text.
+    pub fn of(alloc: Global, text: &str) -> Made<Cursor>
+        ensures exact { IfOk result (λ tokens. Lexes text_start (chars text.now) tokens) }
+        ensures ends { IfOk result EndFinally }
     {
-        let mut tokens = tokens.into_vec();
-        tokens.reverse();
-        Cursor { tokens }
+        let characters = characters_of(alloc, text)?;
+        let tokens = Cursor::from_characters(alloc, characters)?;
+        Ok(tokens)
+    }
+
+    /// The tokens of a list of characters.
+    fn from_characters(alloc: Global, characters: Vec<char>) -> Made<Cursor>
+        ensures { IfOk result (λ tokens. Lexes text_start characters.items tokens) }
+    {
+        let mut reached = Reached::start();
+        let next = next_token(alloc, &characters, &mut reached)?;
+        Ok(Cursor {
+            characters,
+            reached,
+            next: Some(next),
+        })
     }
 
     /// The next token.
     pub fn next(&self) -> Option<&Token>
         ensures { option_copied result ≡ first self.now }
     {
-        self.tokens.last()
+        match &self.next {
+            Some(token) => Some(token),
+            None => None,
+        }
     }
 
     /// Takes the next token.
-    pub fn pop(&mut self) -> Option<Token>
-        ensures { MatchOption result ((self.old ≡ []) × (self.new ≡ []))
-            (λ token. self.old ≡ token ∷ self.new) }
+    #[tactic(auto, using(gql_tokens::proofs::TokenFronts::taken_is, crate::proofs::CursorLaws::nothing_left))]
+    pub fn pop(&mut self) -> Made<Token>
+        requires { begins (λ _. true) self.old ≡ true }
+        ensures { IfOk result (λ token. self.old ≡ token ∷ self.new) }
     {
-        self.tokens.pop()
+        let alloc = *self.characters.allocator();
+        let last = is_last(&self.next);
+        let next = following(alloc, &self.characters, &mut self.reached, last)?;
+        match mem::replace(&mut self.next, next) {
+            Some(token) => Ok(token),
+            None => unreachable!(),
+        }
     }
 
     /// Lets the next token go.
-    fn skip(&mut self)
-        ensures { self.new ≡ behind_first self.old }
+    fn skip(&mut self) -> Made<()>
+        requires { begins (λ _. true) self.old ≡ true }
+        ensures { OnOk result (self.new ≡ behind_first self.old) }
     {
-        drop(self.pop());
+        drop(self.pop()?);
+        Ok(())
     }
 
     /// Whether this sign is next.
@@ -187,7 +258,7 @@ impl Cursor {
             return Err(ReadError::Stopped(Trouble::Unexpected));
         }
         let pos = self.pos();
-        self.skip();
+        self.skip()?;
         Ok(pos)
     }
 
@@ -200,7 +271,7 @@ impl Cursor {
             return Err(ReadError::Stopped(Trouble::Unexpected));
         }
         let pos = self.pos();
-        self.skip();
+        self.skip()?;
         Ok(pos)
     }
 
@@ -212,9 +283,7 @@ impl Cursor {
         if !self.is_at_name() {
             return Err(ReadError::Stopped(Trouble::Unexpected));
         }
-        let Some(Token { lexeme, pos }) = self.pop() else {
-            unreachable!()
-        };
+        let Token { lexeme, pos } = self.pop()?;
         let Lexeme::Name(text) = lexeme else {
             unreachable!()
         };
@@ -243,9 +312,7 @@ impl Cursor {
         if !self.is_at_scalar() {
             return Err(ReadError::Stopped(Trouble::Unexpected));
         }
-        let Some(Token { lexeme, pos: _ }) = self.pop() else {
-            unreachable!()
-        };
+        let Token { lexeme, pos: _ } = self.pop()?;
         match scalar_of(lexeme) {
             Some(value) => Ok(value),
             None => unreachable!(),
@@ -260,7 +327,7 @@ impl Cursor {
         match self.next_operation() {
             Some(kind) => {
                 let pos = self.pos();
-                self.skip();
+                self.skip()?;
                 Ok((pos, kind))
             }
             None => Err(ReadError::Stopped(Trouble::Unexpected)),
@@ -276,7 +343,7 @@ impl Cursor {
             return Err(ReadError::Stopped(Trouble::Unexpected));
         }
         let pos = self.pos();
-        self.skip();
+        self.skip()?;
         Ok(pos)
     }
 }

@@ -9,6 +9,7 @@ ghost use Rattle.gql_doc.specs.Spelled.{IsTypeFault, GivesType};
 ghost use Rattle.gql_tokens.specs.Lexer.{EndFinally};
 ghost use Rattle.gql_doc.specs.Ruled.{ruled, query_of};
 
+use crate::cursor::Cursor;
 use crate::definition_building::build_document;
 use crate::document::ExecutableDocument;
 use crate::fault::{ParseFault, ParseKind};
@@ -17,7 +18,6 @@ use crate::tree::DefinitionTree;
 use crate::tree_of::{document_tree, type_tree};
 use crate::trouble::BuildError;
 use gql_base::{Items, Made, TypeRef};
-use gql_tokens::{Token, tokens_of};
 use std::alloc::{AllocError, Global};
 
 /// The document that a text spells, or the text's first fault.
@@ -28,8 +28,8 @@ pub fn parse_query(alloc: Global, text: &str) -> Made<Result<ExecutableDocument,
     ensures faulty { (fault : ParseFault) → IsDocumentFault (chars text.now) fault → IfOk result
         (λ outcome. outcome ≡ Err fault) }
 {
-    let tokens = tokens_of(alloc, text)?;
-    document_of_tokens(alloc, tokens)
+    let mut tokens = Cursor::of(alloc, text)?;
+    document_of_tokens(alloc, &mut tokens)
 }
 
 /// The type that a text spells, or the text's first fault.
@@ -40,19 +40,19 @@ pub fn parse_type(alloc: Global, text: &str) -> Made<Result<TypeRef, ParseFault>
     ensures faulty { (fault : ParseFault) → IsTypeFault (chars text.now) fault → IfOk result
         (λ outcome. outcome ≡ Err fault) }
 {
-    let tokens = tokens_of(alloc, text)?;
-    type_tree(alloc, tokens)
+    let mut tokens = Cursor::of(alloc, text)?;
+    type_tree(alloc, &mut tokens)
 }
 
 /// The document of the tokens of a text, or their first fault.
 fn document_of_tokens(
     alloc: Global,
-    tokens: Items<Token>,
+    cursor: &mut Cursor,
 ) -> Made<Result<ExecutableDocument, ParseFault>>
-    requires { EndFinally tokens }
-    ensures { IfOk result (λ outcome. outcome ≡ query_of tokens) }
+    requires { EndFinally cursor.old }
+    ensures { IfOk result (λ outcome. outcome ≡ query_of cursor.old) }
 {
-    match document_tree(alloc, tokens)? {
+    match document_tree(alloc, cursor)? {
         Ok(tree) => document_by_rules(alloc, tree),
         Err(fault) => Ok(Err(fault)),
     }

@@ -1,4 +1,4 @@
-//! The tree of a list of tokens, or their first fault.
+//! The tree of the tokens of a text, or their first fault.
 ghost use Rattle.std.specs.Prelude.{◌≡◌, List, IfOk};
 ghost use Rattle.gql_base.specs.declared.type_ref.TypeRef.{TypeRef};
 ghost use Rattle.gql_doc.specs.declared.fault.ParseFault.{ParseFault};
@@ -15,60 +15,58 @@ use crate::fault::{ParseFault, ParseKind};
 use crate::tree::DefinitionTree;
 use crate::trouble::{ReadError, Trouble};
 use gql_base::{Items, Made, TypeRef};
-use gql_tokens::{Lexeme, Token};
+use gql_tokens::Lexeme;
 use std::alloc::{AllocError, Global};
 
 /// The definitions that the tokens of a text spell, or the tokens' first fault.
 pub fn document_tree(
     alloc: Global,
-    tokens: Items<Token>,
+    cursor: &mut Cursor,
 ) -> Made<Result<Items<DefinitionTree>, ParseFault>>
-    requires { EndFinally tokens }
-    ensures settled { IfOk result (λ outcome. Settles IsDocument tokens outcome) }
-    ensures spelled { (tree : List DefinitionTree) → Spells IsDocument tokens tree → IfOk result
+    requires { EndFinally cursor.old }
+    ensures settled { IfOk result (λ outcome. Settles IsDocument cursor.old outcome) }
+    ensures spelled { (tree : List DefinitionTree) → Spells IsDocument cursor.old tree → IfOk result
         (λ outcome. outcome ≡ Ok tree) }
-    ensures faulty { (fault : ParseFault) → IsFault IsDocument tokens fault → IfOk result
+    ensures faulty { (fault : ParseFault) → IsFault IsDocument cursor.old fault → IfOk result
         (λ outcome. outcome ≡ Err fault) }
-    ensures read { IfOk result (λ outcome. outcome ≡ parsed_by document tokens) }
+    ensures read { IfOk result (λ outcome. outcome ≡ parsed_by document cursor.old) }
 {
-    read_all_definitions(alloc, tokens)
+    read_all_definitions(alloc, cursor)
 }
 
 /// The type that the tokens of a text spell, or the tokens' first fault.
-pub fn type_tree(alloc: Global, tokens: Items<Token>) -> Made<Result<TypeRef, ParseFault>>
-    requires { EndFinally tokens }
-    ensures settled { IfOk result (λ outcome. Settles IsTypeText tokens outcome) }
-    ensures spelled { (ty : TypeRef) → Spells IsTypeText tokens ty → IfOk result
+pub fn type_tree(alloc: Global, cursor: &mut Cursor) -> Made<Result<TypeRef, ParseFault>>
+    requires { EndFinally cursor.old }
+    ensures settled { IfOk result (λ outcome. Settles IsTypeText cursor.old outcome) }
+    ensures spelled { (ty : TypeRef) → Spells IsTypeText cursor.old ty → IfOk result
         (λ outcome. outcome ≡ Ok ty) }
-    ensures faulty { (fault : ParseFault) → IsFault IsTypeText tokens fault → IfOk result
+    ensures faulty { (fault : ParseFault) → IsFault IsTypeText cursor.old fault → IfOk result
         (λ outcome. outcome ≡ Err fault) }
-    ensures read { IfOk result (λ outcome. outcome ≡ parsed_by type_text tokens) }
+    ensures read { IfOk result (λ outcome. outcome ≡ parsed_by type_text cursor.old) }
 {
-    read_whole_type(alloc, tokens)
+    read_whole_type(alloc, cursor)
 }
 
-/// What the tokens are read as.
+/// What the tokens that are left are read as.
 fn read_all_definitions(
     alloc: Global,
-    tokens: Items<Token>,
+    cursor: &mut Cursor,
 ) -> Made<Result<Items<DefinitionTree>, ParseFault>>
-    ensures { IfOk result (λ outcome. outcome ≡ parsed_by document tokens) }
+    ensures { IfOk result (λ outcome. outcome ≡ parsed_by document cursor.old) }
 {
-    let mut cursor = Cursor::new(tokens);
-    match read_document(alloc, &mut cursor) {
+    match read_document(alloc, cursor) {
         Ok(tree) => Ok(Ok(tree)),
-        Err(error) => Ok(Err(fault_at(&cursor, error)?)),
+        Err(error) => Ok(Err(fault_at(cursor, error)?)),
     }
 }
 
 /// What the tokens of one type are read as.
-fn read_whole_type(alloc: Global, tokens: Items<Token>) -> Made<Result<TypeRef, ParseFault>>
-    ensures { IfOk result (λ outcome. outcome ≡ parsed_by type_text tokens) }
+fn read_whole_type(alloc: Global, cursor: &mut Cursor) -> Made<Result<TypeRef, ParseFault>>
+    ensures { IfOk result (λ outcome. outcome ≡ parsed_by type_text cursor.old) }
 {
-    let mut cursor = Cursor::new(tokens);
-    match read_type_text(alloc, &mut cursor) {
+    match read_type_text(alloc, cursor) {
         Ok(ty) => Ok(Ok(ty)),
-        Err(error) => Ok(Err(fault_at(&cursor, error)?)),
+        Err(error) => Ok(Err(fault_at(cursor, error)?)),
     }
 }
 

@@ -5,11 +5,14 @@ pub mod BlockLaws
 pub mod GapLaws
 pub mod LexerLaws
 pub mod NameLaws
+pub mod NumberFronts
 pub mod NumberLaws
 pub mod NumeralLaws
 pub mod PlaceLaws
 pub mod SourceLaws
 pub mod StandsLaws
 pub mod StepLaws
+pub mod StringFronts
 pub mod StringLaws
+pub mod TokenFronts
 pub mod TokenLaws

@@ -104,10 +104,10 @@ digits_some text n e some =
       digits_only text,
     )
 
-digit_bad : (c : ℕ) → is_ascii_digit c ≡ true → is_bad_after_number c ≡ true
+pub digit_bad : (c : ℕ) → is_ascii_digit c ≡ true → is_bad_after_number c ≡ true
 digit_bad c h = grind (arith, nat_tests)
 
-exponent_bad : (c : ℕ) → begins_exponent c ≡ true → is_bad_after_number c ≡ true
+pub exponent_bad : (c : ℕ) → begins_exponent c ≡ true → is_bad_after_number c ≡ true
 exponent_bad c h = grind (arith, nat_tests)
 
 -- what isn't bad is less
@@ -148,7 +148,7 @@ pub exponent_follows : Follows (Optional IsExponent) is_bad_after_fraction is_ba
 exponent_follows cs rest (inl none) ends = ap (λ l. begins is_bad_after_fraction (l ++ rest)) none ∙ fewer is_bad_after_fraction is_bad_after_number fraction_bad rest ends
 exponent_follows cs rest (inr h) ends = ap (λ l. begins is_bad_after_fraction (l ++ rest)) h.2 ∙ exponent_no_fraction h.0 h.3
 
-fraction_digit : (c : ℕ) → is_ascii_digit c ≡ true → is_bad_after_fraction c ≡ true
+pub fraction_digit : (c : ℕ) → is_ascii_digit c ≡ true → is_bad_after_fraction c ≡ true
 fraction_digit c h = grind (arith, nat_tests)
 
 -- behind an integer stands a fraction, an exponent or what may follow a number

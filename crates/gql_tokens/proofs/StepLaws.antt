@@ -1,16 +1,18 @@
 -- One token of a text, and those behind it.
-use Rattle.std.proofs.Common.{◌≡◌, ℕ, ◌+◌, ◌-◌, ◌≤◌, true, false, List, [], ◌∷◌, ◌++◌, length, take, drop, refl, sym, ap, ◌∙◌, inl, inr, arith, take-append-drop, drop-drop, length-drop, subst, subst₂, append_assoc}
+use Rattle.std.proofs.Common.{◌≡◌, ℕ, ◌+◌, ◌-◌, ◌≤◌, Bool, true, false, List, [], ◌∷◌, ◌++◌, length, take, drop, refl, sym, ap, ◌∙◌, inl, inr, arith, take-append-drop, drop-drop, length-drop, subst, subst₂, append_assoc}
 use Rattle.std.proofs.lemmas.List.{take_rest}
 use Rattle.gql_base.specs.declared.pos.Pos.{Pos}
 use Rattle.gql_tokens.specs.declared.token.Lexeme.{Lexeme}
 use Rattle.gql_tokens.specs.declared.token.Lexeme.TheVariants as lexemes
 use Rattle.gql_tokens.specs.declared.token.Token.{Token}
+use Rattle.gql_tokens.specs.declared.reaching.Reached.{Reached}
 use Rattle.gql_tokens.specs.Characters.{is_source}
 use Rattle.gql_tokens.specs.Gap.{IsGap}
 use Rattle.gql_tokens.specs.Place.{place_after}
 use Rattle.gql_tokens.specs.Token.{IsToken, is_final}
 use Rattle.gql_tokens.specs.Lexer.{Finishes, Lexes, EndFinally}
 use Rattle.gql_tokens.specs.Parts.{NoBlockEnds, StandsAt, IsStep}
+use Rattle.gql_tokens.specs.Reaching.{IsReached, IsNext}
 use Rattle.gql_tokens.proofs.Lists.{Each}
 use Rattle.gql_tokens.proofs.BlockEnds.{no_block_ends_behind}
 use Rattle.gql_tokens.proofs.SourceLaws.{gap_source, spelling_source}
@@ -95,3 +97,25 @@ pub more_tokens : (text : List ℕ) (start here behind : Pos) (at n : ℕ) (toke
 more_tokens text start here behind at n token tokens so_far step more h =
     subst (Lexes start text) (sym (append_assoc tokens (token ∷ []) more))
     (so_far (token ∷ more) (step more (subst (λ l. Lexes behind l more) (sym (drop-drop n at text)) h)))
+
+-- what is reached with one more token
+module _ (text : List ℕ) (here : Reached) (token : Token) (n : ℕ) (place : Pos) (blocks_end : Bool) (reached : IsReached text here)
+    (step : IsStep here.place (take (length text - here.at) (drop here.at text)) token n place) where
+  step_here : IsStep here.place (drop here.at text) token n place
+  step_here = subst (λ l. IsStep here.place l token n place) (take_rest text here.at) step
+
+  pub reached_behind : (blocks_end ≡ false → NoBlockEnds (drop n (take (length text - here.at) (drop here.at text))))
+      → IsReached text (record { at = here.at + n; place = place; blocks_end = blocks_end })
+  reached_behind known = record {
+    within = omega (arith, step_here.within, length-drop here.at text, reached.within);
+    line = omega (arith, step_here.line, reached.line);
+    column = omega (arith, step_here.column, reached.column);
+    known = λ off. subst NoBlockEnds (ap (drop n) (take_rest text here.at) ∙ drop-drop n here.at text) (known off);
+  }
+
+  pub step_next : IsNext text here token (record { at = here.at + n; place = place; blocks_end = blocks_end })
+  step_next = record {
+    last = step_here.last;
+    some = λ more. omega (arith, step_here.some more);
+    more = λ more tokens h. step_here.more more tokens (subst (λ l. Lexes place l tokens) (sym (drop-drop n here.at text)) h);
+  }

@@ -19,7 +19,7 @@ escaped_not_u : (c v : ℕ) → escaped c ≡ Some v → c ≡ 117 → ⊥
 escaped_not_u c v h e = let k : Some v ≡ None = sym h ∙ ap escaped e in cc
 
 -- the first character of a written one
-first_written : (v : ℕ) (cs : List ℕ) → WritesCharacter v cs
+pub first_written : (v : ℕ) (cs : List ℕ) → WritesCharacter v cs
     → (c : ℕ) × (more : List ℕ) × (cs ≡ c ∷ more) × ((is_plain c ≡ true) ⊎ (c ≡ backslash))
 first_written v cs (inl h) = (v, [], h.0, inl h.1)
 first_written v cs (inr (inl h)) = (backslash, h.0 ∷ [], h.1, inr refl)

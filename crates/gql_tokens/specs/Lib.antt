@@ -7,5 +7,6 @@ pub mod Name
 pub mod Number
 pub mod Parts
 pub mod Place
+pub mod Reaching
 pub mod String
 pub mod Token

@@ -220,7 +220,8 @@ fn token_at(alloc: Global, text: &[char], blocks_end: &mut bool) -> Made<Reading
     }
 }
 
-fn is_final(lexeme: &Lexeme) -> bool
+/// Whether a list of tokens ends in a token that says this.
+pub fn is_final(lexeme: &Lexeme) -> bool
     ensures { result ≡ is_final lexeme.now }
 {
     matches!(
@@ -250,14 +251,14 @@ fn place_behind(pos: Pos, lexeme: &Lexeme, text: &[char], count: usize) -> Pos
 
 /// A token, how far it and what is ignored before it reach, and the place behind it.
 #[derive(Drop)]
-struct Step {
-    token: Token,
-    length: usize,
-    place: Pos,
+pub struct Step {
+    pub token: Token,
+    pub length: usize,
+    pub place: Pos,
 }
 
 /// The first token of a text that begins at a place.
-fn step_at(alloc: Global, place: Pos, text: &[char], blocks_end: &mut bool) -> Made<Step>
+pub fn step_at(alloc: Global, place: Pos, text: &[char], blocks_end: &mut bool) -> Made<Step>
     requires line { place.line + length text.now < 2 ^ 64 }
     requires column { place.column + length text.now < 2 ^ 64 }
     requires known { blocks_end.old ≡ false → NoBlockEnds text.now }

@@ -1,5 +1,7 @@
 use gql_base::{Made, Number};
-use gql_tokens::{Lexeme, Punctuator, Token, tokens_of};
+use gql_tokens::{
+    Lexeme, Punctuator, Reached, Token, characters_of, is_final, next_token, tokens_of,
+};
 use std::alloc::Global;
 
 /// A punctuator as it is written.
@@ -149,6 +151,33 @@ fn tokens_have_their_places(rt: HostRuntime) -> Result<(), std::test::Fail> {
         let found = shown(rt.alloc(), *text)?;
         assert_eq!(rt; found.as_str(), *tokens, "at {text}");
     }
+    Ok(())
+}
+
+/// The second token of a text, which is read behind the first.
+fn second_of(alloc: Global, text: &str) -> Made<Token> {
+    let characters = characters_of(alloc, text)?;
+    let mut reached = Reached::start();
+    drop(next_token(alloc, &characters, &mut reached)?);
+    next_token(alloc, &characters, &mut reached)
+}
+
+/// The second token of a text as `show_token` tells it, and whether it is the last.
+fn second_shown(alloc: Global, text: &str) -> Made<(String, bool)> {
+    let token = second_of(alloc, text)?;
+    let mut out = String::new(alloc);
+    show_token(&mut out, &token)?;
+    Ok((out, is_final(&token.lexeme)))
+}
+
+#[test]
+fn tokens_are_read_one_by_one(rt: HostRuntime) -> Result<(), std::test::Fail> {
+    let (name, last) = second_shown(rt.alloc(), "{\n a")?;
+    assert_eq!(rt; name.as_str(), "2:2 a");
+    assert!(rt; !last);
+    let (end, last) = second_shown(rt.alloc(), "a")?;
+    assert_eq!(rt; end.as_str(), "1:2 END");
+    assert!(rt; last);
     Ok(())
 }
 

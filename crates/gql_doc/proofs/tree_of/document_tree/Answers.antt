@@ -8,12 +8,12 @@ use Rattle.gql_doc.proofs.tree_of.document_tree.Goals as goal
 
 pub returns-clause-settled : goal.returns-clause-settled
 returns-clause-settled c =
-    if_ok_is c.read_all_definitions.result (parsed_by document c.args.tokens) (λ outcome. Settles IsDocument c.args.tokens outcome) c.read_all_definitions.ensures (settled document IsDocument document_reads c.args.tokens c.requires)
+    if_ok_is c.read_all_definitions.result (parsed_by document c.args.cursor.now) (λ outcome. Settles IsDocument c.args.cursor.now outcome) c.read_all_definitions.ensures (settled document IsDocument document_reads c.args.cursor.now c.requires)
 
 pub returns-clause-spelled : goal.returns-clause-spelled
 returns-clause-spelled c = λ tree spells.
-    if_ok_is c.read_all_definitions.result (parsed_by document c.args.tokens) (λ outcome. outcome ≡ Ok tree) c.read_all_definitions.ensures (spelled document IsDocument document_reads c.args.tokens tree spells)
+    if_ok_is c.read_all_definitions.result (parsed_by document c.args.cursor.now) (λ outcome. outcome ≡ Ok tree) c.read_all_definitions.ensures (spelled document IsDocument document_reads c.args.cursor.now tree spells)
 
 pub returns-clause-faulty : goal.returns-clause-faulty
 returns-clause-faulty c = λ fault faulty.
-    if_ok_is c.read_all_definitions.result (parsed_by document c.args.tokens) (λ outcome. outcome ≡ Err fault) c.read_all_definitions.ensures (first_fault document IsDocument document_reads c.args.tokens fault c.requires faulty)
+    if_ok_is c.read_all_definitions.result (parsed_by document c.args.cursor.now) (λ outcome. outcome ≡ Err fault) c.read_all_definitions.ensures (first_fault document IsDocument document_reads c.args.cursor.now fault c.requires faulty)

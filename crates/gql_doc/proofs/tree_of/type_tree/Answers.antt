@@ -8,12 +8,12 @@ use Rattle.gql_doc.proofs.tree_of.type_tree.Goals as goal
 
 pub returns-clause-settled : goal.returns-clause-settled
 returns-clause-settled c =
-    if_ok_is c.read_whole_type.result (parsed_by type_text c.args.tokens) (λ outcome. Settles IsTypeText c.args.tokens outcome) c.read_whole_type.ensures (settled type_text IsTypeText type_text_reads c.args.tokens c.requires)
+    if_ok_is c.read_whole_type.result (parsed_by type_text c.args.cursor.now) (λ outcome. Settles IsTypeText c.args.cursor.now outcome) c.read_whole_type.ensures (settled type_text IsTypeText type_text_reads c.args.cursor.now c.requires)
 
 pub returns-clause-spelled : goal.returns-clause-spelled
 returns-clause-spelled c = λ tree spells.
-    if_ok_is c.read_whole_type.result (parsed_by type_text c.args.tokens) (λ outcome. outcome ≡ Ok tree) c.read_whole_type.ensures (spelled type_text IsTypeText type_text_reads c.args.tokens tree spells)
+    if_ok_is c.read_whole_type.result (parsed_by type_text c.args.cursor.now) (λ outcome. outcome ≡ Ok tree) c.read_whole_type.ensures (spelled type_text IsTypeText type_text_reads c.args.cursor.now tree spells)
 
 pub returns-clause-faulty : goal.returns-clause-faulty
 returns-clause-faulty c = λ fault faulty.
-    if_ok_is c.read_whole_type.result (parsed_by type_text c.args.tokens) (λ outcome. outcome ≡ Err fault) c.read_whole_type.ensures (first_fault type_text IsTypeText type_text_reads c.args.tokens fault c.requires faulty)
+    if_ok_is c.read_whole_type.result (parsed_by type_text c.args.cursor.now) (λ outcome. outcome ≡ Err fault) c.read_whole_type.ensures (first_fault type_text IsTypeText type_text_reads c.args.cursor.now fault c.requires faulty)
