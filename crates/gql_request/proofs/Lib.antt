@@ -4,4 +4,6 @@ pub mod DataLemmas
 pub mod NestLemmas
 pub mod BatchLemmas
 pub mod ResponseLemmas
+pub mod HeaderLemmas
+pub mod HeaderRows
 pub mod SendLemmas

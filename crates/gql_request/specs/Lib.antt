@@ -12,3 +12,6 @@ pub mod BatchRequest
 pub mod Requests
 pub mod Response
 pub mod BatchResponse
+pub mod HeaderFault
+pub mod Headers
+pub mod HeaderPairs

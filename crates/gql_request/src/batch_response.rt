@@ -1,8 +1,15 @@
-ghost use Rattle.std.specs.Prelude.{◌≡◌, ◌↔◌, [], All, IsTrue, IfOk};
+ghost use Rattle.std.specs.Prelude.{◌≡◌, ◌↔◌, [], All, IsTrue, IfOk, OnOk, IsErrOf};
 ghost use Rattle.gql_request.specs.BatchResponse.{responses_of, batch_json};
+ghost use Rattle.gql_request.specs.HeaderPairs.{pairs_left};
+ghost use Rattle.gql_request.specs.Headers.{BatchOverflows, batch_headers};
+ghost use Rattle.http_header.specs.HeaderMap.{pairs};
 
+use crate::header_fault::HeaderFault;
+use crate::header_folding::fold_responses;
+use crate::header_pairs::HeaderPairs;
 use crate::response::Response;
 use gql_base::{Copied, Items, Made, Text, push_list};
+use http_header::HeaderMap;
 use std::alloc::Global;
 
 /// The response to one request, or those to the requests of a batch, in their order.
@@ -21,6 +28,30 @@ impl BatchResponse {
             BatchResponse::Single(response) => response.is_ok(),
             BatchResponse::Batch(responses) => are_ok(responses.as_slice()),
         }
+    }
+
+    /// The headers of the single response, or those of all: each response takes its own over, in
+    /// their order, and its names replace all earlier values of theirs. Where an operation meets a
+    /// full map, that is the answer.
+    pub fn http_headers(&self, alloc: Global) -> Result<HeaderMap, HeaderFault>
+        ensures ok { IfOk result (λ headers. headers ≡ batch_headers self.now) }
+        ensures room { OnOk result (¬ (BatchOverflows self.now)) }
+        ensures full { IsErrOf result HeaderFault.MaxSizeReached → BatchOverflows self.now }
+    {
+        match self {
+            BatchResponse::Single(response) => response.http_headers(alloc),
+            BatchResponse::Batch(responses) => fold_responses(alloc, responses.as_slice()),
+        }
+    }
+
+    /// The pairs of the map that `http_headers` answers, in its order.
+    pub fn http_headers_iter(&self, alloc: Global) -> Result<HeaderPairs, HeaderFault>
+        ensures ok { IfOk result (λ left. pairs_left left ≡ pairs (batch_headers self.now)) }
+        ensures room { OnOk result (¬ (BatchOverflows self.now)) }
+        ensures full { IsErrOf result HeaderFault.MaxSizeReached → BatchOverflows self.now }
+    {
+        let map = self.http_headers(alloc)?;
+        Ok(HeaderPairs::of(alloc, &map)?)
     }
 
     /// The JSON text of the single response, or of the list of them all.

@@ -1,14 +1,18 @@
 ghost use Rattle.std.specs.Prelude.{◌≡◌, ◌↔◌, ◌<◌, ◌++◌, [], length, IsTrue, IfOk, OnOk};
-ghost use Rattle.std.specs.Prelude.{MatchResult, Some, string_bytes};
+ghost use Rattle.std.specs.Prelude.{IsErrOf, MatchResult, Some, string_bytes};
 ghost use Rattle.gql_base.specs.ErrorExtensionValues.{set_in_order};
 ghost use Rattle.gql_base.specs.ErrorJson.{extensions_member};
+ghost use Rattle.gql_request.specs.Headers.{Overflows, headers_of};
 ghost use Rattle.gql_request.specs.Response.{errors_member, response_json};
 
+use crate::header_fault::HeaderFault;
+use crate::header_folding::fold_ops;
 use crate::header_op::HeaderOp;
 use gql_base::{
     Copied, ErrorExtensionValues, Items, JsonText, Made, ServerError, Text, Value, push_errors,
     push_extension_values, push_json,
 };
+use http_header::HeaderMap;
 use std::alloc::Global;
 
 /// A response (GraphQL, October 2021, section 7.1).
@@ -64,6 +68,16 @@ impl Response {
         ensures { result ≡ record self { headers = headers } }
     {
         Response { headers, ..self }
+    }
+
+    /// The map that the operations on headers make, one after another, from the empty one. Where
+    /// an operation meets a full map, that is the answer.
+    pub fn http_headers(&self, alloc: Global) -> Result<HeaderMap, HeaderFault>
+        ensures ok { IfOk result (λ headers. headers ≡ headers_of self.now) }
+        ensures room { OnOk result (¬ (Overflows [] self.now.headers)) }
+        ensures full { IsErrOf result HeaderFault.MaxSizeReached → Overflows [] self.now.headers }
+    {
+        fold_ops(HeaderMap::new(alloc), self.headers.as_slice())
     }
 
     /// True exactly where there is no error.

@@ -1,8 +1,8 @@
 //! Requests, responses and what they hold can be moved to threads and shared between them.
 use crate::{
-    BatchRequest, BatchResponse, Data, DataKey, ExtensionContext, HeaderOp, HookEvent, HookStage,
-    Hooks, IntrospectionMode, NoData, Parents, ParseRequestError, QueryEnv, QueryPathNode, Request,
-    Response,
+    BatchRequest, BatchResponse, Data, DataKey, ExtensionContext, HeaderFault, HeaderOp, HeaderPairs,
+    HookEvent, HookStage, Hooks, IntrospectionMode, NoData, Parents, ParseRequestError, QueryEnv,
+    QueryPathNode, Request, Response,
 };
 
 fn shared<T: Send + Sync>() {}
@@ -10,6 +10,7 @@ fn shared<T: Send + Sync>() {}
 fn public_types<'a>() {
     shared::<Data>();
     shared::<DataKey>();
+    shared::<HeaderFault>();
     shared::<HeaderOp>();
     shared::<HookEvent>();
     shared::<HookStage>();
@@ -43,4 +44,8 @@ fn of_batch_request() {
 
 fn of_batch_response() {
     shared::<BatchResponse>();
+}
+
+fn of_header_pairs() {
+    shared::<HeaderPairs>();
 }

@@ -1,1 +1,10 @@
 pub mod SendLemmas
+pub mod VariableLemmas
+pub mod NestingLemmas
+pub mod StepLemmas
+pub mod OpenLemmas
+pub mod BeneathLaws
+pub mod GuardLemmas
+pub mod SelectionSendLemmas
+pub mod ReadingLemmas
+pub mod NamedLemmas

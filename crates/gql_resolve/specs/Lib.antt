@@ -5,3 +5,12 @@ pub mod Call
 pub mod Lawful
 pub mod Paced
 pub mod Record
+pub mod Guard
+pub mod Variables
+pub mod Nesting
+pub mod Beneath
+pub mod SelectionField
+pub mod OpenSets
+pub mod SelectionFields
+pub mod Lookahead
+pub mod Parameter

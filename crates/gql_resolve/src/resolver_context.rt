@@ -5,10 +5,14 @@ ghost use Rattle.gql_request.specs.QueryEnv.{NestsIn};
 
 use crate::field_value::FieldValue;
 use crate::layers::Layers;
-use gql_base::{Made, Value};
+use crate::look_ahead::Lookahead;
+use crate::parameter::{argument_of, parameter};
+use crate::selection_field::SelectionField;
+use gql_base::{Made, Pos, ServerResult, Value};
 use gql_doc::Field;
-use gql_input::ObjectAccessor;
+use gql_input::{InputType, ObjectAccessor};
 use gql_request::{DataContext, DataKey, NoData, QueryEnv, QueryPathNode};
+use std::alloc::Global;
 
 /// What a resolver is called with.
 #[derive_where(Copy)]
@@ -59,5 +63,50 @@ impl<'a, V> DataContext<'a> for ResolverContext<'a, V> {
 
     fn data_unchecked(&self, key: DataKey) -> &'a Value {
         self.layers.data_unchecked(key)
+    }
+}
+
+impl<'a, V> ResolverContext<'a, V> {
+    ghost use Rattle.std.specs.Prelude.{ℕ, ◌<◌, ◌↔◌, List, [], ◌∷◌, length, IfOk};
+    ghost use Rattle.std.specs.List.{flat_map};
+    ghost use Rattle.gql_resolve.specs.Beneath.{Stands, fields_beneath, named, selections_in};
+    ghost use Rattle.gql_resolve.specs.Lookahead.{covered};
+    ghost use Rattle.gql_resolve.specs.Parameter.{IsParameter};
+    ghost use Rattle.gql_resolve.specs.SelectionField.{seen_of};
+
+    /// A look at what is selected beneath the field: a field of a name is found exactly where one
+    /// stands in the field's set.
+    #[tactic(auto, using(crate::proofs::BeneathLaws::found_of_one))]
+    pub fn look_ahead(&self, alloc: Global) -> Made<Lookahead<'a>>
+        ensures item { IfOk result (λ ahead. covered ahead
+            ≡ record { field = self.now.item.now; env = self.now.env.now } ∷ []) }
+        ensures stands { IfOk result (λ ahead. (name : List ℕ)
+            → (0 < length (flat_map (λ seen. named name (fields_beneath seen)) (covered ahead)))
+            ↔ Stands self.now.env.now.fragments name (selections_in self.now.item.now)) }
+    {
+        Lookahead::from_field(alloc, self.field())
+    }
+
+    /// The field as it stands in the document.
+    pub fn field(&self) -> SelectionField<'a>
+        ensures { seen_of result ≡ record { field = self.now.item.now; env = self.now.env.now } }
+    {
+        SelectionField::new(self.item, self.env)
+    }
+
+    /// What the argument of a name gives at an input type, with the place of its value. A default
+    /// is given where no argument has the name, at line 0 and column 0. A refusal has the same
+    /// place: of a value that isn't of the type, and of a variable that the operation doesn't
+    /// define.
+    pub fn param_value<T: InputType + Drop>(
+        &self,
+        alloc: Global,
+        name: &str,
+        default: Option<T>,
+    ) -> Made<ServerResult<(Pos, T)>>
+        ensures { IfOk result
+            (IsParameter T.read self.now.env.now self.now.item.now name.now default) }
+    {
+        parameter(alloc, self.env, argument_of(self.item, name), default)
     }
 }

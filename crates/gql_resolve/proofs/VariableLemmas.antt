@@ -1,0 +1,40 @@
+-- Values of a document, with what their variables stand for, made one by one; and the refusal of a variable.
+use Rattle.std.proofs.Common.{◌≡◌, ℕ, zero, suc, ◌+◌, List, [], ◌∷◌, ◌++◌, drop, take, Option, Some, None, Result, Ok, Err, IfOk, slice_get, refl, ap, sym, ◌∙◌}
+use Rattle.std.proofs.lemmas.List.{take_more}
+use Rattle.std.proofs.lemmas.Option.{slice_get_within, get_or_from_slice_get}
+use Rattle.std.specs.List.{zip}
+use Rattle.gql_base.specs.Pairs.{names_of, values_of}
+use Rattle.gql_base.specs.declared.pos.Pos.{Pos}
+use Rattle.gql_base.specs.declared.server_error.ServerError.{ServerError}
+use Rattle.gql_base.specs.declared.value.Value.{Value}
+use Rattle.gql_doc.specs.declared.document.DocValue.{DocValue}
+use Rattle.gql_select.specs.Constants.{resolved}
+use Rattle.gql_resolve.specs.Variables.{not_defined, not_defined_text, resolved_members}
+
+-- an error is what is said of its fields
+pub refusal_of : {E : Type 0} (r : Result ServerError E) (name : List ℕ) (pos : Pos) → IfOk r (λ error. error.message ≡ not_defined_text name)
+    → IfOk r (λ error. error.locations ≡ pos ∷ []) → IfOk r (λ error. error.path ≡ []) → IfOk r (λ error. error.extensions ≡ None)
+    → IfOk r (λ error. error ≡ not_defined name pos)
+refusal_of (Ok error) name pos said at path extensions =
+    λ i. record { message = said i; locations = at i; path = path i; extensions = extensions i }
+refusal_of (Err e) name pos said at path extensions = tt
+
+-- one more member has what its variables stand for
+pub resolved_more : (known : List ℕ → Value) (ms : List (List ℕ × DocValue)) (i : ℕ) (n : List ℕ) (w : DocValue) (vs vs' : List Value) (v : Value)
+    → slice_get ms i ≡ Some (n, w) → vs ≡ values_of (resolved_members known (take i ms)) → v ≡ resolved known w → vs' ≡ vs ++ v ∷ []
+    → vs' ≡ values_of (resolved_members known (take (i + 1) ms))
+resolved_more known ms i n w vs vs' v at before is added =
+    let more : take (i + 1) ms ≡ take i ms ++ (n, w) ∷ []
+    = take_more ms i (n, w) (slice_get_within ms i (n, w) at) ∙ ap (λ p. take i ms ++ p ∷ []) (get_or_from_slice_get ms i (n, w) (n, w) at) in
+    added
+    ∙ (λ j. before j ++ is j ∷ [])
+    ∙ sym (last_value (take i ms))
+    ∙ ap (λ xs. values_of (resolved_members known xs)) (sym more)
+  where
+    last_value : (xs : List (List ℕ × DocValue)) → values_of (resolved_members known (xs ++ (n, w) ∷ [])) ≡ values_of (resolved_members known xs) ++ resolved known w ∷ []
+    last_value [] = refl
+    last_value (x ∷ xs) = ap (λ ys. resolved known x.1 ∷ ys) (last_value xs)
+
+pub resolved_whole : (known : List ℕ → Value) (ms : List (List ℕ × DocValue)) → zip (names_of ms) (values_of (resolved_members known ms)) ≡ resolved_members known ms
+resolved_whole known [] = refl
+resolved_whole known (m ∷ ms) = ap (λ ys. (m.0, resolved known m.1) ∷ ys) (resolved_whole known ms)

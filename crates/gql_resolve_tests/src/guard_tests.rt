@@ -1,0 +1,97 @@
+//! Guards, and guards of two guards.
+use crate::parts::Parts;
+use gql_base::{Error, Made, Text};
+use gql_doc::OperationType;
+use gql_resolve::{FnGuard, Guard, GuardExt, ResolverContext};
+use std::alloc::Global;
+use std::test::Fail;
+
+/// A guard that always passes.
+#[derive(Clone, Copy)]
+struct Passes;
+
+impl Guard<u64> for Passes {
+    ghost use Rattle.std.specs.Prelude.{◌≡◌, Ok};
+
+    ghost can_check = { λ guard context. Unit {0} };
+
+    ghost gives = { λ guard context passed. passed ≡ Ok tt };
+
+    fn check(&self, _alloc: Global, _context: &ResolverContext<'_, u64>) -> Made<Result<(), Error>> {
+        Ok(Ok(()))
+    }
+}
+
+/// A guard that always fails, with a text.
+#[derive(Clone, Copy)]
+struct Fails(&'static str);
+
+impl Guard<u64> for Fails {
+    ghost use Rattle.std.specs.Prelude.{◌≡◌, Err};
+    ghost use Rattle.gql_base.specs.ErrorExtensions.{bare};
+
+    ghost can_check = { λ guard context. Unit {0} };
+
+    ghost gives = { λ guard context passed. passed ≡ Err (bare guard.0.now) };
+
+    fn check(&self, alloc: Global, _context: &ResolverContext<'_, u64>) -> Made<Result<(), Error>> {
+        Ok(Err(Error::new(alloc, self.0)?))
+    }
+}
+
+/// The error of a guard, or an empty text where it passes.
+fn told<G: Guard<u64>>(
+    alloc: Global,
+    guard: &G,
+    context: &ResolverContext<'_, u64>,
+) -> Made<Text>
+    requires { G.can_check guard.now context.now }
+{
+    match guard.check(alloc, context)? {
+        Ok(()) => Text::new(alloc, ""),
+        Err(error) => Ok(error.message),
+    }
+}
+
+/// The errors of five guards, one behind another.
+fn all_told(alloc: Global, context: &ResolverContext<'_, u64>) -> Made<Text> {
+    let mut out = String::new(alloc);
+    let both = told(alloc, &Passes.and(Fails("x")), context)?;
+    let first = told(alloc, &Fails("x").and(Fails("y")), context)?;
+    let second = told(alloc, &Fails("x").or(Fails("y")), context)?;
+    let either = told(alloc, &Fails("x").or(Passes), context)?;
+    let all = told(alloc, &Passes.and(Passes).or(Fails("y")), context)?;
+    write!(out, "{both} {first} {second} {either} {all}")?;
+    Ok(Text::from_string(out))
+}
+
+/// The error of a closure that looks at the context's task.
+fn closure_told(alloc: Global, context: &ResolverContext<'_, u64>, task: u64) -> Made<Text> {
+    let guard = FnGuard(|context: &ResolverContext<'_, u64>| {
+        if context.task == task {
+            Ok(Ok(()))
+        } else {
+            Ok(Err(Error::new(alloc, "another task")?))
+        }
+    });
+    told(alloc, &guard, context)
+}
+
+fn guards_told(alloc: Global, parts: &Parts) -> Made<Text> {
+    let context = parts.context();
+    let mut out = String::new(alloc);
+    let guards = all_told(alloc, &context)?;
+    let third = closure_told(alloc, &context, 3)?;
+    let fourth = closure_told(alloc, &context, 4)?;
+    write!(out, "{guards};{third};{fourth}")?;
+    Ok(Text::from_string(out))
+}
+
+#[test]
+fn guards_pass_or_tell(rt: HostRuntime) -> Result<(), Fail> {
+    let parts = Parts::new(rt.alloc(), OperationType::Query)?;
+    let told = guards_told(rt.alloc(), &parts);
+    drop(parts);
+    assert_eq!(rt; told?.as_str(), "x x y  ;;another task");
+    Ok(())
+}
