@@ -83,21 +83,21 @@ operation_alike tokens =
     (λ kind. optional is_name take_name then (λ name. variables_draft then (λ vs. directives_draft Allowed then (λ ds. mapped (operation_of kind.0 kind.1 name vs ds) (set_draft max_levels)))))
     (λ kind. optional is_name take_name then (λ name. variables then (λ vs. directives Allowed then (λ ds. mapped (tree_operation kind.0 kind.1 name vs ds) (set_at max_levels))))) tokens
     (λ kind a.
-      bind_same seen told (optional is_name take_name)
-      (λ name. variables_draft then (λ vs. directives_draft Allowed then (λ ds. mapped (operation_of kind.0 kind.1 name vs ds) (set_draft max_levels))))
-      (λ name. variables then (λ vs. directives Allowed then (λ ds. mapped (tree_operation kind.0 kind.1 name vs ds) (set_at max_levels)))) a
-      (λ name b.
-        bind_alike shown (given (map variable_of) (first_in doubled_in_variable)) seen told variables_draft variables
-        (λ vs. directives_draft Allowed then (λ ds. mapped (operation_of kind.0 kind.1 name vs ds) (set_draft max_levels)))
-        (λ vs. directives Allowed then (λ ds. mapped (tree_operation kind.0 kind.1 name vs ds) (set_at max_levels))) b (variables_alike b)
-        (λ x vs c one.
-          bind_alike shown (given (map directive_of) doubled_in_directives) seen told (directives_draft Allowed) (directives Allowed)
-          (λ ds. mapped (operation_of kind.0 kind.1 name x ds) (set_draft max_levels)) (λ ds. mapped (tree_operation kind.0 kind.1 name vs ds) (set_at max_levels)) c (directives_alike Allowed c)
-          (λ y ds d two.
-            map_alike shown (given whole_set_of doubled_in_set) seen told (set_draft max_levels) (set_at max_levels) (operation_of kind.0 kind.1 name x y) (tree_operation kind.0 kind.1 name vs ds) d (set_alike max_levels d)
-            (λ z inner three.
-              ap (λ node. inl (kind.0, name, node))
-              (three_shown (operation_made kind.1) x.doubled (first_in doubled_in_variable vs) y.doubled (doubled_in_directives ds) z.doubled (doubled_in_set inner) x.part (map variable_of vs) y.part (map directive_of ds) z.part (whole_set_of inner) one two three))))))
+    bind_same seen told (optional is_name take_name)
+    (λ name. variables_draft then (λ vs. directives_draft Allowed then (λ ds. mapped (operation_of kind.0 kind.1 name vs ds) (set_draft max_levels))))
+    (λ name. variables then (λ vs. directives Allowed then (λ ds. mapped (tree_operation kind.0 kind.1 name vs ds) (set_at max_levels)))) a
+    (λ name b.
+    bind_alike shown (given (map variable_of) (first_in doubled_in_variable)) seen told variables_draft variables
+    (λ vs. directives_draft Allowed then (λ ds. mapped (operation_of kind.0 kind.1 name vs ds) (set_draft max_levels)))
+    (λ vs. directives Allowed then (λ ds. mapped (tree_operation kind.0 kind.1 name vs ds) (set_at max_levels))) b (variables_alike b)
+    (λ x vs c one.
+    bind_alike shown (given (map directive_of) doubled_in_directives) seen told (directives_draft Allowed) (directives Allowed)
+    (λ ds. mapped (operation_of kind.0 kind.1 name x ds) (set_draft max_levels)) (λ ds. mapped (tree_operation kind.0 kind.1 name vs ds) (set_at max_levels)) c (directives_alike Allowed c)
+    (λ y ds d two.
+    map_alike shown (given whole_set_of doubled_in_set) seen told (set_draft max_levels) (set_at max_levels) (operation_of kind.0 kind.1 name x y) (tree_operation kind.0 kind.1 name vs ds) d (set_alike max_levels d)
+    (λ z inner three.
+    ap (λ node. inl (kind.0, name, node))
+    (three_shown (operation_made kind.1) x.doubled (first_in doubled_in_variable vs) y.doubled (doubled_in_directives ds) z.doubled (doubled_in_set inner) x.part (map variable_of vs) y.part (map directive_of ds) z.part (whole_set_of inner) one two three))))))
 
 abbrev fragment_made : PlacedName → List (Positioned Directive) → Positioned SelectionSet → FragmentDefinition
 fragment_made on_type ds inner = record { type_condition = on_type; directives = ds; selection_set = inner }
@@ -112,21 +112,21 @@ fragment_alike tokens =
     (λ pos. take_fragment_name then (λ name. condition then (λ c. directives_draft Allowed then (λ ds. mapped (fragment_of pos name c ds) (set_draft max_levels)))))
     (λ pos. take_fragment_name then (λ name. condition then (λ c. directives Allowed then (λ ds. mapped (tree_fragment pos name c ds) (set_at max_levels))))) tokens
     (λ pos a.
-      bind_same seen told take_fragment_name
-      (λ name. condition then (λ c. directives_draft Allowed then (λ ds. mapped (fragment_of pos name c ds) (set_draft max_levels))))
-      (λ name. condition then (λ c. directives Allowed then (λ ds. mapped (tree_fragment pos name c ds) (set_at max_levels)))) a
-      (λ name b.
-        bind_same seen told condition
-        (λ c. directives_draft Allowed then (λ ds. mapped (fragment_of pos name c ds) (set_draft max_levels)))
-        (λ c. directives Allowed then (λ ds. mapped (tree_fragment pos name c ds) (set_at max_levels))) b
-        (λ c e.
-          bind_alike shown (given (map directive_of) doubled_in_directives) seen told (directives_draft Allowed) (directives Allowed)
-          (λ ds. mapped (fragment_of pos name c ds) (set_draft max_levels)) (λ ds. mapped (tree_fragment pos name c ds) (set_at max_levels)) e (directives_alike Allowed e)
-          (λ x ds f one.
-            map_alike shown (given whole_set_of doubled_in_set) seen told (set_draft max_levels) (set_at max_levels) (fragment_of pos name c x) (tree_fragment pos name c ds) f (set_alike max_levels f)
-            (λ y inner two.
-              ap (λ node. inr (pos, name, node))
-              (both_shown (fragment_made c) x.doubled (doubled_in_directives ds) y.doubled (doubled_in_set inner) x.part (map directive_of ds) y.part (whole_set_of inner) one two))))))
+    bind_same seen told take_fragment_name
+    (λ name. condition then (λ c. directives_draft Allowed then (λ ds. mapped (fragment_of pos name c ds) (set_draft max_levels))))
+    (λ name. condition then (λ c. directives Allowed then (λ ds. mapped (tree_fragment pos name c ds) (set_at max_levels)))) a
+    (λ name b.
+    bind_same seen told condition
+    (λ c. directives_draft Allowed then (λ ds. mapped (fragment_of pos name c ds) (set_draft max_levels)))
+    (λ c. directives Allowed then (λ ds. mapped (tree_fragment pos name c ds) (set_at max_levels))) b
+    (λ c e.
+    bind_alike shown (given (map directive_of) doubled_in_directives) seen told (directives_draft Allowed) (directives Allowed)
+    (λ ds. mapped (fragment_of pos name c ds) (set_draft max_levels)) (λ ds. mapped (tree_fragment pos name c ds) (set_at max_levels)) e (directives_alike Allowed e)
+    (λ x ds f one.
+    map_alike shown (given whole_set_of doubled_in_set) seen told (set_draft max_levels) (set_at max_levels) (fragment_of pos name c x) (tree_fragment pos name c ds) f (set_alike max_levels f)
+    (λ y inner two.
+    ap (λ node. inr (pos, name, node))
+    (both_shown (fragment_made c) x.doubled (doubled_in_directives ds) y.doubled (doubled_in_set inner) x.part (map directive_of ds) y.part (whole_set_of inner) one two))))))
 
 pub definition_alike : DefinitionAlike definition_draft definition
 unfolding definition_draft definition
@@ -143,9 +143,9 @@ document_alike tokens =
     ended_alike outcome_of ruled (definition_draft then (λ first. mapped (folded gathered (gathered nothing_gathered first)) (many before_end definition_draft))) (some before_end definition) take_end tokens
     (bind_alike seen told outcome_of ruled definition_draft definition (λ first. mapped (folded gathered (gathered nothing_gathered first)) (many before_end definition_draft)) (λ t. mapped (λ more. t ∷ more) (many before_end definition)) tokens (definition_alike tokens)
     (λ x t rest first.
-      map_alike (map seen) (map told) outcome_of ruled (many before_end definition_draft) (many before_end definition) (folded gathered (gathered nothing_gathered x)) (λ more. t ∷ more) rest
-      (many_alike seen told before_end definition_draft definition definition_alike rest)
-      (λ xs ts others. gathered_is x t xs ts first others)))
+    map_alike (map seen) (map told) outcome_of ruled (many before_end definition_draft) (many before_end definition) (folded gathered (gathered nothing_gathered x)) (λ more. t ∷ more) rest
+    (many_alike seen told before_end definition_draft definition definition_alike rest)
+    (λ xs ts others. gathered_is x t xs ts first others)))
 
 abbrev Outcome : Type 0
 Outcome = Result ExecutableDocument ParseFault

@@ -88,9 +88,9 @@ unfolding spread_behind
 spread_alike pos tokens =
     bind_same shown (given selection_of doubled_in_selection) take_fragment_name (λ name. mapped (remade (spread_of pos name)) (directives_draft Allowed)) (λ name. mapped (λ ds. Spread pos name ds) (directives Allowed)) tokens
     (λ name rest.
-      map_alike shown (given (map directive_of) doubled_in_directives) shown (given selection_of doubled_in_selection) (directives_draft Allowed) (directives Allowed) (remade (spread_of pos name)) (λ ds. Spread pos name ds) rest
-      (directives_alike Allowed rest)
-      (λ x ds same. one_shown (spread_of pos name) x.doubled (doubled_in_directives ds) x.part (map directive_of ds) same))
+    map_alike shown (given (map directive_of) doubled_in_directives) shown (given selection_of doubled_in_selection) (directives_draft Allowed) (directives Allowed) (remade (spread_of pos name)) (λ ds. Spread pos name ds) rest
+    (directives_alike Allowed rest)
+    (λ x ds same. one_shown (spread_of pos name) x.doubled (doubled_in_directives ds) x.part (map directive_of ds) same))
 
 -- a set that is not there
 set_missed : (n : ℕ) (tokens : Tokens) → begins (is_sign sign.OpenBrace) tokens ≡ false → set_at n tokens ≡ (Err Unexpected, tokens)
@@ -119,19 +119,19 @@ module _ (n : ℕ) (opens : OpensAlike n) where
       (λ h. arguments_draft Allowed then (λ args. directives_draft Allowed then (λ ds. mapped (field_of h.0 h.1 args ds) (set_or_none_by (inner_at n) (head_pos h.0 h.1)))))
       (λ h. arguments Allowed then (λ args. directives Allowed then (λ ds. mapped (tree_field h.0 h.1 args ds) (tree.set_or_none (head_pos h.0 h.1) (set_at n))))) tokens
       (λ h rest.
-        bind_alike shown (given (map argument_of) doubled_in_arguments) shown (given selection_of doubled_in_selection) (arguments_draft Allowed) (arguments Allowed)
-        (λ args. directives_draft Allowed then (λ ds. mapped (field_of h.0 h.1 args ds) (set_or_none_by (inner_at n) (head_pos h.0 h.1))))
-        (λ args. directives Allowed then (λ ds. mapped (tree_field h.0 h.1 args ds) (tree.set_or_none (head_pos h.0 h.1) (set_at n)))) rest (arguments_alike Allowed rest)
-        (λ x args left one.
-          bind_alike shown (given (map directive_of) doubled_in_directives) shown (given selection_of doubled_in_selection) (directives_draft Allowed) (directives Allowed)
-          (λ ds. mapped (field_of h.0 h.1 x ds) (set_or_none_by (inner_at n) (head_pos h.0 h.1)))
-          (λ ds. mapped (tree_field h.0 h.1 args ds) (tree.set_or_none (head_pos h.0 h.1) (set_at n))) left (directives_alike Allowed left)
-          (λ y ds more two.
-            map_alike shown (given whole_set_of doubled_in_set) shown (given selection_of doubled_in_selection) (set_or_none_by (inner_at n) (head_pos h.0 h.1)) (tree.set_or_none (head_pos h.0 h.1) (set_at n))
-            (field_of h.0 h.1 x y) (tree_field h.0 h.1 args ds) more (set_or_none_of_level (head_pos h.0 h.1) more)
-            (λ z set three.
-              three_shown (field_made h.0 h.1) x.doubled (doubled_in_arguments args) y.doubled (doubled_in_directives ds) z.doubled (doubled_in_set set) x.part (map argument_of args) y.part (map directive_of ds) z.part (whole_set_of set) one two three
-              ∙ field_given h.0 h.1 args ds set))))
+      bind_alike shown (given (map argument_of) doubled_in_arguments) shown (given selection_of doubled_in_selection) (arguments_draft Allowed) (arguments Allowed)
+      (λ args. directives_draft Allowed then (λ ds. mapped (field_of h.0 h.1 args ds) (set_or_none_by (inner_at n) (head_pos h.0 h.1))))
+      (λ args. directives Allowed then (λ ds. mapped (tree_field h.0 h.1 args ds) (tree.set_or_none (head_pos h.0 h.1) (set_at n)))) rest (arguments_alike Allowed rest)
+      (λ x args left one.
+      bind_alike shown (given (map directive_of) doubled_in_directives) shown (given selection_of doubled_in_selection) (directives_draft Allowed) (directives Allowed)
+      (λ ds. mapped (field_of h.0 h.1 x ds) (set_or_none_by (inner_at n) (head_pos h.0 h.1)))
+      (λ ds. mapped (tree_field h.0 h.1 args ds) (tree.set_or_none (head_pos h.0 h.1) (set_at n))) left (directives_alike Allowed left)
+      (λ y ds more two.
+      map_alike shown (given whole_set_of doubled_in_set) shown (given selection_of doubled_in_selection) (set_or_none_by (inner_at n) (head_pos h.0 h.1)) (tree.set_or_none (head_pos h.0 h.1) (set_at n))
+      (field_of h.0 h.1 x y) (tree_field h.0 h.1 args ds) more (set_or_none_of_level (head_pos h.0 h.1) more)
+      (λ z set three.
+      three_shown (field_made h.0 h.1) x.doubled (doubled_in_arguments args) y.doubled (doubled_in_directives ds) z.doubled (doubled_in_set set) x.part (map argument_of args) y.part (map directive_of ds) z.part (whole_set_of set) one two three
+      ∙ field_given h.0 h.1 args ds set))))
 
   inline_of_level : (pos : Pos) → SelectionAlike (draft.inline_by (inner_at n) pos) (tree.inline_behind pos (set_at n))
   inline_of_level pos tokens =
@@ -139,13 +139,13 @@ module _ (n : ℕ) (opens : OpensAlike n) where
       (λ c. directives_draft Allowed then (λ ds. mapped (inline_of pos c ds) (set_by (inner_at n))))
       (λ c. directives Allowed then (λ ds. mapped (tree_inline pos c ds) (set_at n))) tokens
       (λ c rest.
-        bind_alike shown (given (map directive_of) doubled_in_directives) shown (given selection_of doubled_in_selection) (directives_draft Allowed) (directives Allowed)
-        (λ ds. mapped (inline_of pos c ds) (set_by (inner_at n))) (λ ds. mapped (tree_inline pos c ds) (set_at n)) rest (directives_alike Allowed rest)
-        (λ x ds left one.
-          map_alike shown (given whole_set_of doubled_in_set) shown (given selection_of doubled_in_selection) (set_by (inner_at n)) (set_at n) (inline_of pos c x) (tree_inline pos c ds) left (set_of_level left)
-          (λ y set two.
-            both_shown (inline_made pos c) x.doubled (doubled_in_directives ds) y.doubled (doubled_in_set set) x.part (map directive_of ds) y.part (whole_set_of set) one two
-            ∙ inline_given pos c ds set)))
+      bind_alike shown (given (map directive_of) doubled_in_directives) shown (given selection_of doubled_in_selection) (directives_draft Allowed) (directives Allowed)
+      (λ ds. mapped (inline_of pos c ds) (set_by (inner_at n))) (λ ds. mapped (tree_inline pos c ds) (set_at n)) rest (directives_alike Allowed rest)
+      (λ x ds left one.
+      map_alike shown (given whole_set_of doubled_in_set) shown (given selection_of doubled_in_selection) (set_by (inner_at n)) (set_at n) (inline_of pos c x) (tree_inline pos c ds) left (set_of_level left)
+      (λ y set two.
+      both_shown (inline_made pos c) x.doubled (doubled_in_directives ds) y.doubled (doubled_in_set set) x.part (map directive_of ds) y.part (whole_set_of set) one two
+      ∙ inline_given pos c ds set)))
 
   spread_of_level : (pos : Pos) → SelectionAlike (draft.spread_by (inner_at n) pos) (branch is_fragment_name (tree.spread_behind pos) (tree.inline_behind pos (set_at n)))
   spread_of_level pos tokens =
@@ -156,8 +156,8 @@ module _ (n : ℕ) (opens : OpensAlike n) where
   selection_of_level tokens =
       taken_alike shown (given selection_of doubled_in_selection) sign.Spread (draft.spread_by (inner_at n) (place_of tokens)) (draft.field_by (inner_at n)) (tree.spread_by (set_at n)) (tree.field_by (set_at n)) tokens
       (λ next.
-        spread_of_level (place_of tokens) (behind_first tokens)
-        ∙ sym (sign_first shown (given selection_of doubled_in_selection) sign.Spread (λ pos. branch is_fragment_name (tree.spread_behind pos) (tree.inline_behind pos (set_at n))) tokens next))
+      spread_of_level (place_of tokens) (behind_first tokens)
+      ∙ sym (sign_first shown (given selection_of doubled_in_selection) sign.Spread (λ pos. branch is_fragment_name (tree.spread_behind pos) (tree.inline_behind pos (set_at n))) tokens next))
       (field_of_level tokens)
 
   behind_of_level : (pos : Pos) → SetAlike (behind_brace (selection_by (inner_at n)) pos)

@@ -87,9 +87,9 @@ module _ {A T : Type 0} (part : T → A) (doubled : T → Option Pos) (test : To
   some_alike tokens =
       bind_alike shown (given part doubled) shown (given (map part) (first_in doubled)) f g (λ first. mapped (folded added (first_item first)) (many test f)) (λ t. mapped (λ more. t ∷ more) (many test g)) tokens (alike tokens)
       (λ x t rest same.
-        map_alike (map shown) (map (given part doubled)) shown (given (map part) (first_in doubled)) (many test f) (many test g) (folded added (first_item x)) (λ more. t ∷ more) rest
-        (many_alike shown (given part doubled) test f g alike rest)
-        (λ xs ts others. items_shown part doubled (first_item x) (doubled t) (part t ∷ []) xs ts (one_shown (λ y. y ∷ []) x.doubled (doubled t) x.part (part t) same) others))
+      map_alike (map shown) (map (given part doubled)) shown (given (map part) (first_in doubled)) (many test f) (many test g) (folded added (first_item x)) (λ more. t ∷ more) rest
+      (many_alike shown (given part doubled) test f g alike rest)
+      (λ xs ts others. items_shown part doubled (first_item x) (doubled t) (part t ∷ []) xs ts (one_shown (λ y. y ∷ []) x.doubled (doubled t) x.part (part t) same) others))
 
 -- Values.
 
@@ -125,8 +125,8 @@ unfolding variable_or_scalar
 plain_alike Allowed tokens =
     taken_alike ok (given value_of doubled_in_value) sign.Dollar (mapped (λ name. doc.Variable name.node) take_name) scalar tree.variable_value take_scalar tokens
     (λ next.
-      bind_same ok (given value_of doubled_in_value) take_name (λ name. gives (doc.Variable name.node)) (λ name. gives (Variable name.node)) (behind_first tokens) (λ name rest. refl)
-      ∙ sym (sign_first ok (given value_of doubled_in_value) sign.Dollar (λ _. mapped (λ name. Variable name.node) take_name) tokens next))
+    bind_same ok (given value_of doubled_in_value) take_name (λ name. gives (doc.Variable name.node)) (λ name. gives (Variable name.node)) (behind_first tokens) (λ name rest. refl)
+    ∙ sym (sign_first ok (given value_of doubled_in_value) sign.Dollar (λ _. mapped (λ name. Variable name.node) take_name) tokens next))
     (scalar_alike tokens)
 plain_alike Forbidden tokens = scalar_alike tokens
 
@@ -144,16 +144,16 @@ list_alike f g alike tokens =
     (ended_alike shown (given (map value_of) (first_in doubled_in_value)) (items_by (other_than sign.CloseBracket) f) (many (other_than sign.CloseBracket) g) (take_sign sign.CloseBracket) tokens
     (items_alike value_of doubled_in_value (other_than sign.CloseBracket) f g alike tokens))
     (λ x ts same.
-      one_shown doc.List x.doubled (first_in doubled_in_value ts) x.part (map value_of ts) same
-      ∙ (λ i. judged (sym (doubled_list ts) i) (sym (value_list ts) i)))
+    one_shown doc.List x.doubled (first_in doubled_in_value ts) x.part (map value_of ts) same
+    ∙ (λ i. judged (sym (doubled_list ts) i) (sym (value_list ts) i)))
 
 member_by_alike : (f : Reader (Draft DocValue)) (g : Reader ValueTree) → ValueAlike f g → Alike seen_member told_member (draft.member_by f) (tree.member_by g)
 member_by_alike f g alike tokens =
     bind_same seen_member told_member take_name (λ name. past (take_sign sign.Colon) (mapped (λ value. (name, value)) f)) (λ name. past (take_sign sign.Colon) (mapped (λ value. record { name = name; value = value }) g)) tokens
     (λ name rest.
-      bind_same seen_member told_member (take_sign sign.Colon) (λ _. mapped (λ value. (name, value)) f) (λ _. mapped (λ value. record { name = name; value = value }) g) rest
-      (λ pos left.
-        map_alike shown (given value_of doubled_in_value) seen_member told_member f g (λ value. (name, value)) (λ value. record { name = name; value = value }) left (alike left) (λ x t same i. (name, same i))))
+    bind_same seen_member told_member (take_sign sign.Colon) (λ _. mapped (λ value. (name, value)) f) (λ _. mapped (λ value. record { name = name; value = value }) g) rest
+    (λ pos left.
+    map_alike shown (given value_of doubled_in_value) seen_member told_member f g (λ value. (name, value)) (λ value. record { name = name; value = value }) left (alike left) (λ x t same i. (name, same i))))
 
 members_alike : (f : Reader (Draft DocValue)) (g : Reader ValueTree) → ValueAlike f g
     → Alike shown (given (map member_of) (doubled_among_members [])) (draft.members_by f) (many (other_than sign.CloseBrace) (tree.member_by g))
@@ -169,8 +169,8 @@ object_alike f g alike tokens =
     (ended (draft.members_by f) (take_sign sign.CloseBrace)) (ended (many (other_than sign.CloseBrace) (tree.member_by g)) (take_sign sign.CloseBrace)) (remade doc.Object) ObjectTree tokens
     (ended_alike shown (given (map member_of) (doubled_among_members [])) (draft.members_by f) (many (other_than sign.CloseBrace) (tree.member_by g)) (take_sign sign.CloseBrace) tokens (members_alike f g alike tokens))
     (λ x ts same.
-      one_shown doc.Object x.doubled (doubled_among_members [] ts) x.part (map member_of ts) same
-      ∙ (λ i. judged (sym (doubled_object ts) i) (sym (value_object ts) i)))
+    one_shown doc.Object x.doubled (doubled_among_members [] ts) x.part (map member_of ts) same
+    ∙ (λ i. judged (sym (doubled_object ts) i) (sym (value_object ts) i)))
 
 pub value_alike : (variables : Variables) (levels : ℕ) → ValueAlike (value_draft variables levels) (value_at variables levels)
 unfolding value_draft value_at
@@ -209,11 +209,11 @@ unfolding argument_draft argument
 argument_alike variables tokens =
     bind_same shown (given argument_of doubled_in_argument) take_name (λ name. past (take_sign sign.Colon) (mapped (remade (argument_in name)) (placed_draft variables))) (λ name. past (take_sign sign.Colon) (mapped (λ value. record { name = name; value = value }) (placed_value variables))) tokens
     (λ name rest.
-      bind_same shown (given argument_of doubled_in_argument) (take_sign sign.Colon) (λ _. mapped (remade (argument_in name)) (placed_draft variables)) (λ _. mapped (λ value. record { name = name; value = value }) (placed_value variables)) rest
-      (λ pos left.
-        map_alike shown (given placed_of doubled_in_placed) shown (given argument_of doubled_in_argument) (placed_draft variables) (placed_value variables) (remade (argument_in name)) (λ value. record { name = name; value = value }) left
-        (placed_alike variables left)
-        (λ x t same. one_shown (argument_in name) x.doubled (doubled_in_placed t) x.part (placed_of t) same)))
+    bind_same shown (given argument_of doubled_in_argument) (take_sign sign.Colon) (λ _. mapped (remade (argument_in name)) (placed_draft variables)) (λ _. mapped (λ value. record { name = name; value = value }) (placed_value variables)) rest
+    (λ pos left.
+    map_alike shown (given placed_of doubled_in_placed) shown (given argument_of doubled_in_argument) (placed_draft variables) (placed_value variables) (remade (argument_in name)) (λ value. record { name = name; value = value }) left
+    (placed_alike variables left)
+    (λ x t same. one_shown (argument_in name) x.doubled (doubled_in_placed t) x.part (placed_of t) same)))
 
 -- in parentheses, or not at all
 module _ {A T : Type 0} (part : T → A) (doubled : T → Option Pos) (f : Reader (Draft (List A))) (g : Reader T) (alike : Alike shown (given (map part) (first_in doubled)) f (some (other_than sign.CloseParen) g)) where
@@ -222,8 +222,8 @@ module _ {A T : Type 0} (part : T → A) (doubled : T → Option Pos) (f : Reade
       taken_alike shown (given (map part) (first_in doubled)) sign.OpenParen (ended f (take_sign sign.CloseParen)) (gives (plain []))
       (past (take_sign sign.OpenParen) (ended (some (other_than sign.CloseParen) g) (take_sign sign.CloseParen))) (gives []) tokens
       (λ next.
-        ended_alike shown (given (map part) (first_in doubled)) f (some (other_than sign.CloseParen) g) (take_sign sign.CloseParen) (behind_first tokens) (alike (behind_first tokens))
-        ∙ sym (sign_first shown (given (map part) (first_in doubled)) sign.OpenParen (λ _. ended (some (other_than sign.CloseParen) g) (take_sign sign.CloseParen)) tokens next))
+      ended_alike shown (given (map part) (first_in doubled)) f (some (other_than sign.CloseParen) g) (take_sign sign.CloseParen) (behind_first tokens) (alike (behind_first tokens))
+      ∙ sym (sign_first shown (given (map part) (first_in doubled)) sign.OpenParen (λ _. ended (some (other_than sign.CloseParen) g) (take_sign sign.CloseParen)) tokens next))
       refl
 
 pub arguments_alike : (variables : Variables) → Alike shown (given (map argument_of) doubled_in_arguments) (arguments_draft variables) (arguments variables)
@@ -238,11 +238,11 @@ directive_alike variables tokens =
     bind_same shown (given directive_of doubled_in_directive) (take_sign sign.At) (λ pos. take_name then (λ name. mapped (remade (directive_in pos name)) (arguments_draft variables)))
     (λ pos. take_name then (λ name. mapped (λ args. record { pos = pos; name = name; arguments = args }) (arguments variables))) tokens
     (λ pos rest.
-      bind_same shown (given directive_of doubled_in_directive) take_name (λ name. mapped (remade (directive_in pos name)) (arguments_draft variables)) (λ name. mapped (λ args. record { pos = pos; name = name; arguments = args }) (arguments variables)) rest
-      (λ name left.
-        map_alike shown (given (map argument_of) doubled_in_arguments) shown (given directive_of doubled_in_directive) (arguments_draft variables) (arguments variables) (remade (directive_in pos name)) (λ args. record { pos = pos; name = name; arguments = args }) left
-        (arguments_alike variables left)
-        (λ x ts same. one_shown (directive_in pos name) x.doubled (doubled_in_arguments ts) x.part (map argument_of ts) same)))
+    bind_same shown (given directive_of doubled_in_directive) take_name (λ name. mapped (remade (directive_in pos name)) (arguments_draft variables)) (λ name. mapped (λ args. record { pos = pos; name = name; arguments = args }) (arguments variables)) rest
+    (λ name left.
+    map_alike shown (given (map argument_of) doubled_in_arguments) shown (given directive_of doubled_in_directive) (arguments_draft variables) (arguments variables) (remade (directive_in pos name)) (λ args. record { pos = pos; name = name; arguments = args }) left
+    (arguments_alike variables left)
+    (λ x ts same. one_shown (directive_in pos name) x.doubled (doubled_in_arguments ts) x.part (map argument_of ts) same)))
 
 pub directives_alike : (variables : Variables) → Alike shown (given (map directive_of) doubled_in_directives) (directives_draft variables) (directives variables)
 unfolding directives_draft directives
@@ -259,11 +259,11 @@ default_alike tokens =
     taken_alike shown (given default_of doubled_in_default) sign.Equals (mapped (remade default_in) (placed_draft Forbidden)) (gives (plain None))
     (mapped Some (past (take_sign sign.Equals) (placed_value Forbidden))) (gives None) tokens
     (λ next.
-      map_alike shown (given placed_of doubled_in_placed) shown (given default_of doubled_in_default) (placed_draft Forbidden) (placed_value Forbidden) (remade default_in) Some (behind_first tokens)
-      (placed_alike Forbidden (behind_first tokens))
-      (λ x t same. one_shown default_in x.doubled (doubled_in_placed t) x.part (placed_of t) same ∙ ap (judged (doubled_in_placed t)) (default_value t))
-      ∙ sym (sign_first shown (given default_of doubled_in_default) sign.Equals (λ _. mapped Some (placed_value Forbidden)) tokens next)
-      ∙ sym (ap (λ reading. go_on reading.0 reading.1 (λ v. gives (given default_of doubled_in_default v))) (regroup (take_sign sign.Equals) (λ _. placed_value Forbidden) Some tokens)))
+    map_alike shown (given placed_of doubled_in_placed) shown (given default_of doubled_in_default) (placed_draft Forbidden) (placed_value Forbidden) (remade default_in) Some (behind_first tokens)
+    (placed_alike Forbidden (behind_first tokens))
+    (λ x t same. one_shown default_in x.doubled (doubled_in_placed t) x.part (placed_of t) same ∙ ap (judged (doubled_in_placed t)) (default_value t))
+    ∙ sym (sign_first shown (given default_of doubled_in_default) sign.Equals (λ _. mapped Some (placed_value Forbidden)) tokens next)
+    ∙ sym (ap (λ reading. go_on reading.0 reading.1 (λ v. gives (given default_of doubled_in_default v))) (regroup (take_sign sign.Equals) (λ _. placed_value Forbidden) Some tokens)))
     refl
 
 abbrev variable_made : Pos → PlacedName → PlacedType → Option (Positioned Value) → List (Positioned Directive) → Positioned VariableDefinition
@@ -295,17 +295,17 @@ unfolding variable_draft variable
 variable_alike tokens =
     bind_same shown (given variable_of doubled_in_variable) (take_sign sign.Dollar) (λ pos. draft_named pos) (λ pos. tree_named pos) tokens
     (λ pos rest.
-      bind_same shown (given variable_of doubled_in_variable) take_name (λ name. past (take_sign sign.Colon) (draft_typed pos name)) (λ name. past (take_sign sign.Colon) (tree_typed pos name)) rest
-      (λ name left.
-        bind_same shown (given variable_of doubled_in_variable) (take_sign sign.Colon) (λ _. draft_typed pos name) (λ _. tree_typed pos name) left
-        (λ colon behind.
-          bind_same shown (given variable_of doubled_in_variable) placed_type (λ ty. default_draft then (λ d. draft_last pos name ty d)) (λ ty. default then (λ d. tree_last pos name ty d)) behind
-          (λ ty more.
-            bind_alike shown (given default_of doubled_in_default) shown (given variable_of doubled_in_variable) default_draft default (λ d. draft_last pos name ty d) (λ d. tree_last pos name ty d) more (default_alike more)
-            (λ x d last same.
-              map_alike shown (given (map directive_of) doubled_in_directives) shown (given variable_of doubled_in_variable) (directives_draft Forbidden) (directives Forbidden) (variable_in pos name ty x) (tree_variable pos name ty d) last
-              (directives_alike Forbidden last)
-              (λ y ds others. both_shown (variable_made pos name ty) x.doubled (doubled_in_default d) y.doubled (doubled_in_directives ds) x.part (default_of d) y.part (map directive_of ds) same others))))))
+    bind_same shown (given variable_of doubled_in_variable) take_name (λ name. past (take_sign sign.Colon) (draft_typed pos name)) (λ name. past (take_sign sign.Colon) (tree_typed pos name)) rest
+    (λ name left.
+    bind_same shown (given variable_of doubled_in_variable) (take_sign sign.Colon) (λ _. draft_typed pos name) (λ _. tree_typed pos name) left
+    (λ colon behind.
+    bind_same shown (given variable_of doubled_in_variable) placed_type (λ ty. default_draft then (λ d. draft_last pos name ty d)) (λ ty. default then (λ d. tree_last pos name ty d)) behind
+    (λ ty more.
+    bind_alike shown (given default_of doubled_in_default) shown (given variable_of doubled_in_variable) default_draft default (λ d. draft_last pos name ty d) (λ d. tree_last pos name ty d) more (default_alike more)
+    (λ x d last same.
+    map_alike shown (given (map directive_of) doubled_in_directives) shown (given variable_of doubled_in_variable) (directives_draft Forbidden) (directives Forbidden) (variable_in pos name ty x) (tree_variable pos name ty d) last
+    (directives_alike Forbidden last)
+    (λ y ds others. both_shown (variable_made pos name ty) x.doubled (doubled_in_default d) y.doubled (doubled_in_directives ds) x.part (default_of d) y.part (map directive_of ds) same others))))))
 
 pub variables_alike : Alike shown (given (map variable_of) (first_in doubled_in_variable)) variables_draft variables
 unfolding variables_draft some_variables_draft variables

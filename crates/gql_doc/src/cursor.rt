@@ -271,7 +271,11 @@ impl Cursor {
     /// Opens a bracket if it is next: takes it and counts its level, or answers that it lies too
     /// deep where no level is left.
     #[tactic(auto, using(crate::proofs::CursorLaws::not_opened, crate::proofs::CursorLaws::none_left, crate::proofs::CursorLaws::opened_one))]
-    pub fn open_bracket(&mut self, sign: Punctuator, levels: usize) -> Result<Option<Opened>, ReadError>
+    pub fn open_bracket(
+        &mut self,
+        sign: Punctuator,
+        levels: usize,
+    ) -> Result<Option<Opened>, ReadError>
         ensures read { Leaves result self.new (open_at sign levels self.old) }
         ensures fewer { IfOk result (λ opened. IfSome opened (λ here. here.levels < levels)) }
     {

@@ -124,7 +124,13 @@ impl Gathering {
         let Draft { part, doubled } = fragment;
         let part = Positioned { pos, node: part };
         let draft = Draft { part, doubled };
-        add_named(&mut self.fragments, &mut self.doubled, name.node, pos, draft)
+        add_named(
+            &mut self.fragments,
+            &mut self.doubled,
+            name.node,
+            pos,
+            draft,
+        )
     }
 
     /// The document, or its fault against the rules on operations and names.
