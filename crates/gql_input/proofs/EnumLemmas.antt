@@ -1,9 +1,14 @@
 -- What a search among the items of an enum knows of those that it has passed.
-use Rattle.std.proofs.Common.{◌≡◌, ℕ, zero, suc, ◌+◌, Bool, true, false, cond, List, [], ◌∷◌, take, Option, Some, None, slice_get, refl, ap, sym, ◌∙◌, add-one}
+use Rattle.std.proofs.Common.{◌≡◌, ℕ, zero, suc, ◌+◌, Bool, true, false, cond, List, [], ◌∷◌, take, Option, Some, None, Ok, slice_get, length, refl, ap, sym, ◌∙◌, add-one, arith}
+use Rattle.std.specs.List.{Contains}
+use Rattle.std.specs.Option.{ok_or}
 use Rattle.std.specs.Str.{bytes_eq}
 use Rattle.std.specs.Cmp.Lexicographic.{bytes_decides}
+use Rattle.gql_base.specs.Kinds.{enum_name_of}
 use Rattle.gql_base.specs.Pairs.{HasDistinctNames, under}
-use Rattle.gql_input.specs.EnumType.{name_of_item}
+use Rattle.gql_base.specs.declared.value.Value.{Value}
+use Rattle.gql_input.specs.EnumType.{AreApart, IsReadAs, IsReadBack, name_of_item, no_item_text, read_enum, read_name, values_of}
+use Rattle.gql_input.specs.InputValueError.{custom_text}
 
 module _ {X T : Type 0} (pass : X → Bool) (give : X → T) where
   -- what the first gives that passes
@@ -62,25 +67,65 @@ module _ {T : Type 0} where
   name_here same v ps i p passed before at told so =
       found-here (λ (q : List ℕ × T). same q.1 v) (λ q. q.0) ps i p (sym (name-found same v (take i ps)) ∙ before) at (sym told ∙ so) ∙ sym (name-found same v ps)
 
--- where names and values differ, the name of a value stands for that value
-pub back_from_name : {T : Type 0} (same : T → T → Bool) → ((a b : T) → same a b ≡ true → a ≡ b) → (v : T) (n : List ℕ) (ps : List (List ℕ × T))
-    → HasDistinctNames ps → name_of_item same v ps ≡ Some n → under n ps ≡ Some v
-back_from_name same decides v n [] distinct named = cc
-back_from_name same decides v n (p ∷ ps) (fresh, distinct) named =
-    let P : Bool → Type 0 = λ b. (same p.1 v ≡ b) → cond b (Some p.0) (name_of_item same v ps) ≡ Some n → under n (p ∷ ps) ≡ Some v in
+-- where names differ, the name of an item's value stands for a value that the test calls the same
+pub back_from_name : {T : Type 0} (same : T → T → Bool) (v : T) (n : List ℕ) (ps : List (List ℕ × T))
+    → HasDistinctNames ps → name_of_item same v ps ≡ Some n → (w : T) × (under n ps ≡ Some w) × (same w v ≡ true)
+back_from_name same v n [] distinct named = cc
+back_from_name same v n (p ∷ ps) (fresh, distinct) named =
+    let P : Bool → Type 0 = λ b. (same p.1 v ≡ b) → cond b (Some p.0) (name_of_item same v ps) ≡ Some n → (w : _) × (under n (p ∷ ps) ≡ Some w) × (same w v ≡ true) in
     (elim (same p.1 v) as P [
       | true ↦ λ e h.
           let here : p.0 ≡ n = cc in
-          let held : p.1 ≡ v = decides p.1 v e in
           let itself : bytes_eq n p.0 ≡ true = (bytes_decides n p.0).1 (sym here) in
-          rw itself (ap Some held)
-      | false ↦ λ e h. behind (back_from_name same decides v n ps distinct h)
+          (p.1, rw itself refl, e)
+      | false ↦ λ e h. behind (back_from_name same v n ps distinct h)
     ]) refl named
   where
-    behind : under n ps ≡ Some v → under n (p ∷ ps) ≡ Some v
-    behind rest =
-        let Q : Bool → Type 0 = λ b. (b ≡ true → n ≡ p.0) → cond b (Some p.1) (under n ps) ≡ Some v in
-        (elim (bytes_eq n p.0) as Q [
+    behind : ((w : _) × (under n ps ≡ Some w) × (same w v ≡ true)) → (w : _) × (under n (p ∷ ps) ≡ Some w) × (same w v ≡ true)
+    behind (w, rest, held) =
+        let Q : Bool → Type 0 = λ b. (b ≡ true → n ≡ p.0) → cond b (Some p.1) (under n ps) ≡ Some w in
+        let told = (elim (bytes_eq n p.0) as Q [
           | true ↦ λ told. (let none : under n ps ≡ None = ap (λ m. under m ps) (told refl) ∙ fresh in cc)
           | false ↦ λ told. rest
-        ]) (bytes_decides n p.0).0
+        ]) (bytes_decides n p.0).0 in
+        (w, told, held)
+
+-- where names differ, an item's value is read back from a value that is the name that stands for it
+pub read_back : {T : Type 0} (same : T → T → Bool) (v : T) (n : List ℕ) (made : Value) (ps : List (List ℕ × T)) → HasDistinctNames ps → name_of_item same v ps ≡ Some n
+    → enum_name_of made ≡ Some n → IsReadBack same ps v made
+read_back same v n made ps distinct named is type_name = by (back_from_name same v n ps distinct named)
+  where
+    by : ((w : _) × (under n ps ≡ Some w) × (same w v ≡ true)) → (w : _) × (read_enum type_name ps made ≡ Ok w) × (same w v ≡ true)
+    by (w, at, held) = (w, ap (read_name type_name ps made) is ∙ ap (λ o. ok_or o (custom_text type_name (no_item_text n))) at, held)
+
+under_stands : {T : Type 0} (n : List ℕ) (ps : List (List ℕ × T)) (w : T) → under n ps ≡ Some w → Contains (values_of ps) w
+under_stands n [] w at = cc
+under_stands n (p ∷ ps) w at =
+    let P : Bool → Type 0 = λ b. cond b (Some p.1) (under n ps) ≡ Some w → Contains (values_of (p ∷ ps)) w in
+    (elim (bytes_eq n p.0) as P [ true ↦ λ h. (let same : p.1 ≡ w = cc in (zero, omega arith, same)) | false ↦ λ h. behind (under_stands n ps w h) ]) at
+  where
+    behind : Contains (values_of ps) w → Contains (values_of (p ∷ ps)) w
+    behind (k, lt, at) = (suc k, omega arith, at)
+
+same_is_it : {T : Type 0} (same : T → T → Bool) (xs : List T) (w v : T) → AreApart same xs → Contains xs w → Contains xs v → same w v ≡ true → w ≡ v
+same_is_it same [] w v apart (k, lt, at) stands held = absurd (omega arith)
+same_is_it same (x ∷ xs) w v (apart, rest) (zero, lt, at) (zero, lt', at') held = sym at ∙ at'
+same_is_it same (x ∷ xs) w v (apart, rest) (zero, lt, at) (suc j, lt', at') held =
+    let told : same x v ≡ false = (apart v (j, omega arith, at')).0 in
+    let same : x ≡ w = at in
+    cc
+same_is_it same (x ∷ xs) w v (apart, rest) (suc i, lt, at) (zero, lt', at') held =
+    let told : same w x ≡ false = (apart w (i, omega arith, at)).1 in
+    let same : x ≡ v = at' in
+    cc
+same_is_it same (x ∷ xs) w v (apart, rest) (suc i, lt, at) (suc j, lt', at') held = same_is_it same xs w v rest (i, omega arith, at) (j, omega arith, at') held
+
+-- where the values differ, too, it is read back as itself
+pub given_back : {T : Type 0} (same : T → T → Bool) (v : T) (n : List ℕ) (made : Value) (ps : List (List ℕ × T)) → HasDistinctNames ps → name_of_item same v ps ≡ Some n
+    → enum_name_of made ≡ Some n → AreApart same (values_of ps) → Contains (values_of ps) v → IsReadAs ps v made
+given_back same v n made ps distinct named is apart stands type_name = by (back_from_name same v n ps distinct named)
+  where
+    by : ((w : _) × (under n ps ≡ Some w) × (same w v ≡ true)) → read_enum type_name ps made ≡ Ok v
+    by (w, at, held) =
+        let it = same_is_it same (values_of ps) w v apart (under_stands n ps w at) stands held in
+        ap (read_name type_name ps made) is ∙ ap (λ o. ok_or o (custom_text type_name (no_item_text n))) (at ∙ ap Some it)

@@ -1,6 +1,7 @@
 -- Enums whose values names stand for.
-use Rattle.std.specs.Prelude.{ℕ, Bool, List, [], ◌∷◌, ◌++◌, Option, Some, None, Result, Err, codes}
+use Rattle.std.specs.Prelude.{◌≡◌, ℕ, Bool, true, false, List, [], ◌∷◌, ◌++◌, map, Option, Some, None, Result, Ok, Err, codes}
 use Rattle.std.specs.Prelude.{if◌then◌else◌}
+use Rattle.std.specs.List.{Contains}
 use Rattle.std.specs.Option.{ok_or}
 use Rattle.gql_base.specs.Kinds.{enum_name_of}
 use Rattle.gql_base.specs.Pairs.{under}
@@ -33,3 +34,22 @@ read_name type_name listed value (Some name) = read_item type_name listed name
 -- what a value gives at an enum of a name and items
 abbrev pub read_enum : {T : Type 0} → List ℕ → List (List ℕ × T) → Value → Result T (List ℕ)
 read_enum type_name listed value = read_name type_name listed value (enum_name_of value)
+
+-- that each reading of a value at the items gives one that a test calls the same as an item's
+abbrev pub IsReadBack : {T : Type 0} → (T → T → Bool) → List (List ℕ × T) → T → Value → Type 0
+IsReadBack same listed item value = (type_name : List ℕ)
+    → (read : _) × (read_enum type_name listed value ≡ Ok read) × (same read item ≡ true)
+
+-- that each reading of a value at the items gives this one
+abbrev pub IsReadAs : {T : Type 0} → List (List ℕ × T) → T → Value → Type 0
+IsReadAs listed item value = (type_name : List ℕ) → read_enum type_name listed value ≡ Ok item
+
+-- the values that the names of items stand for
+abbrev pub values_of : {T : Type 0} → List (List ℕ × T) → List T
+values_of listed = map (λ item. item.1) listed
+
+-- that a test calls no two of a list the same
+abbrev pub AreApart : {T : Type 0} → (T → T → Bool) → List T → Type 0
+AreApart same [] = Unit {0}
+AreApart same (x ∷ xs) =
+    ((y : _) → Contains xs y → (same x y ≡ false) × (same y x ≡ false)) × AreApart same xs

@@ -1,10 +1,11 @@
 ghost use Rattle.std.specs.Prelude.{◌≡◌, IfOk, IsSome, Some, map, option_map};
+ghost use Rattle.std.specs.List.{Contains};
 ghost use Rattle.std.specs.Option.{option_copied};
 ghost use Rattle.gql_base.specs.Kinds.{enum_name_of};
 ghost use Rattle.gql_base.specs.declared.value.Value.TheVariants as values;
-ghost use Rattle.gql_base.specs.Pairs.{under};
+ghost use Rattle.gql_base.specs.Pairs.{HasDistinctNames, under};
 ghost use Rattle.gql_input.specs.EnumType.{item_pair, name_of_item, no_item_text, read_enum};
-ghost use Rattle.gql_input.specs.EnumType.{read_item};
+ghost use Rattle.gql_input.specs.EnumType.{AreApart, IsReadAs, IsReadBack, read_item, values_of};
 ghost use Rattle.gql_input.specs.InputType.{IsReading};
 
 use crate::input_type::InputType;
@@ -76,11 +77,18 @@ fn parse_item<T: EnumType>(alloc: Global, type_name: &str, name: &str) -> Made<I
     }
 }
 
-/// The enum value whose name stands for a value, which has to be that of an item.
+/// The enum value whose name stands for a value, which has to be that of an item. Where no two
+/// items have one name, `parse_enum` gives the value back: up to the enum's own `==`, and itself
+/// where that tells the values of the items apart.
 pub fn enum_value<T: EnumType>(alloc: Global, value: T) -> Made<Value>
     requires { IsSome (name_of_item T.eq value T.listed) }
-    ensures { IfOk result
+    ensures value { IfOk result
         (λ made. option_map values.Enum (name_of_item T.eq value T.listed) ≡ Some made) }
+    ensures reads_back { IfOk result
+        (λ made. HasDistinctNames T.listed → IsReadBack T.eq T.listed value made) }
+    ensures gives_back { IfOk result
+        (λ made. HasDistinctNames T.listed → AreApart T.eq (values_of T.listed)
+        → Contains (values_of T.listed) value → IsReadAs T.listed value made) }
 {
     match name_for(T::items(), value) {
         Some(name) => Ok(Value::Enum(Name::new(alloc, name)?)),

@@ -41,6 +41,8 @@ impl<T: InputType> InputValueError<T> {
     pub fn propagate<U: InputType>(self, alloc: Global) -> Made<InputValueError<U>>
         ensures message { IfOk result
             (λ error. message_of error ≡ propagated T.name U.name (message_of self)) }
+        ensures same_name { IfOk result
+            (λ error. T.name ≡ U.name → message_of error ≡ message_of self) }
         ensures extensions { IfOk result (λ error. extensions_of error ≡ extensions_of self) }
     {
         let InputValueError {
