@@ -8,7 +8,7 @@ use std::str::FromStr;
 pub const ALL_WEBSOCKET_PROTOCOLS: [&str; 2] = ["graphql-transport-ws", "graphql-ws"];
 
 /// A subprotocol that a session speaks.
-#[derive(Clone, Copy, PartialEq, Eq, Debug)]
+#[derive(Clone, Copy, PartialEq, Eq, Hash, Debug)]
 pub enum Protocols {
     /// The older one, `graphql-ws`, of subscriptions-transport-ws.
     SubscriptionsTransportWS,
