@@ -8,7 +8,7 @@ use Rattle.std.specs.Option.{option_map}
 use Rattle.std.specs.Prelude.{option_and_then}
 use Rattle.std.specs.Str.{bytes_eq}
 use Rattle.gql_base.specs.Pairs.{under}
-use Rattle.gql_doc.specs.Depth.{Fragments, deep_from, fragment_set, selections_of, set_beneath, set_under}
+use Rattle.gql_doc.specs.Depth.{deep_from, fragment_set, selections_of, set_beneath, set_under}
 use Rattle.gql_doc.specs.declared.document.Field.{Field, out-Field}
 use Rattle.gql_doc.specs.declared.document.FragmentDefinition.{FragmentDefinition}
 use Rattle.gql_doc.specs.declared.document.FragmentSpread.{FragmentSpread}
@@ -20,7 +20,7 @@ use Rattle.gql_doc.specs.declared.document.SelectionSet.{SelectionSet}
 use Rattle.gql_doc.proofs.DepthLaws.{first_at}
 use Rattle.gql_request.specs.QueryEnv.{NestsIn, levels_of}
 use Rattle.gql_request.specs.declared.query_env.QueryEnv.{QueryEnv}
-use Rattle.gql_select.specs.Collected.{collect_within, fields_of, fields_of_spread, fields_under}
+use Rattle.gql_select.specs.Collected.{collect_within, fields_of, fields_of_spread}
 use Rattle.gql_resolve.specs.Beneath.{Seen, Stands, as_field, by_spread, fields_beneath, fields_within, in_place, in_query, name_of, named, selections_in, setting_of}
 use Rattle.gql_resolve.specs.Nesting.{RestNests}
 use Rattle.gql_resolve.proofs.NestingLemmas.{set_nests}

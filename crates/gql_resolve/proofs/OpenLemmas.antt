@@ -5,7 +5,7 @@ use Rattle.std.proofs.lemmas.Option.{slice_get_read}
 use Rattle.gql_doc.specs.declared.document.Positioned.{Positioned}
 use Rattle.gql_doc.specs.declared.document.Selection.{Selection}
 use Rattle.gql_request.specs.declared.query_env.QueryEnv.{QueryEnv}
-use Rattle.gql_resolve.specs.Beneath.{Seen, fields_within}
+use Rattle.gql_resolve.specs.Beneath.{fields_within}
 use Rattle.gql_resolve.specs.OpenSets.{Enters, Passes, all_open, steps_left, steps_within, within}
 use Rattle.gql_resolve.specs.SelectionField.{seen_of}
 use Rattle.gql_resolve.specs.declared.open_set.OpenSet.{OpenSet}

@@ -1,6 +1,6 @@
 -- What one look at the selections that are left of a set comes to.
 use Rattle.std.proofs.Common.{◌≡◌, ℕ, zero, suc, ◌+◌, ◌-◌, ◌<◌, List, [], ◌∷◌, ◌++◌, length, map, Option, Some, None, refl, ap, sym, subst, ◌∙◌, arith}
-use Rattle.std.proofs.lemmas.List.{append_assoc, map-append, length-append}
+use Rattle.std.proofs.lemmas.List.{map-append, length-append}
 use Rattle.std.specs.List.{flat_map}
 use Rattle.gql_base.specs.Pairs.{under}
 use Rattle.gql_doc.specs.Depth.{fragment_set, selections_of}
@@ -14,7 +14,7 @@ use Rattle.gql_doc.specs.declared.document.Selection.TheOpen.{Selection-F}
 use Rattle.gql_doc.specs.declared.document.SelectionSet.{SelectionSet}
 use Rattle.gql_request.specs.declared.query_env.QueryEnv.{QueryEnv}
 use Rattle.gql_select.specs.Collected.{collect_within, fields_of, fields_of_spread, fields_under}
-use Rattle.gql_resolve.specs.Beneath.{Seen, fields_within, in_query, setting_of}
+use Rattle.gql_resolve.specs.Beneath.{fields_within, in_query, setting_of}
 use Rattle.gql_resolve.specs.Nesting.{RestNests}
 use Rattle.gql_resolve.specs.OpenSets.{Enters, Passes, steps_left, steps_of, steps_of_spread, steps_within, within}
 use Rattle.gql_resolve.specs.SelectionField.{seen_of}

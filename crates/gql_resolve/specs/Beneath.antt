@@ -1,6 +1,6 @@
 -- The fields of a field's set, in document order, through fragments in place and known spreads, as
 -- often as they stand and whatever their conditions.
-use Rattle.std.specs.Prelude.{◌≡◌, ℕ, true, List, [], ◌∷◌, map, filter, Some}
+use Rattle.std.specs.Prelude.{◌≡◌, ℕ, true, List, [], map, filter, Some}
 use Rattle.std.specs.List.{Contains}
 use Rattle.std.specs.Str.{bytes_eq}
 use Rattle.gql_base.specs.Pairs.{under}

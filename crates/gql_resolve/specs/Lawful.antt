@@ -1,5 +1,5 @@
 -- What the calls of a resolver set promise, and what makes them lawful.
-use Rattle.std.specs.Prelude.{◌≡◌, ℕ, ◌<◌, Bool, true, [], Option, Result, Ok, Err, IsTrue}
+use Rattle.std.specs.Prelude.{◌≡◌, ℕ, ◌<◌, [], Option, Result, Ok, Err, IsTrue}
 use Rattle.gql_resolve.specs.declared.field_value.FieldValue.{FieldValue}
 use Rattle.gql_resolve.specs.declared.field_future.FieldFuture.{FieldFuture}
 use Rattle.gql_resolve.specs.declared.field_future.FieldFuture.TheVariants.{Value, Future}

@@ -45,9 +45,9 @@ pub trait GuardExt<V>: Guard<V> + Sized {
 
 impl<V, T: Guard<V>> GuardExt<V> for T {}
 
-/// The guard that `and` makes.
+/// The guard that `and` makes of a first and a second one.
 #[derive(Drop)]
-pub struct And<A, B>(A, B);
+pub struct And<A, B>(pub A, pub B);
 
 impl<V, A: Guard<V>, B: Guard<V>> Guard<V> for And<A, B> {
     ghost use Rattle.gql_resolve.specs.Guard.{GivesBoth};
@@ -65,9 +65,9 @@ impl<V, A: Guard<V>, B: Guard<V>> Guard<V> for And<A, B> {
     }
 }
 
-/// The guard that `or` makes.
+/// The guard that `or` makes of a first and a second one.
 #[derive(Drop)]
-pub struct Or<A, B>(A, B);
+pub struct Or<A, B>(pub A, pub B);
 
 impl<V, A: Guard<V>, B: Guard<V>> Guard<V> for Or<A, B> {
     ghost use Rattle.gql_resolve.specs.Guard.{GivesEither};
