@@ -1,0 +1,136 @@
+//! What is selected beneath a field, looked at ahead, and the fields themselves.
+use crate::queries::Ground;
+use gql_base::{Made, Text, Value, Variables};
+use gql_resolve::{Lookahead, SelectionField};
+use std::alloc::Global;
+use std::test::Fail;
+
+/// The query of a text without variables.
+fn query(alloc: Global, text: &str) -> Made<Option<Ground>> {
+    Ground::of(alloc, text, Variables::from_value(alloc, Value::Null))
+}
+
+/// Whether a field stands beneath the fields of some names, each beneath the one before, of which
+/// the first stands beneath the first field of a query.
+fn stands(alloc: Global, text: &str, names: &[&str]) -> Made<bool> {
+    match query(alloc, text)? {
+        Some(ground) => stands_in(alloc, &ground, names),
+        None => Ok(false),
+    }
+}
+
+fn stands_in(alloc: Global, ground: &Ground, names: &[&str]) -> Made<bool> {
+    match ground.first() {
+        Some(context) => reaches(alloc, context.look_ahead(alloc)?, names),
+        None => Ok(false),
+    }
+}
+
+fn reaches(alloc: Global, mut ahead: Lookahead<'_>, names: &[&str]) -> Made<bool> {
+    for name in names {
+        ahead = ahead.field(alloc, name)?;
+    }
+    Ok(ahead.exists())
+}
+
+const NESTED: &str = "{ obj(n: 3) { detail { c } } }";
+
+const THROUGH: &str = "{ o { ... on T { a } ... { ...F } ...Lost k: e @skip(if: true) } } \
+    fragment F on U { b { d } b { f } }";
+
+#[test]
+fn what_stands_beneath(rt: HostRuntime) -> Result<(), Fail> {
+    let alloc = rt.alloc();
+    assert!(rt; stands(alloc, NESTED, &[])?);
+    assert!(rt; stands(alloc, NESTED, &["detail"])?);
+    assert!(rt; stands(alloc, NESTED, &["detail", "c"])?);
+    assert!(rt; !stands(alloc, NESTED, &["a"])?);
+    assert!(rt; !stands(alloc, NESTED, &["c"])?);
+    assert!(rt; !stands(alloc, NESTED, &["a", "c"])?);
+    Ok(())
+}
+
+#[test]
+fn what_stands_in_fragments(rt: HostRuntime) -> Result<(), Fail> {
+    let alloc = rt.alloc();
+    assert!(rt; stands(alloc, THROUGH, &["a"])?);
+    assert!(rt; stands(alloc, THROUGH, &["b", "d"])?);
+    assert!(rt; stands(alloc, THROUGH, &["b", "f"])?);
+    assert!(rt; stands(alloc, THROUGH, &["e"])?);
+    assert!(rt; !stands(alloc, THROUGH, &["k"])?);
+    assert!(rt; !stands(alloc, THROUGH, &["Lost"])?);
+    Ok(())
+}
+
+/// The aliases and names of the fields of the first field's set, in their order.
+fn names(alloc: Global, text: &str) -> Made<Text> {
+    match query(alloc, text)? {
+        Some(ground) => names_in(alloc, &ground),
+        None => Text::new(alloc, "none"),
+    }
+}
+
+fn names_in(alloc: Global, ground: &Ground) -> Made<Text> {
+    match ground.first() {
+        Some(context) => names_beneath(alloc, &context.field()),
+        None => Text::new(alloc, "none"),
+    }
+}
+
+fn names_beneath(alloc: Global, field: &SelectionField<'_>) -> Made<Text> {
+    let mut out = String::new(alloc);
+    let mut beneath = field.selection_set(alloc)?;
+    while let Some(inner) = beneath.next()? {
+        let alias = inner.alias().unwrap_or("");
+        write!(out, "{alias}:{} ", inner.name())?;
+    }
+    Ok(Text::from_string(out))
+}
+
+#[test]
+fn fields_in_their_order(rt: HostRuntime) -> Result<(), Fail> {
+    let alloc = rt.alloc();
+    assert_eq!(rt; names(alloc, NESTED)?.as_str(), ":detail ");
+    assert_eq!(rt; names(alloc, "{ o }")?.as_str(), "");
+    assert_eq!(rt; names(alloc, THROUGH)?.as_str(), ":a :b :b k:e ");
+    assert_eq!(rt;
+        names(
+            alloc,
+            "{ o { ...Lost ... on T { ...F } ...F } } fragment F on U { a }"
+        )?
+        .as_str(),
+        ":a :a "
+    );
+    Ok(())
+}
+
+/// Whether a look at these fields is one at as many of them, or none where there is none.
+fn looks_at(alloc: Global, fields: &[SelectionField<'_>]) -> Made<bool> {
+    match Lookahead::from_fields(alloc, fields)? {
+        Some(ahead) => Ok(ahead.selection_fields(alloc)?.len() == fields.len() && ahead.exists()),
+        None => Ok(fields.is_empty()),
+    }
+}
+
+fn looks_at_one(alloc: Global, ground: &Ground) -> Made<bool> {
+    match ground.first() {
+        Some(context) => {
+            let field = context.field();
+            Ok(looks_at(alloc, &[field, field])? && Lookahead::from_field(alloc, field)?.exists())
+        }
+        None => Ok(false),
+    }
+}
+
+fn looks_again(alloc: Global) -> Made<bool> {
+    match query(alloc, NESTED)? {
+        Some(ground) => Ok(looks_at(alloc, &[])? && looks_at_one(alloc, &ground)?),
+        None => Ok(false),
+    }
+}
+
+#[test]
+fn looks_at_fields(rt: HostRuntime) -> Result<(), Fail> {
+    assert!(rt; looks_again(rt.alloc())?);
+    Ok(())
+}

@@ -1,0 +1,131 @@
+//! Parameters that are there, absent, null, of another kind and out of range.
+use crate::queries::Ground;
+use gql_base::{Made, Pos, ServerError, ServerResult, Text, Value, Variables};
+use gql_input::InputType;
+use gql_resolve::ResolverContext;
+use std::alloc::Global;
+use std::test::Fail;
+
+/// What a parameter gave: the number and its place, or the message and its place.
+fn told(alloc: Global, given: ServerResult<(Pos, i32)>) -> Made<Text> {
+    match given {
+        Ok((pos, number)) => found(alloc, number, pos),
+        Err(error) => refused(alloc, &error),
+    }
+}
+
+fn found(alloc: Global, number: i32, pos: Pos) -> Made<Text> {
+    let mut out = String::new(alloc);
+    write!(out, "{number} {}:{}", pos.line, pos.column)?;
+    Ok(Text::from_string(out))
+}
+
+fn refused(alloc: Global, error: &ServerError) -> Made<Text> {
+    let mut out = String::new(alloc);
+    write!(out, "{}", error.message.as_str())?;
+    for pos in error.locations.as_slice() {
+        write!(out, " {}:{}", pos.line, pos.column)?;
+    }
+    if !error.path.is_empty() {
+        out.push_str(" with a path")?;
+    }
+    Ok(Text::from_string(out))
+}
+
+fn query(alloc: Global, text: &str) -> Made<Option<Ground>> {
+    Ground::of(alloc, text, Variables::from_value(alloc, Value::Null))
+}
+
+fn asked(alloc: Global, context: &ResolverContext<'_, u64>, default: Option<i32>) -> Made<Text> {
+    let given = context.param_value::<i32>(alloc, "n", default)?;
+    told(alloc, given)
+}
+
+/// What the parameter `n` of the first field of a query gives as an `Int`, by a default.
+fn number(alloc: Global, text: &str, default: Option<i32>) -> Made<Text> {
+    match query(alloc, text)? {
+        Some(ground) => match ground.first() {
+            Some(context) => asked(alloc, &context, default),
+            None => Text::new(alloc, "no field"),
+        },
+        None => Text::new(alloc, "no query"),
+    }
+}
+
+#[test]
+fn numbers_as_parameters(rt: HostRuntime) -> Result<(), Fail> {
+    let alloc = rt.alloc();
+    assert_eq!(rt;
+        number(alloc, "{ o(m: 1, n: 3, n: 4) }", None)?.as_str(),
+        "3 1:14"
+    );
+    assert_eq!(rt;
+        number(alloc, "{ o(n: -2147483648) }", Some(5))?.as_str(),
+        "-2147483648 1:8"
+    );
+    assert_eq!(rt; number(alloc, "{ o(m: 1) }", Some(5))?.as_str(), "5 0:0");
+    assert_eq!(rt;
+        number(alloc, "query($v: Int = 6) { o(n: $v) }", None)?.as_str(),
+        "6 1:27"
+    );
+    Ok(())
+}
+
+#[test]
+fn parameters_that_are_no_numbers(rt: HostRuntime) -> Result<(), Fail> {
+    let alloc = rt.alloc();
+    assert_eq!(rt;
+        number(alloc, "{ o }", None)?.as_str(),
+        "Expected input type \"Int\", found null. 0:0"
+    );
+    assert_eq!(rt;
+        number(alloc, "{ o(n: null) }", Some(5))?.as_str(),
+        "Expected input type \"Int\", found null. 1:8"
+    );
+    assert_eq!(rt;
+        number(alloc, "{ o(n: \"x\") }", Some(5))?.as_str(),
+        "Expected input type \"Int\", found \"x\". 1:8"
+    );
+    assert_eq!(rt;
+        number(alloc, "{ o(n: 2147483648) }", None)?.as_str(),
+        "Expected input type \"Int\", found 2147483648. 1:8"
+    );
+    assert_eq!(rt;
+        number(alloc, "{ o(n: $lost) }", Some(5))?.as_str(),
+        "Variable lost is not defined. 1:8"
+    );
+    Ok(())
+}
+
+/// Whether a parameter is there and none, by a type to which null belongs.
+fn is_none<T: InputType + Drop>(
+    alloc: Global,
+    context: &ResolverContext<'_, u64>,
+    name: &str,
+) -> Made<bool> {
+    match context.param_value::<Option<T>>(alloc, name, None)? {
+        Ok((_, given)) => Ok(given.is_none()),
+        Err(_) => Ok(false),
+    }
+}
+
+fn nulls(alloc: Global) -> Made<bool> {
+    match query(alloc, "{ o(n: null, m: 1) }")? {
+        Some(ground) => match ground.first() {
+            Some(context) => Ok(
+                is_none::<bool>(alloc, &context, "n")?
+                    && is_none::<Text>(alloc, &context, "absent")?
+                    && !is_none::<i32>(alloc, &context, "m")?
+                    && !is_none::<Text>(alloc, &context, "m")?,
+            ),
+            None => Ok(false),
+        },
+        None => Ok(false),
+    }
+}
+
+#[test]
+fn nulls_as_parameters(rt: HostRuntime) -> Result<(), Fail> {
+    assert!(rt; nulls(rt.alloc())?);
+    Ok(())
+}

@@ -1,0 +1,151 @@
+//! The values of arguments: of a field's arguments and directives, and of parameters.
+use crate::queries::Ground;
+use gql_base::{
+    Copied, Made, Name, Number, Pairs, ServerError, Text, Value, Variables, literal_of,
+};
+use gql_resolve::{ConstDirective, SelectionField};
+use std::alloc::Global;
+use std::test::Fail;
+
+/// Variables of which `a` is 7 and `z` is null.
+fn variables(alloc: Global) -> Made<Variables> {
+    let mut members = Pairs::new(alloc);
+    members.insert(Name::new(alloc, "a")?, Value::Number(Number::from_i64(7)))?;
+    members.insert(Name::new(alloc, "z")?, Value::Null)?;
+    Ok(Variables::from_value(alloc, Value::Object(members)))
+}
+
+fn query(alloc: Global, text: &str) -> Made<Option<Ground>> {
+    let variables = variables(alloc)?;
+    Ground::of(alloc, text, variables)
+}
+
+/// The message of an error, with its places. It has no path.
+fn error_text(alloc: Global, error: &ServerError) -> Made<Text> {
+    let mut out = String::new(alloc);
+    write!(out, "{}", error.message.as_str())?;
+    for pos in error.locations.as_slice() {
+        write!(out, " {}:{}", pos.line, pos.column)?;
+    }
+    if !error.path.is_empty() {
+        out.push_str(" with a path")?;
+    }
+    Ok(Text::from_string(out))
+}
+
+/// A name and a value.
+fn push_value(alloc: Global, out: &mut String, name: &str, value: &Value) -> Made<()> {
+    let literal = literal_of(alloc, value)?;
+    write!(out, "{name} {literal}; ")
+}
+
+fn arguments_text(alloc: Global, field: &SelectionField<'_>) -> Made<Text> {
+    match field.arguments(alloc)? {
+        Ok(arguments) => values_text(alloc, arguments.as_slice()),
+        Err(error) => error_text(alloc, &error),
+    }
+}
+
+fn values_text(alloc: Global, arguments: &[(Name, Value)]) -> Made<Text> {
+    let mut out = String::new(alloc);
+    for (name, value) in arguments {
+        push_value(alloc, &mut out, name.as_str(), value)?;
+    }
+    Ok(Text::from_string(out))
+}
+
+/// The arguments of the first field of a query, or their refusal.
+fn arguments(alloc: Global, text: &str) -> Made<Text> {
+    match query(alloc, text)? {
+        Some(ground) => match ground.first() {
+            Some(context) => arguments_text(alloc, &context.field()),
+            None => Text::new(alloc, "no field"),
+        },
+        None => Text::new(alloc, "no query"),
+    }
+}
+
+#[test]
+fn arguments_with_their_values(rt: HostRuntime) -> Result<(), Fail> {
+    let alloc = rt.alloc();
+    assert_eq!(rt; arguments(alloc, "{ o }")?.as_str(), "");
+    assert_eq!(rt;
+        arguments(
+            alloc,
+            "query($a: Int, $d: Int = 4) { o(s: \"t\", n: [$d, $a], n: E) }"
+        )?
+        .as_str(),
+        "s \"t\"; n [4, 7]; n E; "
+    );
+    assert_eq!(rt;
+        arguments(
+            alloc,
+            "query($z: Int = 1, $m: Int!) { o(z: {k: $z}, m: $m) }"
+        )?
+        .as_str(),
+        "z {k: null}; m null; "
+    );
+    assert_eq!(rt;
+        arguments(
+            alloc,
+            "query($d: Int = 4) { o(n: $d, m: {k: [$a]}, l: $lost) }"
+        )?
+        .as_str(),
+        "Variable a is not defined. 1:31"
+    );
+    Ok(())
+}
+
+fn directive_text(alloc: Global, directive: &ConstDirective) -> Made<Text> {
+    let mut out = String::new(alloc);
+    let at = directive.name.pos.column;
+    write!(out, "@{} {at}: ", directive.name.node.as_str())?;
+    for (name, value) in directive.arguments.as_slice() {
+        write!(out, "{}:{} ", name.pos.column, value.pos.column)?;
+        push_value(alloc, &mut out, name.node.as_str(), &value.node)?;
+    }
+    Ok(Text::from_string(out))
+}
+
+/// Directives, each copied before it is told.
+fn copies_text(alloc: Global, directives: &[ConstDirective]) -> Made<Text> {
+    let mut out = String::new(alloc);
+    for directive in directives {
+        let copy = directive.try_clone(alloc)?;
+        let text = directive_text(alloc, &copy)?;
+        out.push_str(text.as_str())?;
+    }
+    Ok(Text::from_string(out))
+}
+
+fn directives_text(alloc: Global, field: &SelectionField<'_>) -> Made<Text> {
+    match field.directives(alloc)? {
+        Ok(directives) => copies_text(alloc, directives.as_slice()),
+        Err(error) => error_text(alloc, &error),
+    }
+}
+
+/// The directives of the first field of a query, or their refusal.
+fn directives(alloc: Global, text: &str) -> Made<Text> {
+    match query(alloc, text)? {
+        Some(ground) => match ground.first() {
+            Some(context) => directives_text(alloc, &context.field()),
+            None => Text::new(alloc, "no field"),
+        },
+        None => Text::new(alloc, "no query"),
+    }
+}
+
+#[test]
+fn directives_with_their_values(rt: HostRuntime) -> Result<(), Fail> {
+    let alloc = rt.alloc();
+    assert_eq!(rt;
+        directives(alloc, "query($a: Int) { o @a @b(x: 1, y: $a) }")?.as_str(),
+        "@a 21: @b 24: 26:29 x 1; 32:35 y 7; "
+    );
+    assert_eq!(rt;
+        directives(alloc, "{ o @a @b(x: 1, y: $a) }")?.as_str(),
+        "Variable a is not defined. 1:17"
+    );
+    Ok(())
+}
