@@ -20,6 +20,7 @@ pub mod MarkLemmas
 pub mod NestingLemmas
 pub mod OrderLemmas
 pub mod PreparedLemmas
+pub mod RankLemmas
 pub mod ReachLemmas
 pub mod RefusalLemmas
 pub mod Rows

@@ -21,6 +21,7 @@ pub mod Literals
 pub mod PlaceViews
 pub mod Places
 pub mod Prepared
+pub mod Ranks
 pub mod Refusal
 pub mod RulesChecked
 pub mod Spreads

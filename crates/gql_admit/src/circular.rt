@@ -1,10 +1,13 @@
 //! Fragments that reach themselves by spreads.
-ghost use Rattle.std.specs.Prelude.{◌≡◌, ◌<◌, length, OnOk};
-ghost use Rattle.gql_admit.specs.Circular.{Adds, AreWithin, CircularAt, IsCircular};
+ghost use Rattle.std.specs.Prelude.{◌≡◌, ◌<◌, length, IfOk, OnOk};
+ghost use Rattle.std.specs.Bool.{Decides};
+ghost use Rattle.gql_admit.specs.Circular.{Adds, AreWithin, CircularAt, IsCircular, Reaches};
+ghost use Rattle.gql_admit.specs.Ranks.{AreRanks};
 ghost use Rattle.gql_admit.specs.Spreads.{graph_of as spreads_of};
 
 use crate::breach::Breach;
 use crate::breach_texts::circular_fragment;
+use crate::ranks::{leads_at_most, rank_at, ranks_of};
 use crate::reaching::reaches_itself;
 use crate::spreads::graph_of;
 use gql_base::{Items, Made, Pairs};
@@ -20,7 +23,8 @@ pub fn tell_circular(
     ensures { OnOk result (Adds (IsCircular fragments.now) found.old found.new) }
 {
     let graph = graph_of(alloc, fragments)?;
-    tell_each(alloc, fragments, graph.as_slice(), found)
+    let ranks = ranks_of(alloc, graph.as_slice())?;
+    tell_each(alloc, fragments, graph.as_slice(), ranks.as_slice(), found)
 }
 
 #[tactic(auto, using(crate::proofs::CircularLemmas::each_before))]
@@ -28,14 +32,16 @@ fn tell_each(
     alloc: Global,
     fragments: &Pairs<Positioned<FragmentDefinition>>,
     graph: &[Items<usize>],
+    ranks: &[usize],
     found: &mut Items<Breach>,
 ) -> Made<()>
     requires graph { graph.now ≡ spreads_of fragments.now }
     requires within { AreWithin graph.now }
+    requires ranks { AreRanks graph.now ranks.now }
     ensures { OnOk result (Adds (IsCircular fragments.now) found.old found.new) }
 {
     for place in 0..fragments.len() {
-        tell_one(alloc, fragments, graph, place, found)?;
+        tell_one(alloc, fragments, graph, ranks, place, found)?;
     }
     Ok(())
 }
@@ -45,17 +51,35 @@ fn tell_one(
     alloc: Global,
     fragments: &Pairs<Positioned<FragmentDefinition>>,
     graph: &[Items<usize>],
+    ranks: &[usize],
     place: usize,
     found: &mut Items<Breach>,
 ) -> Made<()>
     requires inside { place < length fragments.now }
     requires graph { graph.now ≡ spreads_of fragments.now }
     requires within { AreWithin graph.now }
+    requires ranks { AreRanks graph.now ranks.now }
     ensures { OnOk result (Adds (CircularAt fragments.now place) found.old found.new) }
 {
-    if !reaches_itself(alloc, graph, place)? {
+    if !is_circular(alloc, graph, ranks, place)? {
         return Ok(());
     }
     let (name, fragment) = fragments.at(place);
     found.push(circular_fragment(alloc, fragment.pos, name)?)
+}
+
+/// True exactly where a place reaches itself. It does not where it leads to lower numbers alone;
+/// only else is there a walk.
+#[tactic(auto, using(crate::proofs::RankLemmas::falls_free))]
+fn is_circular(alloc: Global, graph: &[Items<usize>], ranks: &[usize], place: usize) -> Made<bool>
+    requires inside { place < length graph.now }
+    requires within { AreWithin graph.now }
+    requires ranks { AreRanks graph.now ranks.now }
+    ensures { IfOk result (λ reaches. Decides reaches (Reaches graph.now place place)) }
+{
+    let own = rank_at(ranks, place);
+    if own > 0 && leads_at_most(graph, ranks, place, own - 1) {
+        return Ok(false);
+    }
+    reaches_itself(alloc, graph, place)
 }

@@ -138,6 +138,18 @@ fn fields_and_arguments_that_do_not_fit(rt: HostRuntime) -> Result<(), Fail> {
         ),
         (
             (ADD, TYPES),
+            "query($v: String) { add(a: $v) }",
+            r#"Variable \"$v\" does not fit argument \"a\"."#,
+            25,
+        ),
+        (
+            (ADD, TYPES),
+            "{ x: add(a: 1) x: add(a: 2) }",
+            r#"Fields \"x\" conflict."#,
+            16,
+        ),
+        (
+            (ADD, TYPES),
             "{ add(a: null) }",
             r#"Invalid value for argument \"a\", expected type \"Int!\""#,
             7,

@@ -9,6 +9,6 @@ returns c =
     (Adds (CircularAt c.args.fragments.now c.args.place) c.args.found.now c.push.new.self)
     (λ added.
     one_told c.args.fragments.now c.args.place c.at.result.0.now c.at.result.1.now c.args.found.now c.push.new.self c.in_ok-circular_fragment.field-0
-    c.in_ok-reaches_itself.field-0 c.args.graph.now c.at.ensures c.requires.graph c.in_ok-reaches_itself.ensures c.if-not-branch.false
+    c.in_ok-is_circular.field-0 c.args.graph.now c.at.ensures c.requires.graph c.in_ok-is_circular.ensures c.if-not-branch.false
     c.in_ok-circular_fragment.ensures added)
     c.push.ensures.ok

@@ -1,0 +1,56 @@
+//! Numbers of places, by which most are known not to reach themselves without a walk for each.
+ghost use Rattle.std.specs.Prelude.{◌≡◌, ◌<◌, true, length, IfOk};
+ghost use Rattle.gql_admit.specs.Circular.{led_to};
+ghost use Rattle.gql_admit.specs.Ranks.{AreRanks, all_at_most, rank_of};
+
+use crate::numbering::numbers_of;
+use gql_base::{Items, Made};
+use std::alloc::Global;
+
+/// A number for each place, such that no place leads to one of a higher number.
+#[tactic(auto, using(crate::proofs::RankLemmas::ranked_none))]
+pub fn ranks_of(alloc: Global, graph: &[Items<usize>]) -> Made<Vec<usize>>
+    ensures { IfOk result (λ ranks. AreRanks graph.now ranks.items) }
+{
+    let numbers = numbers_of(alloc, graph)?;
+    if are_ranks(graph, numbers.as_slice()) {
+        Ok(numbers)
+    } else {
+        Ok(Vec::new(alloc))
+    }
+}
+
+/// The number of a place, and 0 where there is none.
+pub fn rank_at(ranks: &[usize], place: usize) -> usize
+    ensures { result ≡ rank_of ranks.now place }
+{
+    if place < ranks.len() { ranks[place] } else { 0 }
+}
+
+/// True where no place leads to one of a higher number.
+#[tactic(auto, using(crate::proofs::RankLemmas::none_tested, crate::proofs::RankLemmas::tested_more))]
+fn are_ranks(graph: &[Items<usize>], ranks: &[usize]) -> bool
+    ensures { result ≡ true → AreRanks graph.now ranks.now }
+{
+    for place in 0..graph.len() {
+        let own = rank_at(ranks, place);
+        if !leads_at_most(graph, ranks, place, own) {
+            return false;
+        }
+    }
+    true
+}
+
+/// True exactly where a place leads to places of at most this number.
+pub fn leads_at_most(graph: &[Items<usize>], ranks: &[usize], place: usize, most: usize) -> bool
+    requires { place < length graph.now }
+    ensures { result ≡ all_at_most ranks.now most (led_to graph.now place) }
+{
+    are_at_most(graph[place].as_slice(), ranks, most)
+}
+
+fn are_at_most(places: &[usize], ranks: &[usize], most: usize) -> bool
+    ensures { result ≡ all_at_most ranks.now most places.now }
+{
+    places.iter().all(|place| rank_at(ranks, *place) <= most)
+}
