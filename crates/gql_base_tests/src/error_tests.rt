@@ -117,6 +117,28 @@ fn errors_of_a_resolver(rt: HostRuntime) -> Result<(), Fail> {
     Ok(())
 }
 
+/// How many values the extensions of an error have, where it has extensions.
+fn extension_count(error: &Error) -> Option<usize> {
+    match &error.extensions {
+        Some(values) => Some(values.len()),
+        None => None,
+    }
+}
+
+/// The message of an error to which a callback adds nothing, and the count of its extensions.
+fn told_nothing(alloc: Global, message: &str) -> Made<Text> {
+    let error = Error::new(alloc, message)?.extend_with(alloc, |_, _| Ok(()))?;
+    let count = extension_count(&error);
+    let text = error.message.as_str();
+    Ok(Text::from_string(format!(in alloc; "{text} {count:?}")?))
+}
+
+#[test]
+fn a_callback_that_sets_nothing(rt: HostRuntime) -> Result<(), Fail> {
+    assert_eq!(rt; told_nothing(rt.alloc(), "e")?.as_str(), "e Some(0)");
+    Ok(())
+}
+
 /// The message of a failure, or none of a value.
 fn message_of(answer: Result<u8, Error>) -> Option<Text> {
     match answer {

@@ -163,6 +163,18 @@ fn types(rt: HostRuntime) -> Result<(), Fail> {
     Ok(())
 }
 
+/// The text of the non-null list of a non-null type of a name.
+fn list_text(alloc: Global, name: &str) -> Made<Text> {
+    let ty = TypeRef::named_nn_list_nn(alloc, name)?;
+    ty.text(alloc)
+}
+
+#[test]
+fn text_of_a_type(rt: HostRuntime) -> Result<(), Fail> {
+    assert_eq!(rt; list_text(rt.alloc(), "MyObj")?.as_str(), "[MyObj!]!");
+    Ok(())
+}
+
 /// A type's text behind its innermost name, and whether it is nullable and its copy equals it.
 fn type_parts(alloc: Global, ty: TypeRef) -> Made<Text> {
     let nullable = ty.is_nullable();
