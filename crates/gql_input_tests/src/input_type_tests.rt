@@ -1,176 +1,162 @@
 //! The input types, each public call once, at values that are made by small functions.
-use gql_base::{Boxed, Made, Name, Number, Pos, ServerError, Text, Value};
-use gql_input::{
-    EnumItem, EnumType, InputType, InputValueError, InputValueResult, enum_value, parse_enum,
-    parse_enum_named,
-};
+use crate::error_tests::message_of;
+use gql_base::{Boxed, Made, Name, Number, Text, Value, literal_of};
+use gql_input::InputType;
 use std::alloc::Global;
 use std::test::Fail;
-
-/// The error of a response for an error of an input.
-fn told<T: InputType>(alloc: Global, error: InputValueError<T>) -> Made<ServerError> {
-    error.into_server_error(alloc, Pos { line: 1, column: 2 })
-}
-
-#[test]
-fn a_value_of_another_kind(rt: HostRuntime) -> Result<(), Fail> {
-    let error = InputValueError::<i32>::expected_type(rt.alloc(), Value::Boolean(true))?;
-    let server = told(rt.alloc(), error)?;
-    assert_eq!(rt;
-        server.message.as_str(),
-        "Expected input type \"Int\", found true."
-    );
-    Ok(())
-}
-
-/// A refusal at `Int`, told of `String`, with an extension.
-fn propagated(alloc: Global) -> Made<InputValueError<Text>> {
-    InputValueError::<i32>::custom(alloc, "no")?
-        .propagate(alloc)?
-        .with_extension(alloc, "code", Value::Null)
-}
-
-#[test]
-fn a_refusal_told_of_another_type(rt: HostRuntime) -> Result<(), Fail> {
-    let server = told(rt.alloc(), propagated(rt.alloc())?)?;
-    assert_eq!(rt;
-        server.message.as_str(),
-        "Failed to parse \"Int\": no (occurred while parsing \"String\")"
-    );
-    assert!(rt; server.extensions.is_some());
-    Ok(())
-}
 
 fn number(number: i64) -> Option<Value> {
     Some(Value::Number(Number::from_i64(number)))
 }
 
-/// Whether a value is read and shown again as it was.
-fn comes_back<T: InputType + Drop>(alloc: Global, value: Value) -> Made<bool> {
-    match T::parse(alloc, Some(value))? {
-        Ok(read) => is_shown(alloc, &read),
-        Err(_) => Ok(false),
-    }
+fn string(alloc: Global, text: &str) -> Made<Option<Value>> {
+    Ok(Some(Value::String(Text::new(alloc, text)?)))
 }
 
-/// Whether a value of an input type stands for a value that has its raw value.
-fn is_shown<T: InputType>(alloc: Global, read: &T) -> Made<bool> {
-    let shown = read.to_value(alloc)?;
-    Ok(read.as_raw_value().is_some() == (shown != Value::Null))
+/// The literal of the value that stands for one of an input type.
+pub(crate) fn shown<T: InputType>(alloc: Global, read: &T) -> Made<Text> {
+    let value = read.to_value(alloc)?;
+    literal_of(alloc, &value)
+}
+
+/// The literal of what is read of a value, or the message of its refusal.
+fn given<T: InputType + Drop>(alloc: Global, value: Option<Value>) -> Made<Text> {
+    match T::parse(alloc, value)? {
+        Ok(read) => shown(alloc, &read),
+        Err(error) => message_of(alloc, error),
+    }
 }
 
 #[test]
 fn values_of_input_types(rt: HostRuntime) -> Result<(), Fail> {
     let alloc = rt.alloc();
-    assert!(rt; comes_back::<bool>(alloc, Value::Boolean(true))?);
-    assert!(rt; comes_back::<i32>(alloc, Value::Number(Number::from_i64(7)))?);
-    assert!(rt; comes_back::<Text>(alloc, Value::String(Text::new(alloc, "a")?))?);
-    assert!(rt; comes_back::<Option<i32>>(alloc, Value::Null)?);
-    assert!(rt; comes_back::<Boxed<bool>>(alloc, Value::Boolean(false))?);
+    let truth = Some(Value::Boolean(true));
+    assert_eq!(rt; given::<bool>(alloc, truth)?.as_str(), "true");
+    assert_eq!(rt; given::<i32>(alloc, number(7))?.as_str(), "7");
+    let text = string(alloc, "a")?;
+    assert_eq!(rt; given::<Text>(alloc, text)?.as_str(), "\"a\"");
+    Ok(())
+}
+
+#[test]
+fn values_of_options_and_boxes(rt: HostRuntime) -> Result<(), Fail> {
+    let alloc = rt.alloc();
+    let null = Some(Value::Null);
+    assert_eq!(rt; given::<Option<i32>>(alloc, null)?.as_str(), "null");
+    assert_eq!(rt; given::<Option<bool>>(alloc, None)?.as_str(), "null");
+    assert_eq!(rt; given::<Option<i32>>(alloc, number(-3))?.as_str(), "-3");
+    let truth = Some(Value::Boolean(false));
+    assert_eq!(rt; given::<Boxed<bool>>(alloc, truth)?.as_str(), "false");
     Ok(())
 }
 
 #[test]
 fn numbers_out_of_range(rt: HostRuntime) -> Result<(), Fail> {
     let alloc = rt.alloc();
-    assert!(rt; i32::parse(alloc, number(2_147_483_648))?.is_err());
-    assert!(rt; i32::parse(alloc, number(-2_147_483_648))?.is_ok());
-    assert!(rt; i32::parse(alloc, None)?.is_err());
+    for (value, text) in [
+        (2_147_483_647, "2147483647"),
+        (-2_147_483_648, "-2147483648"),
+        (
+            2_147_483_648,
+            "Expected input type \"Int\", found 2147483648.",
+        ),
+        (
+            -2_147_483_649,
+            "Expected input type \"Int\", found -2147483649.",
+        ),
+    ] {
+        assert_eq!(rt; given::<i32>(alloc, number(value))?.as_str(), text);
+    }
     Ok(())
 }
 
+#[test]
+fn absent_values(rt: HostRuntime) -> Result<(), Fail> {
+    let alloc = rt.alloc();
+    assert_eq!(rt;
+        given::<i32>(alloc, None)?.as_str(),
+        "Expected input type \"Int\", found null."
+    );
+    assert_eq!(rt;
+        given::<bool>(alloc, None)?.as_str(),
+        "Expected input type \"Boolean\", found null."
+    );
+    assert_eq!(rt;
+        given::<Boxed<Text>>(alloc, None)?.as_str(),
+        "Expected input type \"String\", found null."
+    );
+    Ok(())
+}
+
+#[test]
+fn values_of_other_kinds(rt: HostRuntime) -> Result<(), Fail> {
+    let alloc = rt.alloc();
+    let text = string(alloc, "true")?;
+    assert_eq!(rt;
+        given::<bool>(alloc, text)?.as_str(),
+        "Expected input type \"Boolean\", found \"true\"."
+    );
+    let name = Some(Value::Enum(Name::new(alloc, "RED")?));
+    assert_eq!(rt;
+        given::<Text>(alloc, name)?.as_str(),
+        "Expected input type \"String\", found RED."
+    );
+    assert_eq!(rt;
+        given::<Option<bool>>(alloc, number(1))?.as_str(),
+        "Expected input type \"Boolean\", found 1."
+    );
+    Ok(())
+}
+
+/// What a value of an input type is at its heart, where that can be copied.
+pub(crate) fn heart<R: Copy, T: InputType<RawValueType = R>>(value: &T) -> Option<R> {
+    value.as_raw_value().copied()
+}
+
+/// Whether a text is at its own heart.
+fn is_own_heart(text: &Text) -> bool {
+    text.as_raw_value() == Some(text)
+}
+
+#[test]
+fn hearts_of_values(rt: HostRuntime) -> Result<(), Fail> {
+    let alloc = rt.alloc();
+    assert_eq!(rt; heart(&true), Some(true));
+    assert_eq!(rt; heart(&7i32), Some(7));
+    assert!(rt; is_own_heart(&Text::new(alloc, "a")?));
+    assert_eq!(rt; heart(&Some(3i32)), Some(3));
+    assert_eq!(rt; heart::<i32, Option<i32>>(&None), None);
+    assert_eq!(rt; heart(&Boxed::new(alloc, false)?), Some(false));
+    Ok(())
+}
+
+/// The name of a type.
+pub(crate) fn named<T: InputType>() -> &'static str {
+    T::type_name()
+}
+
 /// The name of a type with its mark.
-fn qualified<T: InputType>(alloc: Global) -> Made<Text> {
+pub(crate) fn qualified<T: InputType>(alloc: Global) -> Made<Text> {
     T::qualified_type_name(alloc)
 }
 
 #[test]
 fn names_of_types(rt: HostRuntime) -> Result<(), Fail> {
+    assert_eq!(rt; named::<bool>(), "Boolean");
+    assert_eq!(rt; named::<i32>(), "Int");
+    assert_eq!(rt; named::<Text>(), "String");
+    assert_eq!(rt; named::<Option<Text>>(), "String");
+    assert_eq!(rt; named::<Boxed<i32>>(), "Int");
+    assert_eq!(rt; named::<Boxed<Option<bool>>>(), "Boolean");
+    Ok(())
+}
+
+#[test]
+fn names_of_types_with_their_marks(rt: HostRuntime) -> Result<(), Fail> {
     let alloc = rt.alloc();
     assert_eq!(rt; qualified::<Boxed<i32>>(alloc)?.as_str(), "Int!");
     assert_eq!(rt; qualified::<Option<i32>>(alloc)?.as_str(), "Int");
     assert_eq!(rt; qualified::<bool>(alloc)?.as_str(), "Boolean!");
     assert_eq!(rt; qualified::<Text>(alloc)?.as_str(), "String!");
-    Ok(())
-}
-
-/// Two colours.
-#[derive(Clone, Copy, PartialEq, Eq, Debug)]
-enum Colour {
-    Red,
-    Green,
-}
-
-const COLOURS: [EnumItem<Colour>; 2] = [
-    EnumItem {
-        name: "RED",
-        value: Colour::Red,
-    },
-    EnumItem {
-        name: "GREEN",
-        value: Colour::Green,
-    },
-];
-
-impl EnumType for Colour {
-    ghost use Rattle.std.specs.Prelude.{[], ◌∷◌, codes};
-    ghost use Rattle.gql_input_tests.specs.declared.input_type_tests.Colour.TheVariants.{Red};
-    ghost use Rattle.gql_input_tests.specs.declared.input_type_tests.Colour.TheVariants.{Green};
-
-    ghost listed = { (codes "RED", Red) ∷ (codes "GREEN", Green) ∷ [] };
-
-    fn items() -> &'static [EnumItem<Colour>] {
-        &COLOURS
-    }
-}
-
-impl InputType for Colour {
-    ghost use Rattle.std.specs.Prelude.{[], ◌∷◌, Some, codes};
-    ghost use Rattle.gql_base.specs.declared.value.Value.TheVariants as value;
-    ghost use Rattle.gql_input_tests.specs.declared.input_type_tests.Colour.{Colour as OneColour};
-    ghost use Rattle.gql_input_tests.specs.declared.input_type_tests.Colour.TheVariants.{Red};
-    ghost use Rattle.gql_input_tests.specs.declared.input_type_tests.Colour.TheVariants.{Green};
-    ghost use Rattle.gql_input.specs.EnumType.{read_enum};
-    ghost use Rattle.gql_input.specs.InputType.{or_null};
-
-    type RawValueType = Colour;
-
-    ghost name = { codes "Colour" };
-
-    ghost qualified = { codes "Colour!" };
-
-    ghost read = { λ given. read_enum (codes "Colour") ((codes "RED", Red) ∷ (codes "GREEN", Green)
-        ∷ []) (or_null given) };
-
-    ghost shown = { elim [ Red ↦ value.Enum (codes "RED") | Green ↦ value.Enum (codes "GREEN") ] };
-
-    ghost raw = { λ colour. Some colour };
-
-    fn type_name() -> &'static str {
-        "Colour"
-    }
-
-    fn qualified_type_name(alloc: Global) -> Made<Text> {
-        Text::new(alloc, "Colour!")
-    }
-
-    fn parse(alloc: Global, value: Option<Value>) -> Made<InputValueResult<Colour>> {
-        parse_enum_named(alloc, "Colour", value.unwrap_or(Value::Null))
-    }
-
-    fn to_value(&self, alloc: Global) -> Made<Value> {
-        enum_value(alloc, *self)
-    }
-
-    fn as_raw_value(&self) -> Option<&Colour> {
-        Some(self)
-    }
-}
-
-#[test]
-fn enums(rt: HostRuntime) -> Result<(), Fail> {
-    let alloc = rt.alloc();
-    assert!(rt; comes_back::<Colour>(alloc, Value::String(Text::new(alloc, "GREEN")?))?);
-    assert!(rt; parse_enum::<Colour>(alloc, Value::Enum(Name::new(alloc, "BLUE")?))?.is_err());
     Ok(())
 }

@@ -1,7 +1,9 @@
 //! Each public call once, over values that are made by small functions, since a test is proved too.
+use crate::enum_tests::Colour;
 use gql_base::{Items, Made, Name, Number, Pairs, Text, Value};
 use gql_input::{
-    AccessFault, Keys, ListAccessor, ListItems, Members, ObjectAccessor, ValueAccessor, Values,
+    AccessFault, EnumItem, InputValueError, Keys, ListAccessor, ListItems, Members, ObjectAccessor,
+    ValueAccessor, Values,
 };
 use std::alloc::Global;
 use std::test::Fail;
@@ -69,6 +71,42 @@ fn objects(rt: HostRuntime) -> Result<(), Fail> {
     let value = Value::Object(members(rt.alloc())?);
     assert!(rt; matches!(reads_members(&value), Ok(true)));
     assert!(rt; reads_object(&value));
+    Ok(())
+}
+
+/// The number of the argument `x`.
+fn argument(args: ObjectAccessor<'_>) -> Result<i64, AccessFault<'static>> {
+    Ok(args.try_get("x")?.i64()?)
+}
+
+/// The number of the argument `x` as a text, or the text of the fault.
+fn told(alloc: Global, args: ObjectAccessor<'_>) -> Made<Text> {
+    match argument(args) {
+        Ok(number) => Ok(Text::from_string(format!(in alloc; "{number}")?)),
+        Err(fault) => text_of(alloc, fault),
+    }
+}
+
+/// What is told of the argument `x` where one of a name has a value.
+fn told_of(alloc: Global, name: &str, value: Value) -> Made<Text> {
+    let mut members = Pairs::new(alloc);
+    members.add(Name::new(alloc, name)?, value)?;
+    told(alloc, ObjectAccessor::new(&members))
+}
+
+#[test]
+fn an_argument(rt: HostRuntime) -> Result<(), Fail> {
+    let alloc = rt.alloc();
+    let number = Value::Number(Number::from_i64(-5));
+    assert_eq!(rt; told_of(alloc, "x", number)?.as_str(), "-5");
+    assert_eq!(rt;
+        told_of(alloc, "x", Value::Boolean(true))?.as_str(),
+        "internal: not an signed integer"
+    );
+    assert_eq!(rt;
+        told_of(alloc, "y", Value::Null)?.as_str(),
+        "internal: key \"x\" not found"
+    );
     Ok(())
 }
 
@@ -163,6 +201,7 @@ fn is_send_sync<T: Send + Sync>() {}
 #[test]
 fn types_can_be_shared() {
     is_send_sync::<AccessFault<'static>>();
+    is_send_sync::<EnumItem<Colour>>();
     is_send_sync::<Keys<'static>>();
     is_send_sync::<ListAccessor<'static>>();
     is_send_sync::<ListItems<'static>>();
@@ -170,4 +209,9 @@ fn types_can_be_shared() {
     is_send_sync::<ObjectAccessor<'static>>();
     is_send_sync::<ValueAccessor<'static>>();
     is_send_sync::<Values<'static>>();
+}
+
+#[test]
+fn errors_can_be_shared() {
+    is_send_sync::<InputValueError<bool>>();
 }

@@ -1,0 +1,116 @@
+//! A scalar of the tests' own, each call of which is compared.
+ghost use Rattle.std.specs.Prelude.{◌≡◌, if◌then◌else◌};
+ghost use Rattle.gql_input_tests.specs.declared.scalar_tests.Switch.TheVariants.{On, Off};
+
+use crate::error_tests::message_of;
+use gql_base::{Made, Number, Text, Value, literal_of};
+use gql_input::{InputValueError, InputValueResult, ScalarType};
+use std::alloc::Global;
+use std::test::Fail;
+
+/// A switch, for which a truth value stands.
+#[derive(Clone, Copy, PartialEq, Eq, Debug)]
+enum Switch {
+    On,
+    Off,
+}
+
+fn turned(on: bool) -> Switch
+    ensures { result ≡ (if on then On else Off) }
+{
+    if on { Switch::On } else { Switch::Off }
+}
+
+impl ScalarType for Switch {
+    ghost use Rattle.std.specs.Prelude.{true, false, codes, is_some, option_map};
+    ghost use Rattle.std.specs.Prelude.{if◌then◌else◌};
+    ghost use Rattle.std.specs.Option.{ok_or};
+    ghost use Rattle.gql_base.specs.Kinds.{boolean_of};
+    ghost use Rattle.gql_base.specs.declared.value.Value.TheVariants as value;
+    ghost use Rattle.gql_input.specs.InputValueError.{expected_text};
+    ghost use Rattle.gql_input_tests.specs.declared.scalar_tests.Switch.TheVariants.{On, Off};
+
+    ghost read = { λ given. ok_or (option_map (λ on. if on then On else Off) (boolean_of given))
+        (expected_text (codes "Switch") given) };
+
+    ghost valid = { λ given. is_some (boolean_of given) };
+
+    ghost shown = { elim [ On ↦ value.Boolean true | Off ↦ value.Boolean false ] };
+
+    fn parse(alloc: Global, value: Value) -> Made<InputValueResult<Switch>> {
+        match value {
+            Value::Boolean(on) => Ok(Ok(turned(on))),
+            other => Ok(Err(InputValueError::expected(alloc, "Switch", other)?)),
+        }
+    }
+
+    fn is_valid(value: &Value) -> bool {
+        match value {
+            Value::Boolean(_) => true,
+            _ => false,
+        }
+    }
+
+    fn to_value(&self, _alloc: Global) -> Made<Value> {
+        match self {
+            Switch::On => Ok(Value::Boolean(true)),
+            Switch::Off => Ok(Value::Boolean(false)),
+        }
+    }
+}
+
+/// What a value gives at a scalar, where it isn't refused.
+fn read<T: ScalarType + Drop>(alloc: Global, value: Value) -> Made<Option<T>> {
+    Ok(T::parse(alloc, value)?.ok())
+}
+
+/// The message of a refusal at a scalar, or an empty text where there is none.
+fn refusal<T: ScalarType + Drop>(alloc: Global, value: Value) -> Made<Text> {
+    match T::parse(alloc, value)? {
+        Ok(_) => Text::new(alloc, ""),
+        Err(error) => message_of(alloc, error.retyped::<bool>()),
+    }
+}
+
+#[test]
+fn values_at_a_scalar(rt: HostRuntime) -> Result<(), Fail> {
+    let alloc = rt.alloc();
+    let on = read::<Switch>(alloc, Value::Boolean(true))?;
+    assert_eq!(rt; on, Some(Switch::On));
+    let off = read::<Switch>(alloc, Value::Boolean(false))?;
+    assert_eq!(rt; off, Some(Switch::Off));
+    assert_eq!(rt; read::<Switch>(alloc, Value::Null)?, None);
+    assert_eq!(rt;
+        refusal::<Switch>(alloc, Value::Number(Number::from_i64(1)))?.as_str(),
+        "Expected input type \"Switch\", found 1."
+    );
+    Ok(())
+}
+
+/// Whether a value may stand in a document at a scalar.
+fn is_valid<T: ScalarType>(value: &Value) -> bool {
+    T::is_valid(value)
+}
+
+#[test]
+fn values_that_may_stand_at_a_scalar(rt: HostRuntime) -> Result<(), Fail> {
+    let text = Value::String(Text::new(rt.alloc(), "true")?);
+    assert!(rt; is_valid::<Switch>(&Value::Boolean(false)));
+    assert!(rt; !is_valid::<Switch>(&Value::Null));
+    assert!(rt; !is_valid::<Switch>(&text));
+    Ok(())
+}
+
+/// The literal of the value that stands for one of a scalar.
+fn shown<T: ScalarType>(alloc: Global, scalar: &T) -> Made<Text> {
+    let value = scalar.to_value(alloc)?;
+    literal_of(alloc, &value)
+}
+
+#[test]
+fn values_of_a_scalar(rt: HostRuntime) -> Result<(), Fail> {
+    let alloc = rt.alloc();
+    assert_eq!(rt; shown(alloc, &Switch::On)?.as_str(), "true");
+    assert_eq!(rt; shown(alloc, &Switch::Off)?.as_str(), "false");
+    Ok(())
+}
