@@ -1,4 +1,7 @@
 use gql_ws::{ALL_WEBSOCKET_PROTOCOLS, Protocols, UnsupportedProtocol};
+use std::alloc::{AllocError, Global};
+use std::collections::HashSet;
+use std::hash::{DefaultHasher, Hash, Hasher};
 use std::str::FromStr;
 use std::test::Fail;
 
@@ -23,5 +26,42 @@ fn names_of_protocols(rt: HostRuntime) -> Result<(), Fail> {
         Protocols::SubscriptionsTransportWS.sec_websocket_protocol(),
         older
     );
+    Ok(())
+}
+
+/// The hash of a key.
+fn hash_of<T: Hash>(key: &T) -> u64 {
+    let mut state = DefaultHasher::new();
+    key.hash(&mut state);
+    state.finish()
+}
+
+#[test]
+fn hashes_of_protocols(rt: HostRuntime) -> Result<(), Fail> {
+    let named = Protocols::from_str("GraphQL-WS")?;
+    assert_eq!(rt;
+        hash_of(&named),
+        hash_of(&Protocols::SubscriptionsTransportWS)
+    );
+    Ok(())
+}
+
+/// The protocols of these names, each once.
+fn protocols(alloc: Global, names: &[&str]) -> Result<HashSet<Protocols>, AllocError> {
+    let mut known = HashSet::new(alloc);
+    for name in names {
+        if let Ok(protocol) = Protocols::from_str(name) {
+            known.insert(protocol)?;
+        }
+    }
+    Ok(known)
+}
+
+#[test]
+fn protocols_as_keys(rt: HostRuntime) -> Result<(), Fail> {
+    let known = protocols(rt.alloc(), &["graphql-ws", "GraphQL-WS", "x"])?;
+    assert_eq!(rt; known.len(), 1);
+    assert!(rt; known.contains(&Protocols::SubscriptionsTransportWS));
+    assert!(rt; !known.contains(&Protocols::GraphQLWS));
     Ok(())
 }
