@@ -1,7 +1,7 @@
 //! The headers of responses, each public call with ample memory.
 use gql_base::{Items, Made, Text, Value};
 use gql_request::{BatchResponse, HeaderFault, HeaderOp, HeaderPairs, Response};
-use http_header::{HeaderName, HeaderValue, MAX_KEYS};
+use http_header::{HeaderMap, HeaderName, HeaderValue, MAX_KEYS};
 use std::alloc::Global;
 use std::test::Fail;
 
@@ -63,13 +63,18 @@ fn single_text(alloc: Global, ops: &[Op]) -> Result<Text, HeaderFault> {
     pairs_text(alloc, batch.http_headers_iter(alloc)?)
 }
 
-/// The headers of a batch of as many responses.
-fn batch_text(alloc: Global, lists: &[&[Op]]) -> Result<Text, HeaderFault> {
+/// A batch of as many responses.
+fn batch(alloc: Global, lists: &[&[Op]]) -> Result<BatchResponse, HeaderFault> {
     let mut responses = Items::new(alloc);
     for ops in lists {
         responses.push(response(alloc, ops)?)?;
     }
-    let batch = BatchResponse::Batch(responses);
+    Ok(BatchResponse::Batch(responses))
+}
+
+/// The headers of a batch of as many responses.
+fn batch_text(alloc: Global, lists: &[&[Op]]) -> Result<Text, HeaderFault> {
+    let batch = batch(alloc, lists)?;
     pairs_text(alloc, batch.http_headers_iter(alloc)?)
 }
 
@@ -82,6 +87,76 @@ fn headers_are_folded(rt: HostRuntime) -> Result<(), Fail> {
     assert!(rt; batch_text(alloc, &[&FIRST])?.as_str() == "a 1; a 2; b 3; ");
     assert!(rt; batch_text(alloc, &[&FIRST, &SECOND])?.as_str() == "a 4; a 5; b 3; c 6; ");
     assert!(rt; batch_text(alloc, &[&SECOND, &FIRST])?.as_str() == "a 1; a 2; c 6; b 3; ");
+    Ok(())
+}
+
+/// The values under a name, each behind a blank.
+fn values_text(alloc: Global, map: &HeaderMap, name: &str) -> Result<Text, HeaderFault> {
+    let mut out = String::new(alloc);
+    for value in map.get_all(name) {
+        let value = value.to_str().unwrap_or("");
+        write!(out, " {value}")?;
+    }
+    Ok(Text::from_string(out))
+}
+
+/// The number of a map's values, and those under each of three names.
+fn map_text(alloc: Global, map: &HeaderMap) -> Result<Text, HeaderFault> {
+    let a = values_text(alloc, map, "a")?;
+    let b = values_text(alloc, map, "B")?;
+    let c = values_text(alloc, map, "c")?;
+    Ok(Text::from_string(format!(in alloc; "{}; a{a}; b{b}; c{c}", map.len())?))
+}
+
+fn made_text(alloc: Global, headers: Result<HeaderMap, HeaderFault>) -> Result<Text, HeaderFault> {
+    match headers {
+        Ok(map) => map_text(alloc, &map),
+        Err(fault) => Err(fault),
+    }
+}
+
+/// The map of a response's headers.
+fn response_map(alloc: Global, ops: &[Op]) -> Result<Text, HeaderFault> {
+    let response = response(alloc, ops)?;
+    made_text(alloc, response.http_headers(alloc))
+}
+
+/// The map of the headers of one response that is answered alone.
+fn single_map(alloc: Global, ops: &[Op]) -> Result<Text, HeaderFault> {
+    let single = BatchResponse::Single(response(alloc, ops)?);
+    made_text(alloc, single.http_headers(alloc))
+}
+
+/// The map of the headers of a batch of as many responses.
+fn batch_map(alloc: Global, lists: &[&[Op]]) -> Result<Text, HeaderFault> {
+    let batch = batch(alloc, lists)?;
+    made_text(alloc, batch.http_headers(alloc))
+}
+
+#[test]
+fn headers_of_one_response_make_a_map(rt: HostRuntime) -> Result<(), Fail> {
+    let alloc = rt.alloc();
+    assert_eq!(rt; response_map(alloc, &[])?.as_str(), "0; a; b; c");
+    assert_eq!(rt; response_map(alloc, &FIRST)?.as_str(), "3; a 1 2; b 3; c");
+    assert_eq!(rt; single_map(alloc, &[])?.as_str(), "0; a; b; c");
+    assert_eq!(rt; single_map(alloc, &FIRST)?.as_str(), "3; a 1 2; b 3; c");
+    assert_eq!(rt; single_map(alloc, &SECOND)?.as_str(), "3; a 4 5; b; c 6");
+    Ok(())
+}
+
+#[test]
+fn headers_of_a_batch_make_a_map(rt: HostRuntime) -> Result<(), Fail> {
+    let alloc = rt.alloc();
+    assert_eq!(rt; batch_map(alloc, &[])?.as_str(), "0; a; b; c");
+    assert_eq!(rt; batch_map(alloc, &[&FIRST])?.as_str(), "3; a 1 2; b 3; c");
+    assert_eq!(rt;
+        batch_map(alloc, &[&FIRST, &SECOND])?.as_str(),
+        "4; a 4 5; b 3; c 6"
+    );
+    assert_eq!(rt;
+        batch_map(alloc, &[&SECOND, &FIRST])?.as_str(),
+        "4; a 1 2; b 3; c 6"
+    );
     Ok(())
 }
 

@@ -2,7 +2,13 @@
 #![tactic(auto)]
 
 #[cfg(test)]
+mod context_tests;
+#[cfg(test)]
+mod copy_tests;
+#[cfg(test)]
 mod header_tests;
+#[cfg(test)]
+mod hook_tests;
 #[cfg(test)]
 mod request_tests;
 #[cfg(test)]

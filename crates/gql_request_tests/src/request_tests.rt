@@ -1,6 +1,9 @@
 //! Requests and batches, each public call with ample memory.
 use gql_base::{Copied, Items, Made, Name, Number, Pairs, Text, Value, Variables, json_of};
-use gql_doc::{DocumentOperations, ExecutableDocument, ParseFault};
+use gql_doc::{
+    DocumentOperations, ExecutableDocument, OperationDefinition, OperationType, ParseFault,
+    Positioned, Selection,
+};
 use gql_request::{BatchRequest, DataKey, IntrospectionMode, ParseRequestError, Request};
 use std::alloc::Global;
 use std::test::Fail;
@@ -369,5 +372,81 @@ fn documents_are_kept(rt: HostRuntime) -> Result<(), Fail> {
     assert!(rt; asked(rt.alloc(), "%", None)?);
     assert!(rt; asked(rt.alloc(), " { a }", Some(2))?);
     assert!(rt; set_first(rt.alloc())?);
+    Ok(())
+}
+
+/// The name of a field and where it stands.
+fn push_selection(out: &mut String, selection: &Positioned<Selection>) -> Made<()> {
+    let column = selection.pos.column;
+    match &selection.node {
+        Selection::Field(field) => {
+            let name = field.node.name.node.as_str();
+            write!(out, " {name} at {column}")
+        }
+        _ => out.push_str(" no field"),
+    }
+}
+
+/// The fields of an operation, which is a query or another.
+fn operation_text(alloc: Global, operation: &OperationDefinition) -> Made<Text> {
+    let ty = match operation.ty {
+        OperationType::Query => "query:",
+        _ => "no query:",
+    };
+    let mut out = String::from_str(alloc, ty)?;
+    for selection in operation.selection_set.node.items.as_slice() {
+        push_selection(&mut out, selection)?;
+    }
+    Ok(Text::from_string(out))
+}
+
+/// The only operation of a document.
+fn document_text(alloc: Global, document: &ExecutableDocument) -> Made<Text> {
+    match &document.operations {
+        DocumentOperations::Single(operation) => operation_text(alloc, &operation.node),
+        DocumentOperations::Multiple(_) => Text::new(alloc, "names"),
+    }
+}
+
+/// What asking for a document gave: the document, or the fault.
+fn outcome_text(alloc: Global, outcome: Result<&ExecutableDocument, ParseFault>) -> Made<Text> {
+    match outcome {
+        Ok(document) => document_text(alloc, document),
+        Err(fault) => Text::new(alloc, fault.message()),
+    }
+}
+
+fn parsed_text(alloc: Global, request: &mut Request) -> Made<Text> {
+    outcome_text(alloc, request.parsed_query(alloc)?)
+}
+
+/// What asking once more gives, under another query.
+fn parsed_again_text(alloc: Global, request: &mut Request, query: Text) -> Made<Text> {
+    request.query = query;
+    parsed_text(alloc, request)
+}
+
+/// What asking for the document of a request gives before its query is changed, and after.
+fn twice_text(alloc: Global, query: &str, other: &str) -> Made<Text> {
+    let other = Text::new(alloc, other)?;
+    let mut request = Request::new(alloc, query)?;
+    let first = parsed_text(alloc, &mut request);
+    let second = parsed_again_text(alloc, &mut request, other);
+    drop(request);
+    let first = first?;
+    let second = second?;
+    Ok(Text::from_string(format!(in alloc; "{first}; {second}")?))
+}
+
+#[test]
+fn documents_outlive_their_queries(rt: HostRuntime) -> Result<(), Fail> {
+    assert_eq!(rt;
+        twice_text(rt.alloc(), "{ a }", "%")?.as_str(),
+        "query: a at 3; query: a at 3"
+    );
+    assert_eq!(rt;
+        twice_text(rt.alloc(), "%", "{ a }")?.as_str(),
+        "Syntax error: unexpected character; query: a at 3"
+    );
     Ok(())
 }

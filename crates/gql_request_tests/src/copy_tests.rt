@@ -1,0 +1,183 @@
+//! Copies of what an execution knows of its request, and of errors: a copy tells what its source
+//! does.
+ghost use Rattle.std.specs.Prelude.{◌≡◌, []};
+ghost use Rattle.gql_doc.specs.Depth.{selections_of};
+
+use gql_base::{Copied, Items, Made, Name, Number, Pairs, Pos, Text, Value, Variables};
+use gql_doc::{FragmentDefinition, OperationDefinition, OperationType, Positioned, SelectionSet};
+use gql_request::{IntrospectionMode, ParseRequestError, QueryEnv};
+use std::alloc::Global;
+use std::test::Fail;
+
+fn at<T>(node: T) -> Positioned<T>
+    ensures { result.node ≡ node }
+{
+    Positioned {
+        pos: Pos { line: 2, column: 3 },
+        node,
+    }
+}
+
+fn no_selections(alloc: Global) -> Positioned<SelectionSet>
+    ensures { selections_of result ≡ [] }
+{
+    at(SelectionSet {
+        items: Items::new(alloc),
+    })
+}
+
+fn mutation(alloc: Global) -> Positioned<OperationDefinition>
+    ensures { selections_of result.node.selection_set ≡ [] }
+{
+    at(OperationDefinition {
+        ty: OperationType::Mutation,
+        variable_definitions: Items::new(alloc),
+        directives: Items::new(alloc),
+        selection_set: no_selections(alloc),
+    })
+}
+
+/// The fragment F on T.
+fn fragments(alloc: Global) -> Made<Pairs<Positioned<FragmentDefinition>>> {
+    let name = Name::new(alloc, "F")?;
+    let condition = at(Name::new(alloc, "T")?);
+    let fragment = at(FragmentDefinition {
+        type_condition: condition,
+        directives: Items::new(alloc),
+        selection_set: no_selections(alloc),
+    });
+    let mut fragments = Pairs::new(alloc);
+    fragments.add(name, fragment)?;
+    Ok(fragments)
+}
+
+/// The variable a with the number 5.
+fn variables(alloc: Global) -> Made<Variables> {
+    let name = Name::new(alloc, "a")?;
+    let mut members = Pairs::new(alloc);
+    members.add(name, Value::Number(Number::from_u64(5)))?;
+    Ok(Variables::from_value(alloc, Value::Object(members)))
+}
+
+#[tactic(auto, using(gql_request::proofs::NestLemmas::empty_within))]
+fn environment_of(
+    alloc: Global,
+    variables: Variables,
+    name: Text,
+    fragments: Pairs<Positioned<FragmentDefinition>>,
+) -> QueryEnv {
+    QueryEnv::new(
+        variables,
+        Some(name),
+        mutation(alloc),
+        fragments,
+        IntrospectionMode::Disabled,
+        1,
+    )
+}
+
+/// What is known of the mutation M.
+fn environment(alloc: Global) -> Made<QueryEnv> {
+    let name = Text::new(alloc, "M")?;
+    let variables = variables(alloc)?;
+    let fragments = fragments(alloc)?;
+    Ok(environment_of(alloc, variables, name, fragments))
+}
+
+fn mode_text(mode: IntrospectionMode) -> &'static str {
+    match mode {
+        IntrospectionMode::IntrospectionOnly => "only",
+        IntrospectionMode::Enabled => "enabled",
+        IntrospectionMode::Disabled => "disabled",
+    }
+}
+
+fn type_text(ty: OperationType) -> &'static str {
+    match ty {
+        OperationType::Query => "query",
+        OperationType::Mutation => "mutation",
+        OperationType::Subscription => "subscription",
+    }
+}
+
+/// The kind of an operation and its place.
+fn operation_text(alloc: Global, operation: &Positioned<OperationDefinition>) -> Made<Text> {
+    let Pos { line, column } = operation.pos;
+    let ty = type_text(operation.node.ty);
+    Ok(Text::from_string(format!(in alloc; "{ty} at {line}:{column}")?))
+}
+
+/// The number of fragments, and the type of F.
+fn fragments_text(alloc: Global, fragments: &Pairs<Positioned<FragmentDefinition>>) -> Made<Text> {
+    let condition = match fragments.get("F") {
+        Some(fragment) => fragment.node.type_condition.node.as_str(),
+        None => "none",
+    };
+    let count = fragments.len();
+    Ok(Text::from_string(format!(in alloc; "{count} F on {condition}")?))
+}
+
+/// The name of the operation and the variable a.
+fn asked_text(alloc: Global, env: &QueryEnv) -> Made<Text> {
+    let mut out = String::new(alloc);
+    if let Some(name) = &env.operation_name {
+        write!(out, "{name}")?;
+    }
+    if let Some(Value::Number(number)) = env.variables.get("a") {
+        write!(out, " a {number}")?;
+    }
+    Ok(Text::from_string(out))
+}
+
+/// All that is known, in words.
+fn environment_text(alloc: Global, env: &QueryEnv) -> Made<Text> {
+    let asked = asked_text(alloc, env)?;
+    let operation = operation_text(alloc, &env.operation)?;
+    let fragments = fragments_text(alloc, &env.fragments)?;
+    let mode = mode_text(env.introspection_mode);
+    let levels = env.levels();
+    Ok(Text::from_string(format!(in alloc; "{asked}, {operation}, {fragments}, {mode}, {levels}")?))
+}
+
+fn source_text(alloc: Global) -> Made<Text> {
+    let env = environment(alloc)?;
+    environment_text(alloc, &env)
+}
+
+fn copy_text(alloc: Global) -> Made<Text> {
+    let env = environment(alloc)?;
+    let copy = env.try_clone(alloc);
+    drop(env);
+    let copy = copy?;
+    environment_text(alloc, &copy)
+}
+
+#[test]
+fn environments_are_copied(rt: HostRuntime) -> Result<(), Fail> {
+    let text = "M a 5, mutation at 2:3, 1 F on T, disabled, 1";
+    assert_eq!(rt; source_text(rt.alloc())?.as_str(), text);
+    assert_eq!(rt; copy_text(rt.alloc())?.as_str(), text);
+    Ok(())
+}
+
+/// A copy of an error in words.
+fn error_text(alloc: Global, error: ParseRequestError) -> Made<Text> {
+    match error.try_clone(alloc) {
+        Ok(copy) => Ok(Text::from_string(format!(in alloc; "{copy}")?)),
+        Err(fault) => Err(fault),
+    }
+}
+
+#[test]
+fn errors_are_copied(rt: HostRuntime) -> Result<(), Fail> {
+    let invalid = ParseRequestError::InvalidRequest("expected an object");
+    assert_eq!(rt;
+        error_text(rt.alloc(), invalid)?.as_str(),
+        "Invalid request: expected an object"
+    );
+    assert_eq!(rt;
+        error_text(rt.alloc(), ParseRequestError::UnsupportedBatch)?.as_str(),
+        "Batch requests are not supported"
+    );
+    Ok(())
+}
