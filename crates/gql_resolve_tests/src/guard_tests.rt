@@ -2,7 +2,7 @@
 use crate::parts::Parts;
 use gql_base::{Error, Made, Text};
 use gql_doc::OperationType;
-use gql_resolve::{FnGuard, Guard, GuardExt, ResolverContext};
+use gql_resolve::{And, FnGuard, Guard, GuardExt, Or, ResolverContext};
 use std::alloc::Global;
 use std::test::Fail;
 
@@ -77,6 +77,28 @@ fn closure_told(alloc: Global, context: &ResolverContext<'_, u64>, task: u64) ->
     told(alloc, &guard, context)
 }
 
+/// The error of guards of which the last one, a closure, looks at the context's task.
+fn composed_told(alloc: Global, context: &ResolverContext<'_, u64>, task: u64) -> Made<Text> {
+    let guard = Passes.and(Fails("x")).or(FnGuard(|context: &ResolverContext<'_, u64>| {
+        if context.task == task {
+            Ok(Ok(()))
+        } else {
+            Ok(Err(Error::new(alloc, "another task")?))
+        }
+    }));
+    told(alloc, &guard, context)
+}
+
+/// The errors of two such guards, one behind another.
+fn compositions_told(alloc: Global, parts: &Parts) -> Made<Text> {
+    let context = parts.context();
+    let mut out = String::new(alloc);
+    let third = composed_told(alloc, &context, 3)?;
+    let fourth = composed_told(alloc, &context, 4)?;
+    write!(out, "{third};{fourth}")?;
+    Ok(Text::from_string(out))
+}
+
 fn guards_told(alloc: Global, parts: &Parts) -> Made<Text> {
     let context = parts.context();
     let mut out = String::new(alloc);
@@ -94,4 +116,22 @@ fn guards_pass_or_tell(rt: HostRuntime) -> Result<(), Fail> {
     drop(parts);
     assert_eq!(rt; told?.as_str(), "x x y  ;;another task");
     Ok(())
+}
+
+#[test]
+fn guards_of_guards_ask_closures(rt: HostRuntime) -> Result<(), Fail> {
+    let parts = Parts::new(rt.alloc(), OperationType::Query)?;
+    let told = compositions_told(rt.alloc(), &parts);
+    drop(parts);
+    assert_eq!(rt; told?.as_str(), ";another task");
+    Ok(())
+}
+
+fn is_send_sync<T: Send + Sync>() {}
+
+#[test]
+fn guards_can_be_shared() {
+    is_send_sync::<And<Passes, Fails>>();
+    is_send_sync::<Or<Fails, And<Passes, Passes>>>();
+    is_send_sync::<FnGuard<fn(&ResolverContext<'_, u64>) -> Made<Result<(), Error>>>>();
 }

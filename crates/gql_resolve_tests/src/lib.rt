@@ -1,6 +1,9 @@
-//! Tests of `gql_resolve`: resolver sets, what is selected beneath a field, guards and parameters.
+//! Tests of `gql_resolve`: resolver sets, what a context reads, what is selected beneath a field,
+//! guards and parameters.
 #![tactic(auto)]
 
+#[cfg(test)]
+mod context_tests;
 #[cfg(test)]
 mod guard_tests;
 #[cfg(test)]

@@ -1,7 +1,7 @@
 //! What is selected beneath a field, looked at ahead, and the fields themselves.
 use crate::queries::Ground;
 use gql_base::{Made, Text, Value, Variables};
-use gql_resolve::{Lookahead, SelectionField};
+use gql_resolve::{Lookahead, ResolverContext, SelectionField};
 use std::alloc::Global;
 use std::test::Fail;
 
@@ -59,6 +59,53 @@ fn what_stands_in_fragments(rt: HostRuntime) -> Result<(), Fail> {
     assert!(rt; stands(alloc, THROUGH, &["e"])?);
     assert!(rt; !stands(alloc, THROUGH, &["k"])?);
     assert!(rt; !stands(alloc, THROUGH, &["Lost"])?);
+    Ok(())
+}
+
+/// Whether `c` stands beneath `detail` beneath a context's field, in one expression.
+fn has_c(alloc: Global, context: &ResolverContext<'_, u64>) -> Made<bool> {
+    Ok(
+        context
+            .look_ahead(alloc)?
+            .field(alloc, "detail")?
+            .field(alloc, "c")?
+            .exists(),
+    )
+}
+
+fn has_c_in(alloc: Global, ground: &Ground) -> Made<Option<bool>> {
+    match ground.first() {
+        Some(context) => Ok(Some(has_c(alloc, &context)?)),
+        None => Ok(None),
+    }
+}
+
+/// The same of the first field of a query, or none where there is no such field.
+fn chained(alloc: Global, text: &str) -> Made<Option<bool>> {
+    match query(alloc, text)? {
+        Some(ground) => has_c_in(alloc, &ground),
+        None => Ok(None),
+    }
+}
+
+/// A query, and whether `c` stands beneath `detail` beneath its first field.
+const CHAINS: [(&str, bool); 6] = [
+    ("{ obj(n: 3) { detail { c } } }", true),
+    ("{ obj(n: 3) { detail { a } c } }", false),
+    ("{ obj(n: 3) { c { detail } } }", false),
+    ("{ obj(n: 3) { detail } }", false),
+    ("{ obj(n: 3) { c: detail { detail: c } } }", true),
+    (
+        "{ obj { detail ... { ...F } } } fragment F on T { detail { ... on U { c } } }",
+        true,
+    ),
+];
+
+#[test]
+fn chains_of_looks(rt: HostRuntime) -> Result<(), Fail> {
+    for (text, there) in CHAINS {
+        assert_eq!(rt; chained(rt.alloc(), text)?, Some(there), "at {text}");
+    }
     Ok(())
 }
 

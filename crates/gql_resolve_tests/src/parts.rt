@@ -44,23 +44,42 @@ impl Parts {
         })
     }
 
-    /// A context of the task 3 of resolver 7.
+    /// A context of the task 3 of resolver 7, without arguments, with the value null above it.
     pub fn context(&self) -> ResolverContext<'_, u64> {
-        let args = ObjectAccessor::new(&self.arguments);
-        let path_node = QueryPathNode {
-            segments: self.segments.as_slice(),
-        };
-        let layers = Layers {
+        self.context_over(self.layers())
+    }
+
+    /// The same context over these layers.
+    pub fn context_over<'a>(&'a self, layers: Layers<'a>) -> ResolverContext<'a, u64> {
+        self.context_with(&self.arguments, &self.root, layers)
+    }
+
+    /// Layers of which all but that of the execution have the same data.
+    pub fn layers(&self) -> Layers<'_> {
+        Layers {
             execute: None,
             query: &self.data,
             session: &self.data,
             schema: &self.data,
+        }
+    }
+
+    /// The same context with these arguments, this value above it and these layers.
+    pub fn context_with<'a>(
+        &'a self,
+        arguments: &'a Pairs<Value>,
+        parent_value: &'a FieldValue<u64>,
+        layers: Layers<'a>,
+    ) -> ResolverContext<'a, u64> {
+        let args = ObjectAccessor::new(arguments);
+        let path_node = QueryPathNode {
+            segments: self.segments.as_slice(),
         };
         ResolverContext {
             resolver: 7,
             task: 3,
             args,
-            parent_value: &self.root,
+            parent_value,
             path_node,
             item: &self.item,
             env: &self.env,

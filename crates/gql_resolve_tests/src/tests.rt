@@ -181,6 +181,29 @@ fn beginnings(rt: HostRuntime) {
     assert!(rt; !is_value_at_once(FieldFuture::new(5)));
 }
 
+fn is_given(given: &FieldValue<u64>, value: &Value) -> bool {
+    match given.as_value() {
+        Some(found) => found == value,
+        None => false,
+    }
+}
+
+/// Whether a resolver begins with this value at once. No value isn't the value null.
+fn begins_with(begun: FieldFuture<u64, u64>, value: Value) -> bool {
+    match &begun {
+        FieldFuture::Value(Some(given)) => is_given(given, &value),
+        _ => false,
+    }
+}
+
+#[test]
+fn beginnings_with_values(rt: HostRuntime) {
+    let truth = FieldFuture::from_value(Some(Value::Boolean(true)));
+    assert!(rt; begins_with(truth, Value::Boolean(true)));
+    assert!(rt; begins_with(FieldFuture::from_value(Some(Value::Null)), Value::Null));
+    assert!(rt; !begins_with(FieldFuture::from_value(None), Value::Null));
+}
+
 /// The answer 3 with two headers and an error.
 fn answer(alloc: Global) -> Made<Answer<u64>> {
     let mut answer = Answer {
