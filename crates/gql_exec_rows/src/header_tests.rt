@@ -1,53 +1,15 @@
 //! From the answers of resolvers to the map of the response's headers.
 use crate::heads::{First, Heads};
-use gql_base::{Made, Text, TypeRef};
-use gql_exec::{DynamicRequest, Schema, SchemaBuilder};
+use crate::schemas::{Roots, schema};
+use gql_base::{Made, Text};
+use gql_exec::{DynamicRequest, Schema};
 use gql_request::{BatchResponse, HeaderFault, HeaderPairs, Hooks, Request, Response};
-use gql_schema::{Field, Object, SchemaType};
 use std::alloc::{AllocError, Global};
 use std::test::Fail;
 
-/// The type `Query` with the object `o`.
-fn query_type(alloc: Global) -> Made<SchemaType> {
-    let field = Field::new(alloc, "o", TypeRef::named(alloc, "Obj")?, 0)?;
-    let object = Object::new(alloc, "Query")?.field(alloc, field)?;
-    Ok(SchemaType::Object(object))
-}
-
-/// The type `Obj` with `a`, which may not be null, and `b`.
-fn object_type(alloc: Global) -> Made<Option<SchemaType>> {
-    let a = Field::new(alloc, "a", TypeRef::named_nn(alloc, "Int")?, 1)?;
-    let b = Field::new(alloc, "b", TypeRef::named(alloc, "Int")?, 2)?;
-    let object = Object::new(alloc, "Obj")?.field(alloc, a)?;
-    if object.has_field("b") {
-        return Ok(None);
-    }
-    Ok(Some(SchemaType::Object(object.field(alloc, b)?)))
-}
-
-/// A builder with the first of them.
-fn with_query(alloc: Global) -> Made<SchemaBuilder> {
-    let ty = query_type(alloc)?;
-    Schema::build(alloc, "Query", None, None)?.register(alloc, ty)
-}
-
-/// A schema with both.
-fn schema(alloc: Global) -> Made<Option<Schema>> {
-    match object_type(alloc)? {
-        Some(ty) => schema_with(alloc, ty),
-        None => Ok(None),
-    }
-}
-
-/// A schema with the first of them and this type.
-fn schema_with(alloc: Global, ty: SchemaType) -> Made<Option<Schema>> {
-    let builder = with_query(alloc)?.register(alloc, ty)?;
-    Ok(builder.finish(alloc)?.ok())
-}
-
 /// The response to a query.
 fn response_to(alloc: Global, query: &str) -> Made<Option<Response>> {
-    let Some(schema) = schema(alloc)? else {
+    let Some(schema) = schema(alloc, Roots::QueryAlone)? else {
         return Ok(None);
     };
     let request = DynamicRequest::from(Request::new(alloc, query)?);
@@ -60,8 +22,9 @@ fn response_over(
     schema: &Schema,
     request: &DynamicRequest<u64>,
 ) -> Made<Option<Response>> {
+    let mut heads = Heads::new(alloc);
     let mut hooks = Hooks::none(alloc);
-    match schema.execute(alloc, &mut Heads, &mut hooks, request, &mut First) {
+    match schema.execute(alloc, &mut heads, &mut hooks, request, &mut First) {
         Ok(response) => Ok(Some(response)),
         Err(_) => Err(AllocError),
     }

@@ -5,9 +5,20 @@ use http_header::{HeaderName, HeaderValue};
 use std::alloc::Global;
 
 /// Resolver 0 gives an object without a value of its own, 1 fails and sets the header `a` to 1,
-/// and any other gives 1 and adds 2 to that header. The set promises nothing of its answers.
+/// and any other gives 1 and adds 2 to that header. The set promises nothing of its answers, and
+/// tells which tasks it began.
 #[derive(Drop)]
-pub struct Heads;
+pub struct Heads {
+    pub begun: Items<u64>,
+}
+
+impl Heads {
+    pub fn new(alloc: Global) -> Heads {
+        Heads {
+            begun: Items::new(alloc),
+        }
+    }
+}
 
 /// A resolver of this number that has begun.
 #[derive(Drop)]
@@ -16,7 +27,7 @@ pub struct Head {
 }
 
 impl ResolverSet for Heads {
-    ghost use Rattle.std.specs.Prelude.{◌≡◌, ℕ, None};
+    ghost use Rattle.std.specs.Prelude.{◌≡◌, ℕ, Some, None};
     ghost use Rattle.gql_resolve.specs.Lawful.{plain_answer};
 
     type Own = u64;
@@ -43,7 +54,7 @@ impl ResolverSet for Heads {
 
     ghost told = { λ set. None };
 
-    ghost begun = { λ set. None };
+    ghost begun = { λ set. Some set.begun };
 
     ghost number = { λ future. 0 };
 
@@ -54,6 +65,7 @@ impl ResolverSet for Heads {
         _alloc: Global,
         call: &ResolverContext<'_, u64>,
     ) -> Made<FieldFuture<u64, Head>> {
+        self.begun.push(call.task)?;
         Ok(FieldFuture::new(Head {
             resolver: call.resolver,
         }))
