@@ -2,6 +2,8 @@
 #![tactic(auto)]
 
 #[cfg(test)]
+mod calls_tests;
+#[cfg(test)]
 mod error_tests;
 #[cfg(test)]
 mod json_tests;

@@ -1,0 +1,322 @@
+//! Calls of small types that no other test makes: orders, places, pairs that are made of others,
+//! and errors as they are.
+use gql_base::{
+    Copied, Error, ErrorExtensionValues, ErrorExtensions, Items, JsonPlace, JsonText, Made, Name,
+    Names, Pairs, PathSegment, Pos, ResultExt, ServerError, Text, Told, Value,
+    push_extension_values, push_list,
+};
+use std::alloc::Global;
+use std::cmp::Ordering;
+use std::test::Fail;
+
+/// Adds a number under a name, unless the name is there.
+fn add(alloc: Global, pairs: &mut Pairs<i64>, name: &str, number: i64) -> Made<()> {
+    if pairs.get(name).is_none() {
+        pairs.add_fresh(Name::new(alloc, name)?, number)
+    } else {
+        Ok(())
+    }
+}
+
+/// The numbers b: 1 and a: 2, in this order.
+fn numbers(alloc: Global) -> Made<Pairs<i64>> {
+    let mut pairs = Pairs::new(alloc);
+    add(alloc, &mut pairs, "b", 1)?;
+    add(alloc, &mut pairs, "a", 2)?;
+    Ok(pairs)
+}
+
+#[test]
+fn fresh_pairs_go_to_the_end(rt: HostRuntime) -> Result<(), Fail> {
+    let pairs = numbers(rt.alloc())?;
+    assert_eq!(rt; pairs.len(), 2);
+    assert_eq!(rt; pairs.place_of("b"), Some(0));
+    assert_eq!(rt; pairs.place_of("a"), Some(1));
+    assert_eq!(rt; pairs.get("b").copied(), Some(1));
+    assert_eq!(rt; pairs.get("a").copied(), Some(2));
+    Ok(())
+}
+
+/// Truth values in place of two numbers, or none where there are not two.
+fn truths(alloc: Global, pairs: &Pairs<i64>) -> Made<Pairs<bool>> {
+    let values = vec![in alloc; true, false]?;
+    if values.len() != pairs.len() {
+        return Ok(Pairs::new(alloc));
+    }
+    pairs.with_values(alloc, values)
+}
+
+fn truths_of_numbers(alloc: Global) -> Made<Pairs<bool>> {
+    let pairs = numbers(alloc)?;
+    truths(alloc, &pairs)
+}
+
+#[test]
+fn other_values_stand_under_the_same_names(rt: HostRuntime) -> Result<(), Fail> {
+    let pairs = truths_of_numbers(rt.alloc())?;
+    assert_eq!(rt; pairs.len(), 2);
+    assert_eq!(rt; pairs.place_of("a"), Some(1));
+    assert_eq!(rt; pairs.get("b").copied(), Some(true));
+    assert_eq!(rt; pairs.get("a").copied(), Some(false));
+    Ok(())
+}
+
+/// The name "a" alone, for which room was taken before.
+fn name_with_room(alloc: Global) -> Made<Names> {
+    let mut names = Names::with_capacity(alloc, 2)?;
+    names.add_fresh(Name::new(alloc, "a")?)?;
+    Ok(names)
+}
+
+#[test]
+fn names_have_room(rt: HostRuntime) -> Result<(), Fail> {
+    assert_eq!(rt; Names::with_capacity(rt.alloc(), 2)?.len(), 0);
+    let names = name_with_room(rt.alloc())?;
+    assert_eq!(rt; names.len(), 1);
+    assert_eq!(rt; names.place_of("a"), Some(0));
+    Ok(())
+}
+
+#[test]
+fn a_text_is_a_name(rt: HostRuntime) -> Result<(), Fail> {
+    let name = Name::from_text(Text::new(rt.alloc(), "hero")?);
+    assert_eq!(rt; name.as_str(), "hero");
+    Ok(())
+}
+
+/// How two texts are ordered, by both calls.
+fn text_orders(alloc: Global, first: &str, second: &str) -> Made<(Ordering, Option<Ordering>)> {
+    let first = Text::new(alloc, first)?;
+    let second = Text::new(alloc, second)?;
+    Ok((first.cmp(&second), first.partial_cmp(&second)))
+}
+
+#[test]
+fn texts_are_ordered_by_bytes(rt: HostRuntime) -> Result<(), Fail> {
+    for (first, second, order) in [
+        ("", "", Ordering::Equal),
+        ("", "a", Ordering::Less),
+        ("ab", "ab", Ordering::Equal),
+        ("ab", "a", Ordering::Greater),
+        ("ab", "b", Ordering::Less),
+        ("Z", "a", Ordering::Less),
+        ("é", "z", Ordering::Greater),
+    ] {
+        let orders = text_orders(rt.alloc(), first, second)?;
+        assert!(rt; orders == (order, Some(order)), "at {first} and {second}");
+    }
+    Ok(())
+}
+
+/// How a place is ordered beside line 2, column 5, by both calls.
+fn place_orders(line: usize, column: usize) -> (Ordering, Option<Ordering>) {
+    let place = Pos { line, column };
+    let fixed = Pos { line: 2, column: 5 };
+    (place.cmp(&fixed), place.partial_cmp(&fixed))
+}
+
+#[test]
+fn places_are_ordered_by_line_and_column(rt: HostRuntime) -> Result<(), Fail> {
+    for (line, column, order) in [
+        (1, 9, Ordering::Less),
+        (2, 4, Ordering::Less),
+        (2, 5, Ordering::Equal),
+        (2, 6, Ordering::Greater),
+        (3, 1, Ordering::Greater),
+    ] {
+        let orders = place_orders(line, column);
+        assert!(rt; orders == (order, Some(order)), "at {line} and {column}");
+    }
+    Ok(())
+}
+
+#[test]
+fn a_place_is_copied(rt: HostRuntime) -> Result<(), Fail> {
+    let copy = Pos { line: 3, column: 7 }.try_clone(rt.alloc())?;
+    assert_eq!(rt; copy.line, 3);
+    assert_eq!(rt; copy.column, 7);
+    Ok(())
+}
+
+/// Appends a step that was taken off, or that there was none.
+fn push_step(out: &mut String, step: Option<PathSegment>) -> Made<()> {
+    match step {
+        Some(step) => write!(out, "{step};"),
+        None => out.push_str("end;"),
+    }
+}
+
+/// The place 1 of a list, seen from the member `a` that holds the list.
+fn place_behind(alloc: Global) -> Made<JsonPlace> {
+    let member = PathSegment::Field(Text::new(alloc, "a")?);
+    JsonPlace::here(alloc)
+        .behind(PathSegment::Index(1))?
+        .behind(member)
+}
+
+/// Three steps that are taken off a place of two.
+fn steps_text(alloc: Global) -> Made<Text> {
+    let mut out = String::new(alloc);
+    let mut place = place_behind(alloc)?;
+    push_step(&mut out, place.next_step())?;
+    push_step(&mut out, place.next_step())?;
+    push_step(&mut out, place.next_step())?;
+    Ok(Text::from_string(out))
+}
+
+#[test]
+fn steps_are_taken_from_outside(rt: HostRuntime) -> Result<(), Fail> {
+    let mut whole = JsonPlace::here(rt.alloc());
+    assert!(rt; whole.next_step().is_none());
+    assert_eq!(rt; steps_text(rt.alloc())?.as_str(), "a;1;end;");
+    Ok(())
+}
+
+/// The list of no place, and of two.
+fn places_text(alloc: Global) -> Made<Text> {
+    let mut out = String::new(alloc);
+    let none: Items<Pos> = Items::new(alloc);
+    push_list(&mut out, none.as_slice())?;
+    let two = [Pos { line: 1, column: 2 }, Pos { line: 3, column: 4 }];
+    push_list(&mut out, &two)?;
+    Ok(Text::from_string(out))
+}
+
+/// The texts of a member, of a place in a list and of a place in a document.
+fn texts_of_parts(alloc: Global) -> Made<Text> {
+    let mut out = String::new(alloc);
+    let member = PathSegment::Field(Text::new(alloc, "a\"b")?);
+    member.push_text(&mut out)?;
+    out.push(' ')?;
+    let item = PathSegment::Index(12);
+    item.push_text(&mut out)?;
+    out.push(' ')?;
+    Pos { line: 5, column: 6 }.push_text(&mut out)?;
+    Ok(Text::from_string(out))
+}
+
+fn text_of_an_error(alloc: Global) -> Made<Text> {
+    let mut out = String::from_str(alloc, "is ")?;
+    let error = ServerError::new(alloc, "no", None)?;
+    error.push_text(&mut out)?;
+    Ok(Text::from_string(out))
+}
+
+#[test]
+fn lists_are_written_item_by_item(rt: HostRuntime) -> Result<(), Fail> {
+    assert_eq!(rt;
+        places_text(rt.alloc())?.as_str(),
+        "[][{\"line\":1,\"column\":2},{\"line\":3,\"column\":4}]"
+    );
+    assert_eq!(rt;
+        texts_of_parts(rt.alloc())?.as_str(),
+        "\"a\\\"b\" 12 {\"line\":5,\"column\":6}"
+    );
+    assert_eq!(rt;
+        text_of_an_error(rt.alloc())?.as_str(),
+        "is {\"message\":\"no\"}"
+    );
+    Ok(())
+}
+
+/// The value a: true or a: false alone.
+fn told_values(alloc: Global, truth: bool) -> Made<ErrorExtensionValues> {
+    let mut values = ErrorExtensionValues::new(alloc);
+    values.set("a", Value::Boolean(truth))?;
+    Ok(values)
+}
+
+/// The error "e", which tells a truth value beside its message.
+fn telling_error(alloc: Global, truth: bool) -> Made<Error> {
+    let mut error = Error::new(alloc, "e")?;
+    error.extensions = Some(told_values(alloc, truth)?);
+    Ok(error)
+}
+
+/// The message of an error, and behind it what it tells, if anything.
+fn error_text(alloc: Global, error: &Error) -> Made<Text> {
+    let mut out = String::from_str(alloc, error.message.as_str())?;
+    if let Some(values) = &error.extensions {
+        push_extension_values(&mut out, values)?;
+    }
+    Ok(Text::from_string(out))
+}
+
+fn text_of_copy(alloc: Global) -> Made<Text> {
+    let copy = telling_error(alloc, true)?.try_clone(alloc)?;
+    error_text(alloc, &copy)
+}
+
+fn text_of_extended(alloc: Global) -> Made<Text> {
+    let extended = telling_error(alloc, true)?.extend(alloc)?;
+    error_text(alloc, &extended)
+}
+
+fn text_of_told(alloc: Global) -> Made<Text> {
+    let told = Told("t").extend(alloc)?;
+    error_text(alloc, &told)
+}
+
+#[test]
+fn errors_are_told_as_they_are(rt: HostRuntime) -> Result<(), Fail> {
+    assert_eq!(rt; text_of_copy(rt.alloc())?.as_str(), "e{\"a\":true}");
+    assert_eq!(rt; text_of_extended(rt.alloc())?.as_str(), "e{\"a\":true}");
+    assert_eq!(rt; text_of_told(rt.alloc())?.as_str(), "t");
+    Ok(())
+}
+
+/// The text of a failure, or that there is a value.
+fn failure_text(alloc: Global, answer: Result<u8, Error>) -> Made<Text> {
+    match answer {
+        Ok(_) => Text::new(alloc, "a value"),
+        Err(error) => error_text(alloc, &error),
+    }
+}
+
+fn text_of_told_failure(alloc: Global) -> Made<Text> {
+    let result: Result<u8, Told<'static>> = Err(Told("f"));
+    failure_text(alloc, result.extend(alloc)?)
+}
+
+fn text_of_failure(alloc: Global) -> Made<Text> {
+    let result: Result<u8, Error> = Err(telling_error(alloc, false)?);
+    failure_text(alloc, result.extend(alloc)?)
+}
+
+#[test]
+fn failures_are_told_as_they_are(rt: HostRuntime) -> Result<(), Fail> {
+    assert_eq!(rt; text_of_told_failure(rt.alloc())?.as_str(), "f");
+    assert_eq!(rt; text_of_failure(rt.alloc())?.as_str(), "e{\"a\":false}");
+    Ok(())
+}
+
+/// Whether the error "e" with a: true equals one with another value.
+fn equals_telling(alloc: Global, truth: bool) -> Made<bool> {
+    let error = telling_error(alloc, true)?;
+    let other = telling_error(alloc, truth)?;
+    Ok(error == other)
+}
+
+/// Whether the error "e" with a: true equals the error "e" alone.
+fn telling_equals_bare(alloc: Global) -> Made<bool> {
+    let error = telling_error(alloc, true)?;
+    let other = Error::new(alloc, "e")?;
+    Ok(error == other)
+}
+
+/// Whether the error "e" alone equals one of this message.
+fn equals_bare(alloc: Global, message: &str) -> Made<bool> {
+    let error = Error::new(alloc, "e")?;
+    let other = Error::new(alloc, message)?;
+    Ok(error == other)
+}
+
+#[test]
+fn errors_are_equal_in_both_parts(rt: HostRuntime) -> Result<(), Fail> {
+    assert!(rt; equals_telling(rt.alloc(), true)?);
+    assert!(rt; !equals_telling(rt.alloc(), false)?);
+    assert!(rt; !telling_equals_bare(rt.alloc())?);
+    assert!(rt; equals_bare(rt.alloc(), "e")?);
+    assert!(rt; !equals_bare(rt.alloc(), "f")?);
+    Ok(())
+}
