@@ -4,6 +4,13 @@
 #[cfg(test)]
 mod calls_tests;
 #[cfg(test)]
+mod fits_tests;
+#[cfg(test)]
+mod named_tests;
+#[cfg(test)]
+mod odd_tests;
+#[cfg(test)]
 mod sample;
+mod shared;
 #[cfg(test)]
 mod tests;

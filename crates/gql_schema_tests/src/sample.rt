@@ -18,7 +18,7 @@ pub(crate) fn argument(alloc: Global) -> Made<InputValue> {
 }
 
 /// The field `f: Int` of the resolver 7, with an argument.
-fn field(alloc: Global, argument: InputValue) -> Made<Field> {
+pub(crate) fn field(alloc: Global, argument: InputValue) -> Made<Field> {
     let ty = int_type(alloc)?;
     Field::with_name(alloc, Name::new(alloc, "f")?, ty, 7).argument(alloc, argument)
 }
@@ -37,7 +37,7 @@ pub(crate) fn object(alloc: Global) -> Made<Object> {
 }
 
 /// The field `f: Int` of an interface, with an argument.
-fn interface_field(alloc: Global, argument: InputValue) -> Made<InterfaceField> {
+pub(crate) fn interface_field(alloc: Global, argument: InputValue) -> Made<InterfaceField> {
     let ty = int_type(alloc)?;
     InterfaceField::with_name(alloc, Name::new(alloc, "f")?, ty).argument(alloc, argument)
 }
@@ -49,7 +49,7 @@ pub(crate) fn interface(alloc: Global) -> Made<Interface> {
 }
 
 /// The field `f: Int` of the source 9, with an argument.
-fn subscription_field(alloc: Global, argument: InputValue) -> Made<SubscriptionField> {
+pub(crate) fn subscription_field(alloc: Global, argument: InputValue) -> Made<SubscriptionField> {
     let ty = int_type(alloc)?;
     SubscriptionField::with_name(alloc, Name::new(alloc, "f")?, ty, 9).argument(alloc, argument)
 }
@@ -74,7 +74,7 @@ pub(crate) fn enum_type(alloc: Global) -> Made<Enum> {
         .item(alloc, "B")
 }
 
-fn union_type(alloc: Global) -> Made<Union> {
+pub(crate) fn union_type(alloc: Global) -> Made<Union> {
     Union::with_name(alloc, Name::new(alloc, "U")?).possible_type(alloc, "O")
 }
 

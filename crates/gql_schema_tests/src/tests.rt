@@ -8,7 +8,7 @@ use std::alloc::Global;
 use std::test::Fail;
 
 /// What finishing a table tells: `sound`, or the number and the text of its first refusal.
-fn told(alloc: Global, types: Types) -> Made<Text> {
+pub(crate) fn told(alloc: Global, types: Types) -> Made<Text> {
     match types.finish(alloc)? {
         Ok(_) => Text::new(alloc, "sound"),
         Err(error) => told_of_error(alloc, &error),
@@ -21,20 +21,20 @@ fn told_of_error(alloc: Global, error: &SchemaError) -> Made<Text> {
 }
 
 /// The table with one more type.
-fn with(alloc: Global, types: Types, ty: SchemaType) -> Made<Types> {
+pub(crate) fn with(alloc: Global, types: Types, ty: SchemaType) -> Made<Types> {
     let mut types = types;
     types.register(alloc, ty)?;
     Ok(types)
 }
 
 /// What a table tells that has these types alone.
-fn told_of(alloc: Global, first: SchemaType, second: SchemaType) -> Made<Text> {
+pub(crate) fn told_of(alloc: Global, first: SchemaType, second: SchemaType) -> Made<Text> {
     let types = with(alloc, Types::new(alloc), first)?;
     told(alloc, with(alloc, types, second)?)
 }
 
 /// An object with one field, of the resolver 7.
-fn object(alloc: Global, name: &str, field: &str, ty: TypeRef) -> Made<Object> {
+pub(crate) fn object(alloc: Global, name: &str, field: &str, ty: TypeRef) -> Made<Object> {
     let field = Field::new(alloc, field, ty, 7)?;
     Object::new(alloc, name)?.field(alloc, field)
 }
@@ -129,7 +129,7 @@ fn implementing(alloc: Global, field: Field) -> Made<SchemaType> {
 }
 
 /// The interface `I` with the field `f` of this type, without arguments.
-fn promising(alloc: Global, ty: TypeRef) -> Made<SchemaType> {
+pub(crate) fn promising(alloc: Global, ty: TypeRef) -> Made<SchemaType> {
     let field = InterfaceField::new(alloc, "f", ty)?;
     let interface = Interface::new(alloc, "I")?.field(alloc, field)?;
     Ok(SchemaType::Interface(interface))
@@ -173,7 +173,7 @@ fn an_object_keeps_what_its_interface_promises(rt: HostRuntime) -> Result<(), Fa
 }
 
 /// The enum `E` without items.
-fn empty_enum(alloc: Global) -> Made<SchemaType> {
+pub(crate) fn empty_enum(alloc: Global) -> Made<SchemaType> {
     Ok(SchemaType::Enum(Enum::new(alloc, "E")?))
 }
 
