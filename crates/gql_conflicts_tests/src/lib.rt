@@ -4,5 +4,6 @@
 
 #[cfg(test)]
 mod clear_tests;
+mod shared;
 #[cfg(test)]
 mod walk_tests;
