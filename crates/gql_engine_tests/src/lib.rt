@@ -5,6 +5,7 @@
 mod making;
 #[cfg(test)]
 mod meeting;
+mod shared;
 #[cfg(test)]
 mod telling;
 #[cfg(test)]
