@@ -133,5 +133,4 @@ fn is_send_sync<T: Send + Sync>() {}
 fn guards_can_be_shared() {
     is_send_sync::<And<Passes, Fails>>();
     is_send_sync::<Or<Fails, And<Passes, Passes>>>();
-    is_send_sync::<FnGuard<fn(&ResolverContext<'_, u64>) -> Made<Result<(), Error>>>>();
 }
