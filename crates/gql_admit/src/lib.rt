@@ -33,7 +33,6 @@ mod keeping;
 mod laws;
 mod listing;
 mod literals;
-mod numbering;
 mod operation;
 mod preparing;
 mod ranks;

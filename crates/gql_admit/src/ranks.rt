@@ -3,8 +3,8 @@ ghost use Rattle.std.specs.Prelude.{◌≡◌, ◌<◌, true, length, IfOk};
 ghost use Rattle.gql_admit.specs.Circular.{led_to};
 ghost use Rattle.gql_admit.specs.Ranks.{AreRanks, all_at_most, rank_of};
 
-use crate::numbering::numbers_of;
 use gql_base::{Items, Made};
+use gql_schema::component_numbers;
 use std::alloc::Global;
 
 /// A number for each place, such that no place leads to one of a higher number.
@@ -12,7 +12,7 @@ use std::alloc::Global;
 pub fn ranks_of(alloc: Global, graph: &[Items<usize>]) -> Made<Vec<usize>>
     ensures { IfOk result (λ ranks. AreRanks graph.now ranks.items) }
 {
-    let numbers = numbers_of(alloc, graph)?;
+    let numbers = component_numbers(alloc, graph)?;
     if are_ranks(graph, numbers.as_slice()) {
         Ok(numbers)
     } else {

@@ -1,69 +1,45 @@
-//! A walk that numbers types so that each stands above what it needs; types that need each other
-//! have one number. These are the strongly connected components of Tarjan's walk. No contract rests
-//! on the numbers: who uses them tests them first.
-use crate::containment::needed_type;
-use crate::schema_type::SchemaType;
-use crate::types::Types;
-use gql_base::Made;
+//! A walk that numbers the places of a graph so that each stands above those to which it leads;
+//! places that lead to each other have one number. These are the strongly connected components of
+//! Tarjan's walk ("Depth-first search and linear graph algorithms", 1972). No contract rests on the
+//! numbers: who uses them tests them first.
+use gql_base::{Items, Made};
 use std::alloc::Global;
 
 /// The state of the walk. Times and numbers count from 1, and 0 stands for none.
 #[derive(Drop)]
 struct Walk {
-    /// When each type was entered.
+    /// When each place was entered.
     entered: Vec<usize>,
-    /// The earliest entered type that is known to be needed by each, among those without a number.
+    /// The earliest entered place that each is known to lead to, among those without a number.
     lowest: Vec<usize>,
     numbers: Vec<usize>,
-    /// The types that were entered and have no number yet.
+    /// The places that were entered and have no number yet.
     open: Vec<usize>,
-    /// The types on the way from the root, each with how many of its needs were looked at.
+    /// The places on the way from the root, each with how many of those that it leads to were looked
+    /// at.
     way: Vec<(usize, usize)>,
     time: usize,
     number: usize,
 }
 
-/// A number for each type.
-pub fn numbers_of(alloc: Global, types: &Types) -> Made<Vec<usize>> {
-    let needs = needs_of(alloc, types)?;
-    let most = most_steps(needs.as_slice());
-    let mut walk = Walk::new(alloc, types.len())?;
-    for root in 0..types.len() {
-        walk.visit(needs.as_slice(), most, root)?;
+/// A number from 1 for each place of a graph, whose lists tell to what places each leads: none leads
+/// to a higher number, and places that lead to each other have one. Nothing is proved of the numbers,
+/// so who uses them tests them first. A place past the end counts for nothing. Only want of memory
+/// fails.
+pub fn component_numbers(alloc: Global, graph: &[Items<usize>]) -> Made<Vec<usize>> {
+    let most = most_steps(graph);
+    let mut walk = Walk::new(alloc, graph.len())?;
+    for root in 0..graph.len() {
+        walk.visit(graph, most, root)?;
     }
     let Walk { numbers, .. } = walk;
     Ok(numbers)
 }
 
-/// The places of the types that each type can't do without.
-fn needs_of(alloc: Global, types: &Types) -> Made<Vec<Vec<usize>>> {
-    let mut needs = Vec::with_capacity(alloc, types.len())?;
-    for place in 0..types.len() {
-        needs.push(needs_of_type(alloc, types, types.at(place))?)?;
-    }
-    Ok(needs)
-}
-
-fn needs_of_type(alloc: Global, types: &Types, ty: &SchemaType) -> Made<Vec<usize>> {
-    let mut needs = Vec::new(alloc);
-    if let SchemaType::InputObject(input) = ty {
-        for index in 0..input.len() {
-            if let Some(place) = place_needed(types, needed_type(input.at(index).ty())) {
-                needs.push(place)?;
-            }
-        }
-    }
-    Ok(needs)
-}
-
-fn place_needed(types: &Types, name: Option<&str>) -> Option<usize> {
-    types.place_of(name?)
-}
-
-/// As many steps as a walk takes: one for each type, and one for each need.
-fn most_steps(needs: &[Vec<usize>]) -> usize {
-    let mut most = needs.len();
-    for list in needs {
+/// As many steps as a walk takes: one for each place, and one for each step between two.
+fn most_steps(graph: &[Items<usize>]) -> usize {
+    let mut most = graph.len();
+    for list in graph {
         most = most.saturating_add(list.len());
     }
     most
@@ -102,14 +78,14 @@ impl Walk {
         })
     }
 
-    /// Enters a type that wasn't entered, and leaves it once all that it needs has been left.
-    fn visit(&mut self, needs: &[Vec<usize>], most: usize, root: usize) -> Made<()> {
+    /// Enters a place that wasn't entered, and leaves it once all that it leads to has been left.
+    fn visit(&mut self, graph: &[Items<usize>], most: usize, root: usize) -> Made<()> {
         if read(self.entered.as_slice(), root) == 0 {
             self.enter(root)?;
         }
         for _ in 0..most {
             match self.way.pop() {
-                Some((place, next)) => self.step(needs, place, next)?,
+                Some((place, next)) => self.step(graph, place, next)?,
                 None => return Ok(()),
             }
         }
@@ -125,12 +101,12 @@ impl Walk {
         Ok(())
     }
 
-    /// Looks at the next need of the type that stands last on the way, or leaves it.
-    fn step(&mut self, needs: &[Vec<usize>], place: usize, next: usize) -> Made<()> {
-        match need_at(needs, place, next) {
-            Some(needed) => {
+    /// Looks at the next place to which the last one on the way leads, or leaves it.
+    fn step(&mut self, graph: &[Items<usize>], place: usize, next: usize) -> Made<()> {
+        match led_at(graph, place, next) {
+            Some(led) => {
                 self.way.push((place, next.saturating_add(1)))?;
-                self.look_at(place, needed)
+                self.look_at(place, led)
             }
             None => {
                 self.leave(place);
@@ -139,12 +115,12 @@ impl Walk {
         }
     }
 
-    fn look_at(&mut self, place: usize, needed: usize) -> Made<()> {
-        let time = read(self.entered.as_slice(), needed);
+    fn look_at(&mut self, place: usize, led: usize) -> Made<()> {
+        let time = read(self.entered.as_slice(), led);
         if time == 0 {
-            return self.enter(needed);
+            return self.enter(led);
         }
-        if read(self.numbers.as_slice(), needed) == 0 {
+        if read(self.numbers.as_slice(), led) == 0 {
             self.lower(place, time);
         }
         Ok(())
@@ -156,8 +132,8 @@ impl Walk {
         }
     }
 
-    /// Numbers the types that need each other, once the first of them is left, and tells the type
-    /// before on the way.
+    /// Numbers the places that lead to each other, once the first of them is left, and else tells the
+    /// place before on the way.
     fn leave(&mut self, place: usize) {
         let lowest = read(self.lowest.as_slice(), place);
         if lowest == read(self.entered.as_slice(), place) {
@@ -169,7 +145,7 @@ impl Walk {
         }
     }
 
-    /// Gives the number to the open types from this one on.
+    /// Gives the number to the open places from this one on.
     fn close(&mut self, place: usize) {
         while let Some(last) = self.open.pop() {
             write(self.numbers.as_mut_slice(), last, self.number);
@@ -180,6 +156,6 @@ impl Walk {
     }
 }
 
-fn need_at(needs: &[Vec<usize>], place: usize, next: usize) -> Option<usize> {
-    needs.get(place)?.get(next).copied()
+fn led_at(graph: &[Items<usize>], place: usize, next: usize) -> Option<usize> {
+    graph.get(place)?.as_slice().get(next).copied()
 }

@@ -9,7 +9,8 @@ ghost use Rattle.gql_schema.specs.Table.{types_of};
 
 use crate::containment::needed_type;
 use crate::input_object::InputObject;
-use crate::numbering::numbers_of;
+use crate::needs::needs_of;
+use crate::numbering::component_numbers;
 use crate::schema_type::SchemaType;
 use crate::types::Types;
 use gql_base::Made;
@@ -20,7 +21,8 @@ use std::alloc::Global;
 pub fn ranks_of(alloc: Global, types: &Types) -> Made<Vec<usize>>
     ensures { IfOk result (λ ranks. AreRanks (types_of types.now) ranks.items) }
 {
-    let numbers = numbers_of(alloc, types)?;
+    let needs = needs_of(alloc, types)?;
+    let numbers = component_numbers(alloc, needs.as_slice())?;
     if are_ranks(types, numbers.as_slice()) {
         Ok(numbers)
     } else {
