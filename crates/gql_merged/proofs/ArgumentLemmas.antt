@@ -2,10 +2,9 @@
 use Rattle.std.proofs.Common.{◌≡◌, ℕ, zero, suc, ◌+◌, Bool, true, false, cond, List, [], ◌∷◌, ◌++◌, take, Option, Some, None, slice_get, refl, ap, sym, ◌∙◌}
 use Rattle.std.proofs.lemmas.List.{take_more}
 use Rattle.std.proofs.lemmas.Option.{slice_get_within, get_or_from_slice_get}
-use Rattle.std.specs.List.{zip}
 use Rattle.std.specs.Option.{option_map_or}
 use Rattle.std.specs.Str.{bytes_eq}
-use Rattle.gql_base.specs.Pairs.{HasDistinctNames, later, names_of, under, unite_all, values_of}
+use Rattle.gql_base.specs.Pairs.{HasDistinctNames, later, under, unite_all}
 use Rattle.gql_base.specs.declared.value.Value.{Value}
 use Rattle.std.specs.Cmp.Lexicographic.{bytes_decides}
 use Rattle.gql_base.proofs.PairLemmas.{put-fresh}
@@ -13,8 +12,8 @@ use Rattle.gql_doc.specs.declared.document.Argument.{Argument}
 use Rattle.gql_doc.specs.declared.document.DocValue.{DocValue}
 use Rattle.gql_schema.specs.InputValue.{default_of}
 use Rattle.gql_schema.specs.declared.input_value.InputValue.{InputValue}
-use Rattle.gql_select.specs.Constants.{constant, constants, given, resolved}
-use Rattle.gql_merged.specs.ArgumentValues.{declared_of, resolved_members}
+use Rattle.gql_select.specs.Constants.{constant, constants, given}
+use Rattle.gql_merged.specs.ArgumentValues.{declared_of}
 
 -- a name that stands among pairs has a value there
 present : {T : Type 0} (ps : List (List ℕ × T)) (i : ℕ) (n : List ℕ) (x : T) → slice_get ps i ≡ Some (n, x) → under n ps ≡ None → ⊥
@@ -104,23 +103,3 @@ module _ (known : List ℕ → Value) (written : List Argument) where
       ∙ added (all (take i arguments)) name (given name written) (default_of input) fresh
       ∙ sym (appended (take i arguments) (name, input))
       ∙ ap all (sym more)
-
--- one more member has what its variables stand for
-pub resolved_more : (known : List ℕ → Value) (ms : List (List ℕ × DocValue)) (i : ℕ) (n : List ℕ) (w : DocValue) (vs vs' : List Value) (v : Value)
-    → slice_get ms i ≡ Some (n, w) → vs ≡ values_of (resolved_members known (take i ms)) → v ≡ resolved known w → vs' ≡ vs ++ v ∷ []
-    → vs' ≡ values_of (resolved_members known (take (i + 1) ms))
-resolved_more known ms i n w vs vs' v at before is added =
-    let more : take (i + 1) ms ≡ take i ms ++ (n, w) ∷ []
-    = take_more ms i (n, w) (slice_get_within ms i (n, w) at) ∙ ap (λ p. take i ms ++ p ∷ []) (get_or_from_slice_get ms i (n, w) (n, w) at) in
-    added
-    ∙ (λ j. before j ++ is j ∷ [])
-    ∙ sym (last_value (take i ms))
-    ∙ ap (λ xs. values_of (resolved_members known xs)) (sym more)
-  where
-    last_value : (xs : List (List ℕ × DocValue)) → values_of (resolved_members known (xs ++ (n, w) ∷ [])) ≡ values_of (resolved_members known xs) ++ resolved known w ∷ []
-    last_value [] = refl
-    last_value (x ∷ xs) = ap (λ ys. resolved known x.1 ∷ ys) (last_value xs)
-
-pub resolved_whole : (known : List ℕ → Value) (ms : List (List ℕ × DocValue)) → zip (names_of ms) (values_of (resolved_members known ms)) ≡ resolved_members known ms
-resolved_whole known [] = refl
-resolved_whole known (m ∷ ms) = ap (λ ys. (m.0, resolved known m.1) ∷ ys) (resolved_whole known ms)

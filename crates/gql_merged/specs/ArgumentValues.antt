@@ -1,10 +1,9 @@
 -- The values of arguments, as the machine makes them (GraphQL, October 2021, section 6.4.1).
 use Rattle.std.specs.Prelude.{ℕ, List, [], ◌∷◌, map, Option, Some, None}
 use Rattle.gql_base.specs.declared.value.Value.{Value}
-use Rattle.gql_doc.specs.declared.document.DocValue.{DocValue}
 use Rattle.gql_schema.specs.InputValue.{default_of}
 use Rattle.gql_schema.specs.declared.input_value.InputValue.{InputValue}
-use Rattle.gql_select.specs.Constants.{Declared, resolved}
+use Rattle.gql_select.specs.Constants.{Declared}
 
 -- declared arguments by their names and defaults
 abbrev pub declared_of : List (List ℕ × InputValue) → List Declared
@@ -14,7 +13,3 @@ declared_of arguments = map (λ argument. (argument.0, default_of argument.1)) a
 abbrev pub constant_of : List ℕ → Option Value → List (List ℕ × Value)
 constant_of name None = []
 constant_of name (Some value) = (name, value) ∷ []
-
--- members, with what their variables stand for
-abbrev pub resolved_members : (List ℕ → Value) → List (List ℕ × DocValue) → List (List ℕ × Value)
-resolved_members known members = map (λ member. (member.0, resolved known member.1)) members

@@ -1,6 +1,5 @@
 -- What an execution knows (GraphQL, October 2021, section 6.2), as the machine holds it.
 use Rattle.std.specs.Prelude.{ℕ, Bool, true, false, List, option_map}
-use Rattle.gql_base.specs.declared.value.Value.{Value}
 use Rattle.gql_doc.specs.declared.document.Field.{Field}
 use Rattle.gql_doc.specs.declared.document.Positioned.{Positioned}
 use Rattle.gql_doc.specs.declared.document.Selection.{Selection}
@@ -9,11 +8,10 @@ use Rattle.gql_meaning.specs.TableSetting.{Schema}
 use Rattle.gql_request.specs.QueryEnv.{levels_of}
 use Rattle.gql_request.specs.declared.query_env.IntrospectionMode.{IntrospectionMode}
 use Rattle.gql_request.specs.declared.query_env.IntrospectionMode.TheVariants as mode
-use Rattle.gql_request.specs.declared.query_env.QueryEnv.{QueryEnv}
 use Rattle.gql_resolve.specs.Layers.{layers_of}
+use Rattle.gql_resolve.specs.Variables.{known_in}
 use Rattle.gql_schema.specs.Table.{types_of}
 use Rattle.gql_select.specs.Collected.{collect_within, Setting}
-use Rattle.gql_select.specs.Constants.{variable_value}
 use Rattle.gql_merged.specs.declared.basis.Basis.{Basis}
 
 -- whether fields of the schema alone have values
@@ -21,10 +19,6 @@ abbrev pub is_introspection_only : IntrospectionMode → Bool
 is_introspection_only mode.IntrospectionOnly = true
 is_introspection_only mode.Enabled = false
 is_introspection_only mode.Disabled = false
-
--- what the variables of a request stand for (section 6.1.2)
-abbrev pub known_in : QueryEnv → List ℕ → Value
-known_in env = variable_value env.variables env.operation.node.variable_definitions
 
 -- the schema, with its entities
 abbrev pub schema_of : Basis → Schema

@@ -1,12 +1,13 @@
 ghost use Rattle.std.specs.Prelude.{◌≡◌, Some, IfOk};
 ghost use Rattle.gql_meaning.specs.Execution.{is_typename};
 ghost use Rattle.gql_meaning.specs.TableSetting.{field_in};
+ghost use Rattle.gql_resolve.specs.Variables.{known_in};
 ghost use Rattle.gql_schema.specs.DeclaredField.{declared_behind};
 ghost use Rattle.gql_schema.specs.Table.{types_of};
 ghost use Rattle.gql_schema.specs.TableReading.{field as field_of_table};
 ghost use Rattle.gql_select.specs.Alike.{arguments_of, name_of};
 ghost use Rattle.gql_merged.specs.Asks.{asks_allowed, asks_of, asks_of_declared, entities_by};
-ghost use Rattle.gql_merged.specs.Basis.{execution_of, is_introspection_only, known_in, schema_of};
+ghost use Rattle.gql_merged.specs.Basis.{execution_of, is_introspection_only, schema_of};
 
 use crate::argument_values::{add_argument, argument_values};
 use crate::asks::Asks;

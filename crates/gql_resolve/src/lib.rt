@@ -40,3 +40,4 @@ pub use resolver_set::ResolverSet;
 pub use selection_field::SelectionField;
 pub use selection_fields_iter::SelectionFieldsIter;
 pub use turns::Turns;
+pub use variables::resolved_value;

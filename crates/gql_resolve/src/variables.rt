@@ -25,7 +25,7 @@ pub(crate) fn value_at(
 {
     match unknown_in(env, written) {
         Some(name) => Ok(Err(not_defined(alloc, name, pos)?)),
-        None => Ok(Ok(resolve(alloc, env, written)?)),
+        None => Ok(Ok(resolved_value(alloc, env, written)?)),
     }
 }
 
@@ -110,9 +110,10 @@ fn not_defined_message(alloc: Global, name: &str) -> Made<String>
     format!(in alloc; "Variable {name} is not defined.")
 }
 
-/// A value with what its variables stand for.
+/// A value of the document, with what its variables stand for (section 6.4.1). A variable that is
+/// neither given nor has a default is null. Only want of memory fails.
 #[cycle(resolve)]
-fn resolve(alloc: Global, env: &QueryEnv, value: &DocValue) -> Made<Value>
+pub fn resolved_value(alloc: Global, env: &QueryEnv, value: &DocValue) -> Made<Value>
     ensures { IfOk result (λ made. made ≡ resolved (known_in env.now) value.now) }
 {
     match value {
@@ -133,7 +134,7 @@ fn resolve_items(alloc: Global, env: &QueryEnv, items: &[DocValue]) -> Made<Item
 {
     let mut values = Items::with_capacity(alloc, items.len())?;
     for item in items {
-        values.push(resolve(alloc, env, item)?)?;
+        values.push(resolved_value(alloc, env, item)?)?;
     }
     Ok(values)
 }
@@ -144,7 +145,7 @@ fn resolve_members(alloc: Global, env: &QueryEnv, members: &Pairs<DocValue>) -> 
 {
     let mut values = Vec::with_capacity(alloc, members.len())?;
     for index in 0..members.len() {
-        values.push(resolve(alloc, env, members.at(index).1)?)?;
+        values.push(resolved_value(alloc, env, members.at(index).1)?)?;
     }
     members.with_values(alloc, values)
 }

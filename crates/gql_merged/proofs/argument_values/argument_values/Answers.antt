@@ -1,7 +1,7 @@
 use Rattle.std.proofs.Common.{ap, ◌∙◌}
 use Rattle.gql_base.specs.Pairs.{later, unite_all}
+use Rattle.gql_resolve.specs.Variables.{known_in}
 use Rattle.gql_select.specs.Constants.{constant, given}
-use Rattle.gql_merged.specs.Basis.{known_in}
 use Rattle.gql_merged.proofs.ArgumentLemmas.{argument_more}
 use Rattle.gql_merged.proofs.argument_values.argument_values.Goals as goal
 

@@ -1,7 +1,7 @@
 use Rattle.std.proofs.Common.{◌≡◌, take}
+use Rattle.gql_resolve.specs.Variables.{known_in}
 use Rattle.gql_select.specs.Constants.{constants}
 use Rattle.gql_merged.specs.ArgumentValues.{declared_of}
-use Rattle.gql_merged.specs.Basis.{known_in}
 use Rattle.gql_merged.proofs.argument_values.argument_values.Given as goal
 
 abbrev pub invariant-loop-place : goal.invariant-loop-place

@@ -1,9 +1,10 @@
 use Rattle.std.proofs.Common.{◌≡◌, ℕ, List, IfOk, subst}
 use Rattle.gql_doc.specs.declared.document.Argument.{Argument}
 use Rattle.gql_meaning.specs.TableSetting.{field_in}
+use Rattle.gql_resolve.specs.Variables.{known_in}
 use Rattle.gql_select.specs.Alike.{name_of}
 use Rattle.gql_merged.specs.Asks.{asks_of_declared}
-use Rattle.gql_merged.specs.Basis.{known_in, schema_of}
+use Rattle.gql_merged.specs.Basis.{schema_of}
 use Rattle.gql_merged.proofs.asking.ask_resolved.Goals as goal
 
 pub returns : goal.returns
