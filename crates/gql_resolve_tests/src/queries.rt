@@ -83,10 +83,10 @@ fn within(
 }
 
 #[tactic(auto, using(gql_admit::proofs::NestingLemmas::chosen_nests))]
-fn chosen(alloc: Global, document: ExecutableDocument, variables: Variables) -> Made<Option<Ground>>
-    requires { deep document 32 ≡ None }
+fn chosen(alloc: Global, doc: ExecutableDocument, variables: Variables) -> Made<Option<Ground>>
+    requires { deep doc 32 ≡ None }
 {
-    match choose_operation(alloc, document, None)? {
+    match choose_operation(alloc, doc, None)? {
         Ok(chosen) => Ok(Some(grounded(alloc, chosen, variables)?)),
         Err(_) => Ok(None),
     }

@@ -25,7 +25,9 @@ fn batch_ends_with(alloc: Global, requests: &str, status: u8, line: &str) -> Mad
 const FAILING: (&str, &str) = (
     r#"[{"query":"{ value(a: 10, b: 20) }"},{"query":"{ value(a: 30, b: 40) }"},
 {"query":"{ value1 }"}]"#,
-    r#"[{"data":{"value":30}},{"data":{"value":70}},{"data":null,"errors":[{"message":"Unknown field \"value1\" on type \"Query\".","locations":[{"line":1,"column":3}]}]}]"#,
+    "[{\"data\":{\"value\":30}},{\"data\":{\"value\":70}},{\"data\":null,\"errors\":[\
+     {\"message\":\"Unknown field \\\"value1\\\" on type \\\"Query\\\".\",\
+     \"locations\":[{\"line\":1,\"column\":3}]}]}]",
 );
 
 #[test]
