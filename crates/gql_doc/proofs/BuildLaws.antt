@@ -1,22 +1,25 @@
--- Doubled names and built parts of lists and objects, item by item.
-use Rattle.std.proofs.Common.{◌≡◌, ℕ, true, false, cond, ◌||◌, List, [], ◌∷◌, ◌++◌, map, Option, Some, None, is_some, Ok, Err, refl, sym, ap, ◌∙◌, append_assoc, append-nil}
-use Rattle.std.proofs.lemmas.List.{map-append}
-use Rattle.std.specs.Str.{bytes_eq}
-use Rattle.gql_base.specs.Pairs.{under, names_of}
+-- Doubled names and parts of lists, objects and selections, item by item.
+use Rattle.std.proofs.Common.{◌≡◌, ℕ, List, [], ◌∷◌, ◌++◌, map, Option, refl, ap, ◌∙◌}
 use Rattle.std.specs.Option.{option_or}
-use Rattle.gql_doc.specs.First.{first_in}
-use Rattle.gql_doc.specs.declared.trouble.BuildError.{BuildError}
-use Rattle.gql_doc.specs.declared.trouble.BuildError.TheVariants.{Memory, Doubled}
 use mathlib.Core.Former.{Count}
 use Rattle.gql_base.specs.declared.pos.Pos.{Pos}
-use Rattle.gql_base.specs.declared.value.Value.TheVariants as constant
+use Rattle.gql_doc.specs.First.{first_in}
 use Rattle.gql_doc.specs.declared.document.DocValue.TheVariants as doc
+use Rattle.gql_doc.specs.declared.document.Selection.TheVariants as selection
+use Rattle.gql_doc.specs.declared.document.Field.{roll-Field}
+use Rattle.gql_doc.specs.declared.document.InlineFragment.{roll-InlineFragment}
 use Rattle.gql_doc.specs.declared.tree.ValueTree.{ValueTree, List as ListTree, Object as ObjectTree, Row_of-ValueTree, end_of-ValueTree, more_of-ValueTree, items-the_row-ValueTree, items_hidden-the_row-ValueTree-0, Row_of-MemberTree, end_of-MemberTree, more_of-MemberTree, items-the_row-MemberTree, items_hidden-the_row-MemberTree-1}
 use Rattle.gql_doc.specs.declared.tree.ValueTree.TheBlock.{hidden-the_row-ValueTree-0, hidden-the_row-MemberTree-1}
 use Rattle.gql_doc.specs.declared.tree.MemberTree.{MemberTree}
-use Rattle.gql_doc.specs.NameRules.{is_among, if_among, if_doubled, doubled_in_value, doubled_in_values, doubled_in_members}
-use Rattle.gql_doc.specs.Building.{value_of, values_of, members_of, constant_of, constants_of, constant_members_of}
-use Rattle.gql_doc.specs.Builds.{Builds, Refuses, member_of, constant_member_of, doubled_in_member, doubled_among_members}
+use Rattle.gql_doc.specs.declared.tree.ArgumentTree.{ArgumentTree}
+use Rattle.gql_doc.specs.declared.tree.DirectiveTree.{DirectiveTree}
+use Rattle.gql_doc.specs.declared.tree.SelectionTree.{SelectionTree, Field, Inline, Row_of-SelectionTree, end_of-SelectionTree, more_of-SelectionTree, items-the_row-SelectionTree, items_hidden-the_row-SelectionTree-0}
+use Rattle.gql_doc.specs.declared.tree.SelectionTree.TheBlock.{hidden-the_row-SelectionTree-0}
+use Rattle.gql_doc.specs.Grammar.{head_pos}
+use Rattle.gql_doc.specs.NameRules.{if_doubled, doubled_in_value, doubled_in_values, doubled_in_members, doubled_in_arguments, doubled_in_directives, doubled_in_selection, doubled_in_selections}
+use Rattle.gql_doc.specs.Building.{placed, value_of, values_of, members_of, argument_of, directive_of, set_of, selection_of, selections_of}
+use Rattle.gql_doc.specs.Words.{PlacedName}
+use Rattle.gql_doc.proofs.Builds.{member_of, doubled_among_members}
 
 doubled_row : (m : Count) (row : Row_of-ValueTree m) → doubled_in_values row ≡ first_in doubled_in_value (items-the_row-ValueTree m row)
 doubled_row _ end_of-ValueTree = refl
@@ -35,15 +38,6 @@ members_row : (m : Count) (row : Row_of-MemberTree m) → members_of row ≡ map
 members_row _ end_of-MemberTree = refl
 members_row _ (more_of-MemberTree name v row) = ap (λ ms. (name.node, value_of v) ∷ ms) (members_row _ row)
 
-constants_row : (m : Count) (row : Row_of-ValueTree m) → constants_of row ≡ map constant_of (items-the_row-ValueTree m row)
-constants_row _ end_of-ValueTree = refl
-constants_row _ (more_of-ValueTree v row) = ap (λ vs. constant_of v ∷ vs) (constants_row _ row)
-
-constant_members_row : (m : Count) (row : Row_of-MemberTree m) → constant_members_of row ≡ map constant_member_of (items-the_row-MemberTree m row)
-constant_members_row _ end_of-MemberTree = refl
-constant_members_row _ (more_of-MemberTree name v row) =
-    ap (λ ms. (name.node, constant_of v) ∷ ms) (constant_members_row _ row)
-
 pub doubled_list : (vs : List ValueTree) → doubled_in_value (ListTree vs) ≡ first_in doubled_in_value vs
 doubled_list vs = doubled_row _ (hidden-the_row-ValueTree-0 vs) ∙ ap (first_in doubled_in_value) (items_hidden-the_row-ValueTree-0 vs)
 
@@ -59,75 +53,45 @@ pub value_object : (ms : List MemberTree) → value_of (ObjectTree ms) ≡ doc.O
 value_object ms =
     ap doc.Object (members_row _ (hidden-the_row-MemberTree-1 ms) ∙ ap (map member_of) (items_hidden-the_row-MemberTree-1 ms))
 
-pub constant_list : (vs : List ValueTree) → constant_of (ListTree vs) ≡ constant.List (map constant_of vs)
-constant_list vs =
-    ap constant.List (constants_row _ (hidden-the_row-ValueTree-0 vs) ∙ ap (map constant_of) (items_hidden-the_row-ValueTree-0 vs))
+doubled_selections_row : (m : Count) (row : Row_of-SelectionTree m) → doubled_in_selections row ≡ first_in doubled_in_selection (items-the_row-SelectionTree m row)
+doubled_selections_row _ end_of-SelectionTree = refl
+doubled_selections_row _ (more_of-SelectionTree s row) = ap (option_or (doubled_in_selection s)) (doubled_selections_row _ row)
 
-pub constant_object : (ms : List MemberTree) → constant_of (ObjectTree ms) ≡ constant.Object (map constant_member_of ms)
-constant_object ms =
-    ap constant.Object (constant_members_row _ (hidden-the_row-MemberTree-1 ms) ∙ ap (map constant_member_of) (items_hidden-the_row-MemberTree-1 ms))
+selections_row : (m : Count) (row : Row_of-SelectionTree m) → selections_of row ≡ map selection_of (items-the_row-SelectionTree m row)
+selections_row _ end_of-SelectionTree = refl
+selections_row _ (more_of-SelectionTree s row) = ap (λ ss. selection_of s ∷ ss) (selections_row _ row)
 
--- Names that are taken.
+doubled_hidden : (ss : List SelectionTree) → doubled_in_selections (hidden-the_row-SelectionTree-0 ss) ≡ first_in doubled_in_selection ss
+doubled_hidden ss =
+    doubled_selections_row _ (hidden-the_row-SelectionTree-0 ss) ∙ ap (first_in doubled_in_selection) (items_hidden-the_row-SelectionTree-0 ss)
 
-taken_names : {T : Type 0} → (name : List ℕ) (ps : List (List ℕ × T)) → is_among name (names_of ps) ≡ is_some (under name ps)
-taken_names name [] = refl
-taken_names name (p ∷ ps) =
-    elim (bytes_eq name p.0) as (λ b. (b || is_among name (names_of ps)) ≡ is_some (cond b (Some p.1) (under name ps))) [ true ↦ refl | false ↦ taken_names name ps ]
+hidden_built : (ss : List SelectionTree) → selections_of (hidden-the_row-SelectionTree-0 ss) ≡ map selection_of ss
+hidden_built ss =
+    selections_row _ (hidden-the_row-SelectionTree-0 ss) ∙ ap (map selection_of) (items_hidden-the_row-SelectionTree-0 ss)
 
-pub not_taken : {T : Type 0} → (name : List ℕ) (ps : List (List ℕ × T)) (pos : Pos) → under name ps ≡ None → if_among (names_of ps) name pos ≡ None
-not_taken name ps pos none = ap (λ b. cond b (Some pos) None) (taken_names name ps ∙ ap is_some none)
+module _ (alias : Option PlacedName) (name : PlacedName) (arguments : List ArgumentTree) (directives : List DirectiveTree) (set : Pos) (selections : List SelectionTree) where
+  pub doubled_field : doubled_in_selection (Field alias name arguments directives set selections)
+      ≡ option_or (doubled_in_arguments arguments) (option_or (doubled_in_directives directives) (first_in doubled_in_selection selections))
+  doubled_field =
+      ap (λ o. option_or (doubled_in_arguments arguments) (option_or (doubled_in_directives directives) o)) (doubled_hidden selections)
 
-pub taken : {T : Type 0} → (name : List ℕ) (ps : List (List ℕ × T)) (pos : Pos) (x : T) → under name ps ≡ Some x → if_among (names_of ps) name pos ≡ Some pos
-taken name ps pos x some = ap (λ b. cond b (Some pos) None) (taken_names name ps ∙ ap is_some some)
+  pub field_built : selection_of (Field alias name arguments directives set selections)
+      ≡ placed (head_pos alias name) (selection.Field (placed (head_pos alias name)
+      (roll-Field (record { alias = alias; name = name; arguments = map argument_of arguments; directives = map directive_of directives; selection_set = set_of set (map selection_of selections) }))))
+  field_built =
+      ap (λ ss. placed (head_pos alias name) (selection.Field (placed (head_pos alias name)
+      (roll-Field (record { alias = alias; name = name; arguments = map argument_of arguments; directives = map directive_of directives; selection_set = set_of set ss })))))
+      (hidden_built selections)
 
-pub first_of_both : (a b : Option Pos) → a ≡ None → option_or a b ≡ b
-first_of_both a b none = ap (λ o. option_or o b) none
+module _ (pos : Pos) (condition : Option PlacedName) (directives : List DirectiveTree) (set : Pos) (selections : List SelectionTree) where
+  pub doubled_inline : doubled_in_selection (Inline pos condition directives set selections)
+      ≡ option_or (doubled_in_directives directives) (first_in doubled_in_selection selections)
+  doubled_inline = ap (λ o. option_or (doubled_in_directives directives) o) (doubled_hidden selections)
 
--- Loops that build one part after the other.
-
-module _ {A B : Type 0} (f : A → Option Pos) (g : A → B) where
-  -- what is left to build, and what was built
-  abbrev pub IsBuilding : List A → List B → List A → Type 0
-  IsBuilding all built left = (first_in f all ≡ first_in f left) × (map g all ≡ built ++ map g left)
-
-  pub goes : (all : List A) (built more : List B) (x : A) (left rest : List A) (y : B) → left ≡ x ∷ rest → f x ≡ None → y ≡ g x → more ≡ built ++ y ∷ [] → IsBuilding all built left → IsBuilding all more rest
-  goes all built more x left rest y next none same added (first, whole) = (
-    first ∙ ap (first_in f) next ∙ ap (λ o. option_or o (first_in f rest)) none,
-    whole ∙ ap (λ xs. built ++ map g xs) next ∙ sym (append_assoc built (g x ∷ []) (map g rest)) ∙ ap (λ z. (built ++ z ∷ []) ++ map g rest) (sym same) ∙ ap (λ bs. bs ++ map g rest) (sym added),
-  )
-
-  pub stops : {C : Type 0} → (error : BuildError) (all : List A) (built : List B) (x : A) (left rest : List A) (part : C) → left ≡ x ∷ rest → Refuses {A = B} (Err error) (f x) → IsBuilding all built left → Builds {A = C} (Err error) (first_in f all) part
-  stops Memory all built x left rest part next refused (first, whole) = tt
-  stops (Doubled pos) all built x left rest part next refused (first, whole) =
-      first ∙ ap (first_in f) next ∙ ap (λ o. option_or o (first_in f rest)) refused
-
-  pub ends : (all : List A) (built : List B) (left : List A) → left ≡ [] → IsBuilding all built left → Builds (Ok built) (first_in f all) (map g all)
-  ends all built left none (first, whole) =
-      (first ∙ ap (first_in f) none, sym (append-nil built) ∙ ap (λ xs. built ++ map g xs) (sym none) ∙ sym whole)
-
--- The loop over the members of an object, where `v` builds a value.
-module _ {B : Type 0} (v : ValueTree → B) where
-  abbrev member : MemberTree → List ℕ × B
-  member m = (m.name.node, v m.value)
-
-  abbrev pub AreBuilding : List MemberTree → List (List ℕ × B) → List MemberTree → Type 0
-  AreBuilding all built left =
-      (doubled_among_members [] all ≡ doubled_among_members (names_of built) left) × (map member all ≡ built ++ map member left)
-
-  pub members_go : (all : List MemberTree) (built more : List (List ℕ × B)) (x : MemberTree) (left rest : List MemberTree) → left ≡ x ∷ rest → doubled_in_member (names_of built) x ≡ None → more ≡ built ++ member x ∷ [] → AreBuilding all built left → AreBuilding all more rest
-  members_go all built more x left rest next none added (first, whole) = (
-    first ∙ ap (doubled_among_members (names_of built)) next
-        ∙ ap (λ o. option_or o (doubled_among_members (names_of built ++ x.name.node ∷ []) rest)) none
-        ∙ ap (λ ns. doubled_among_members ns rest) (sym (map-append (λ p. p.0) built (member x ∷ [])))
-        ∙ ap (λ ps. doubled_among_members (names_of ps) rest) (sym added),
-    whole ∙ ap (λ xs. built ++ map member xs) next ∙ sym (append_assoc built (member x ∷ []) (map member rest)) ∙ ap (λ bs. bs ++ map member rest) (sym added),
-  )
-
-  pub members_stop : {C : Type 0} → (error : BuildError) (all : List MemberTree) (built : List (List ℕ × B)) (x : MemberTree) (left rest : List MemberTree) (part : C) → left ≡ x ∷ rest → Refuses {A = B} (Err error) (doubled_in_member (names_of built) x) → AreBuilding all built left → Builds {A = C} (Err error) (doubled_among_members [] all) part
-  members_stop Memory all built x left rest part next refused (first, whole) = tt
-  members_stop (Doubled pos) all built x left rest part next refused (first, whole) =
-      first ∙ ap (doubled_among_members (names_of built)) next ∙ ap (λ o. option_or o (doubled_among_members (names_of built ++ x.name.node ∷ []) rest)) refused
-
-  pub members_end : (all : List MemberTree) (built : List (List ℕ × B)) (left : List MemberTree) → left ≡ [] → AreBuilding all built left → Builds (Ok built) (doubled_among_members [] all) (map member all)
-  members_end all built left none (first, whole) =
-      (first ∙ ap (doubled_among_members (names_of built)) none, sym (append-nil built) ∙ ap (λ xs. built ++ map member xs) (sym none) ∙ sym whole)
+  pub inline_built : selection_of (Inline pos condition directives set selections)
+      ≡ placed pos (selection.InlineFragment (placed pos
+      (roll-InlineFragment (record { type_condition = condition; directives = map directive_of directives; selection_set = set_of set (map selection_of selections) }))))
+  inline_built =
+      ap (λ ss. placed pos (selection.InlineFragment (placed pos
+      (roll-InlineFragment (record { type_condition = condition; directives = map directive_of directives; selection_set = set_of set ss })))))
+      (hidden_built selections)

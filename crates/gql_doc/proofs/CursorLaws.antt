@@ -1,18 +1,20 @@
 -- What the takes of the cursor read.
-use Rattle.std.proofs.Common.{◌≡◌, ℕ, true, false, List, [], ◌∷◌, Option, Some, None, Ok, Err, refl, sym, ap, ◌∙◌}
+use Rattle.std.proofs.Common.{◌≡◌, ℕ, zero, suc, ◌-◌, ◌<◌, Bool, true, false, List, [], ◌∷◌, Option, Some, None, Ok, Err, refl, sym, ap, ◌∙◌, arith}
 use Rattle.gql_base.specs.declared.pos.Pos.{Pos}
 use Rattle.gql_tokens.specs.declared.token.Token.{Token}
 use Rattle.gql_tokens.specs.declared.token.Lexeme.{Lexeme}
 use Rattle.gql_tokens.specs.declared.token.Lexeme.TheVariants as lexeme
 use Rattle.gql_tokens.specs.declared.token.Punctuator.{Punctuator}
-use Rattle.gql_doc.specs.declared.trouble.Trouble.TheVariants.{Unexpected}
+use Rattle.gql_doc.specs.declared.trouble.Trouble.TheVariants.{Unexpected, TooDeep}
 use Rattle.gql_tokens.proofs.TokenFronts.{tokens_left}
 use Rattle.gql_doc.specs.Words.{Tokens}
-use Rattle.gql_doc.specs.Readers.{begins, behind_first, place_of, picked, take_one}
+use Rattle.gql_doc.specs.Readers.{Reading, begins, behind_first, choose, gives, place_of, picked, take_one}
+use Rattle.gql_doc.specs.Drafting.{taken_if, opened, open_at, scalar, scalar_in}
 use Rattle.std.specs.Prelude.{not, ◌&&◌, codes}
 use Rattle.gql_doc.specs.declared.document.OperationType.{OperationType}
-use Rattle.gql_doc.specs.declared.tree.ValueTree.{ValueTree}
-use Rattle.gql_doc.specs.Reading.{is_sign, is_word, is_name, is_fragment_name, is_scalar, is_end, says_name, says_word, says_scalar, if_so, with_pos, name_in, fragment_name_in, scalar_in, next_operation, take_sign, take_word, take_name, take_fragment_name, take_scalar, take_operation, take_end}
+use Rattle.gql_doc.specs.declared.cursor.Opened.{Opened}
+use Rattle.gql_doc.specs.declared.document.DocValue.{DocValue}
+use Rattle.gql_doc.specs.Reading.{is_sign, is_word, is_name, is_fragment_name, is_scalar, is_end, says_name, says_word, says_scalar, if_so, with_pos, name_in, fragment_name_in, next_operation, take_sign, take_word, take_name, take_fragment_name, take_operation, take_end}
 
 -- where no token was read, none is left
 pub nothing_left : (before : Option Token) (place : Pos) (text : List ℕ) (old : Tokens) → before ≡ None → tokens_left before place text ≡ old
@@ -86,8 +88,8 @@ fragment_name_missed (token ∷ tokens) next = ap (λ o. picked o token tokens) 
     none lexeme.Unexpected pos e = refl
     none lexeme.Unsupported pos e = refl
 
-pub scalar_taken : (old new : Tokens) (token : Token) (value : ValueTree) → old ≡ token ∷ new → Some value ≡ scalar_in token.lexeme → take_scalar old ≡ (Ok value, new)
-unfolding take_scalar
+pub scalar_taken : (old new : Tokens) (token : Token) (value : DocValue) → old ≡ token ∷ new → Some value ≡ scalar_in token.lexeme → scalar old ≡ (Ok value, new)
+unfolding scalar
 scalar_taken old new token value e k = ap (take_one (λ t. scalar_in t.lexeme)) e ∙ ap (λ o. picked o token new) (sym k)
 
 scalar_or_not : (l : Lexeme) → says_scalar l ≡ false → scalar_in l ≡ None
@@ -99,8 +101,8 @@ scalar_or_not lexeme.End e = refl
 scalar_or_not lexeme.Unexpected e = refl
 scalar_or_not lexeme.Unsupported e = refl
 
-pub scalar_missed : (tokens : Tokens) → begins is_scalar tokens ≡ false → take_scalar tokens ≡ (Err Unexpected, tokens)
-unfolding take_scalar
+pub scalar_missed : (tokens : Tokens) → begins is_scalar tokens ≡ false → scalar tokens ≡ (Err Unexpected, tokens)
+unfolding scalar
 scalar_missed [] next = refl
 scalar_missed (token ∷ tokens) next = ap (λ o. picked o token tokens) (scalar_or_not token.lexeme next)
 
@@ -135,3 +137,32 @@ pub end_missed : (tokens : Tokens) → begins is_end tokens ≡ false → take_e
 unfolding take_end
 end_missed [] next = refl
 end_missed (token ∷ tokens) next = ap (λ b. picked (if_so b token.pos) token tokens) next
+
+-- Tokens that may be next.
+
+pub one_there : (test : Token → Bool) (tokens : Tokens) → begins test tokens ≡ true → taken_if test tokens ≡ (Ok true, behind_first tokens)
+unfolding taken_if
+one_there test tokens next = ap (λ b. choose b (λ here. (Ok true, behind_first here)) (λ here. (Ok false, here)) tokens) next
+
+pub not_there : (test : Token → Bool) (tokens : Tokens) → begins test tokens ≡ false → taken_if test tokens ≡ (Ok false, tokens)
+unfolding taken_if
+not_there test tokens next = ap (λ b. choose b (λ here. (Ok true, behind_first here)) (λ here. (Ok false, here)) tokens) next
+
+pub not_opened : (sign : Punctuator) (levels : ℕ) (tokens : Tokens) → begins (is_sign sign) tokens ≡ false → open_at sign levels tokens ≡ (Ok None, tokens)
+unfolding open_at
+not_opened sign levels tokens next = ap (λ b. choose b (opened levels) (gives None) tokens) next
+
+pub none_left : (sign : Punctuator) (levels : ℕ) (tokens : Tokens) → begins (is_sign sign) tokens ≡ true → levels ≡ 0 → open_at sign levels tokens ≡ (Err TooDeep, tokens)
+unfolding open_at
+none_left sign levels tokens next none = ap (λ b. choose b (opened levels) (gives None) tokens) next ∙ ap (λ n. opened n tokens) none
+
+abbrev at_level : Tokens → ℕ → Reading (Option Opened)
+at_level tokens n = (Ok (Some (record { pos = place_of tokens; levels = n })), behind_first tokens)
+
+pub opened_one : (sign : Punctuator) (levels : ℕ) (tokens : Tokens) → begins (is_sign sign) tokens ≡ true → 0 < levels
+    → open_at sign levels tokens ≡ (Ok (Some (record { pos = place_of tokens; levels = levels - 1 })), behind_first tokens)
+unfolding open_at
+opened_one sign zero tokens next some = absurd (omega arith)
+opened_one sign (suc n) tokens next some =
+    ap (λ b. choose b (opened (suc n)) (gives None) tokens) next
+    ∙ (let e : n ≡ suc n - 1 = omega arith in ap (at_level tokens) e)

@@ -1,16 +1,16 @@
 -- What stands behind a part of the grammar, as far as one token of sight shows it.
-use Rattle.std.proofs.Common.{◌≡◌, ℕ, true, false, not, List, [], ◌∷◌, ◌++◌, Some, None, inl, inr, refl, sym, ap, ◌∙◌, subst, append_assoc}
+use Rattle.std.proofs.Common.{◌≡◌, ℕ, true, false, not, List, [], ◌∷◌, ◌++◌, Some, None, refl, sym, ap, ◌∙◌, subst, append_assoc}
 use denote.Enum.Bare.{sameb}
 use Rattle.gql_base.specs.declared.pos.Pos.{Pos}
 use Rattle.gql_tokens.specs.declared.token.Lexeme.{Lexeme}
 use Rattle.gql_tokens.specs.declared.token.Lexeme.TheVariants as lexeme
 use Rattle.gql_tokens.specs.declared.token.Punctuator.{Punctuator}
 use Rattle.gql_tokens.specs.contracts.token.Punctuator as punctuator
-use Rattle.gql_doc.specs.Words.{Tokens, Word, Language, tokens_of, ◌▸◌, Each, Maybe, One, SignAt, OpensAt}
+use Rattle.gql_doc.specs.Words.{Tokens, Word, Language, tokens_of, Each, Maybe, One, SignAt, OpensAt}
 use Rattle.gql_doc.specs.Grammar.{IsName}
 use Rattle.gql_doc.specs.Readers.{begins}
 use Rattle.gql_doc.specs.Reading.{is_sign, says_sign, is_name, other_than}
-use Rattle.gql_doc.proofs.ReaderLaws.{Always, Pure, Seq, Map, Either, SomeOf, tokens_of-append}
+use Rattle.gql_doc.proofs.ReaderLaws.{Always, Seq, Map, tokens_of-append}
 use Rattle.gql_doc.proofs.TokenLaws.{sign_is, sign_same}
 
 -- the next token is this sign

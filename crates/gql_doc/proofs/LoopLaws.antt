@@ -1,54 +1,52 @@
--- A loop that reads one after the other.
-use Rattle.std.proofs.Common.{◌≡◌, ◌<◌, Bool, true, false, List, [], ◌∷◌, ◌++◌, length, Result, Ok, Err, refl, sym, ap, ◌∙◌, subst, append_assoc, append-nil}
+-- A loop that reads one after the other, and takes each in as it was read.
+use Rattle.std.proofs.Common.{◌≡◌, Bool, true, false, List, [], ◌∷◌, Result, Ok, Err, refl, sym, ap, ◌∙◌}
 use Rattle.gql_tokens.specs.declared.token.Token.{Token}
 use Rattle.gql_doc.specs.declared.trouble.Trouble.{Trouble}
 use Rattle.gql_doc.specs.declared.trouble.ReadError.{ReadError}
 use Rattle.gql_doc.specs.declared.trouble.ReadError.TheVariants.{Memory, Stopped}
-use Rattle.gql_doc.specs.Words.{Tokens, Language}
-use Rattle.gql_doc.specs.Readers.{Reading, Reader, go_on, begins, choose, gives, mapped, many, some, Leaves, ◌then◌}
-use Rattle.gql_doc.proofs.ReaderLaws.{Sound, Starts, many_step, shrinks}
+use Rattle.gql_doc.specs.Drafts.{folded}
+use Rattle.gql_doc.specs.Words.{Tokens}
+use Rattle.gql_doc.specs.Readers.{Reading, Reader, go_on, begins, choose, gives, mapped, many, Leaves, ◌then◌}
+use Rattle.gql_doc.proofs.ReaderLaws.{Shrinks, many_step}
 
--- what was read before, and what is still read
-abbrev pub front_of : {A : Type 0} → List A → Result (List A) Trouble → Result (List A) Trouble
-front_of front (Ok more) = Ok (front ++ more)
-front_of front (Err trouble) = Err trouble
+module _ {S A : Type 0} (step : S → A → S) (test : Token → Bool) (f : Reader A) where
+  -- what the loop comes to from here on
+  abbrev pub ahead : S → Reader S
+  ahead start = mapped (folded step start) (many test f)
 
-abbrev pub with_front : {A : Type 0} → List A → Reading (List A) → Reading (List A)
-with_front front reading = (front_of front reading.0, reading.1)
+  one_more : (start : S) (a : A) (o : Result (List A) Trouble) (rest : Tokens)
+      → go_on (go_on o rest (λ more. gives (a ∷ more))).0 (go_on o rest (λ more. gives (a ∷ more))).1 (λ xs. gives (folded step start xs))
+      ≡ go_on o rest (λ xs. gives (folded step (step start a) xs))
+  one_more start a (Ok more) rest = refl
+  one_more start a (Err trouble) rest = refl
 
-nothing_before : {A : Type 0} → (o : Result (List A) Trouble) (rest : Tokens) → with_front [] (o, rest) ≡ (o, rest)
-nothing_before (Ok more) rest = refl
-nothing_before (Err trouble) rest = refl
+  module _ (shrinks : Shrinks f) where
+    go : (tokens : Tokens) (b : Bool) → begins test tokens ≡ b → many test f tokens ≡ choose b (f then (λ a. mapped (λ more. a ∷ more) (many test f))) (gives []) tokens
+    go tokens b e = many_step test f shrinks tokens ∙ ap (λ c. choose c (f then (λ a. mapped (λ more. a ∷ more) (many test f))) (gives []) tokens) e
 
-pub loop_begins : {A : Type 0} → (reading : Reading (List A)) → with_front [] reading ≡ reading
-loop_begins reading = nothing_before reading.0 reading.1
+    goes_to : (start : S) (reading : Reading (List A)) (tokens : Tokens) → many test f tokens ≡ reading → ahead start tokens ≡ go_on reading.0 reading.1 (λ xs. gives (folded step start xs))
+    goes_to start reading tokens e = ap (λ r. go_on r.0 r.1 (λ xs. gives (folded step start xs))) e
 
-one_more : {A : Type 0} → (front : List A) (a : A) (o : Result (List A) Trouble) (rest : Tokens) → with_front front (go_on o rest (λ more. gives (a ∷ more))) ≡ with_front (front ++ a ∷ []) (o, rest)
-one_more front a (Ok more) rest = ap (λ xs. (Ok xs, rest)) (sym (append_assoc front (a ∷ []) more))
-one_more front a (Err trouble) rest = refl
+    pub loop_goes : (start : S) (a : A) (tokens rest : Tokens) (total : Reading S) → begins test tokens ≡ true → f tokens ≡ (Ok a, rest) → ahead start tokens ≡ total → ahead (step start a) rest ≡ total
+    loop_goes start a tokens rest total next e so_far =
+        sym (one_more start a (many test f rest).0 (many test f rest).1)
+        ∙ sym (goes_to start (go_on (many test f rest).0 (many test f rest).1 (λ more. gives (a ∷ more))) tokens
+        (go tokens true next ∙ ap (λ reading. go_on reading.0 reading.1 (λ v. mapped (λ more. v ∷ more) (many test f))) e))
+        ∙ so_far
 
--- the first of some, and the others
-pub loop_first : {A : Type 0} → (test : Token → Bool) (f : Reader A) (a : A) (tokens rest : Tokens) → f tokens ≡ (Ok a, rest) → with_front (a ∷ []) (many test f rest) ≡ some test f tokens
-loop_first test f a tokens rest e =
-    sym (one_more [] a (many test f rest).0 (many test f rest).1) ∙ loop_begins (go_on (many test f rest).0 (many test f rest).1 (λ more. gives (a ∷ more))) ∙ sym (ap (λ reading. go_on reading.0 reading.1 (λ v. mapped (λ more. v ∷ more) (many test f))) e)
+    pub loop_stops : (start : S) (error : ReadError) (tokens rest : Tokens) (total : Reading S) → begins test tokens ≡ true → Leaves {A = A} (Err error) rest (f tokens) → ahead start tokens ≡ total → Leaves {A = S} (Err error) rest total
+    loop_stops start Memory tokens rest total next e so_far = tt
+    loop_stops start (Stopped trouble) tokens rest total next e so_far =
+        sym so_far ∙ goes_to start (Err trouble, rest) tokens (go tokens true next ∙ ap (λ reading. go_on reading.0 reading.1 (λ v. mapped (λ more. v ∷ more) (many test f))) e)
 
-module _ {A : Type 0} (test : Token → Bool) (f : Reader A) (D : A → Language) (sound : Sound f D) (starts : Starts test D) where
-  step : (tokens : Tokens) (b : Bool) → begins test tokens ≡ b → many test f tokens ≡ choose b (f then (λ a. mapped (λ more. a ∷ more) (many test f))) (gives []) tokens
-  step tokens b e = many_step test f D sound starts tokens ∙ ap (λ c. choose c (f then (λ a. mapped (λ more. a ∷ more) (many test f))) (gives []) tokens) e
+    pub loop_ends : (start : S) (tokens : Tokens) (total : Reading S) → begins test tokens ≡ false → ahead start tokens ≡ total → total ≡ (Ok start, tokens)
+    loop_ends start tokens total next so_far = sym so_far ∙ goes_to start (Ok [], tokens) tokens (go tokens false next)
 
-  pub loop_goes : (front : List A) (a : A) (tokens rest : Tokens) (total : Reading (List A)) → begins test tokens ≡ true → f tokens ≡ (Ok a, rest) → with_front front (many test f tokens) ≡ total → with_front (front ++ a ∷ []) (many test f rest) ≡ total
-  loop_goes front a tokens rest total next e so_far =
-      sym (one_more front a (many test f rest).0 (many test f rest).1) ∙ sym (ap (with_front front) (step tokens true next ∙ ap (λ reading. go_on reading.0 reading.1 (λ v. mapped (λ more. v ∷ more) (many test f))) e)) ∙ so_far
+  -- the first of some, and the others
+  pub loop_first : (first : A → S) (a : A) (tokens rest : Tokens) → f tokens ≡ (Ok a, rest) → ahead (first a) rest ≡ (f then (λ x. ahead (first x))) tokens
+  loop_first first a tokens rest e = sym (ap (λ reading. go_on reading.0 reading.1 (λ x. ahead (first x))) e)
 
-  pub loop_stops : (front : List A) (error : ReadError) (tokens rest : Tokens) (total : Reading (List A)) → begins test tokens ≡ true → Leaves {A = A} (Err error) rest (f tokens) → with_front front (many test f tokens) ≡ total → Leaves {A = List A} (Err error) rest total
-  loop_stops front Memory tokens rest total next e so_far = tt
-  loop_stops front (Stopped trouble) tokens rest total next e so_far =
-      sym so_far ∙ ap (with_front front) (step tokens true next ∙ ap (λ reading. go_on reading.0 reading.1 (λ v. mapped (λ more. v ∷ more) (many test f))) e)
-
-  pub loop_ends : (front : List A) (tokens : Tokens) (total : Reading (List A)) → begins test tokens ≡ false → with_front front (many test f tokens) ≡ total → total ≡ (Ok front, tokens)
-  loop_ends front tokens total next so_far =
-      sym so_far ∙ ap (with_front front) (step tokens false next) ∙ ap (λ xs. (Ok xs, tokens)) (append-nil front)
-
-  pub loop_shrinks : (a : A) (tokens rest : Tokens) → f tokens ≡ (Ok a, rest) → length rest < length tokens
-  loop_shrinks a tokens rest e =
-      subst (λ ts. length ts < length tokens) (ap (λ reading. reading.1) e) (shrinks test f D starts tokens (f tokens).0 (f tokens).1 (sound tokens) a (ap (λ reading. reading.0) e))
+  -- where the first isn't read, none is
+  pub loop_fails : (first : A → S) (error : ReadError) (tokens rest : Tokens) → Leaves {A = A} (Err error) rest (f tokens) → Leaves {A = S} (Err error) rest ((f then (λ x. ahead (first x))) tokens)
+  loop_fails first Memory tokens rest e = tt
+  loop_fails first (Stopped trouble) tokens rest e = ap (λ reading. go_on reading.0 reading.1 (λ x. ahead (first x))) e

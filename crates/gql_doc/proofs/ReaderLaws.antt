@@ -317,6 +317,44 @@ module _ {A : Type 0} (test : Token → Bool) (f : Reader A) where
   another : ℕ → Reader (List A)
   another n = f then (λ a. mapped (λ more. a ∷ more) (many_at n test f))
 
+-- what is read takes a token at least
+abbrev pub Shrinks : {A : Type 0} → Reader A → Type 0
+Shrinks {A} f = (tokens : Tokens) (a : A) (rest : Tokens) → f tokens ≡ (Ok a, rest) → length rest < length tokens
+
+module _ {A : Type 0} (test : Token → Bool) (f : Reader A) where
+  same_behind : (n m : ℕ) (o : Result A Trouble) (rest : Tokens) → ((a : A) → o ≡ Ok a → many_at n test f rest ≡ many_at m test f rest) → go_on o rest (λ a. mapped (λ more. a ∷ more) (many_at n test f)) ≡ go_on o rest (λ a. mapped (λ more. a ∷ more) (many_at m test f))
+  same_behind n m (Ok a) rest same = ap (λ reading. go_on reading.0 reading.1 (λ more. gives (a ∷ more))) (same a refl)
+  same_behind n m (Err k) rest same = refl
+
+  same_choice : (n m : ℕ) (b : Bool) (tokens : Tokens) → another test f n tokens ≡ another test f m tokens → choose b (another test f n) (gives []) tokens ≡ choose b (another test f m) (gives []) tokens
+  same_choice n m true tokens same = same
+  same_choice n m false tokens same = refl
+
+  -- any number that is enough gives the same
+  pub many_fuel : Shrinks f → (n m : ℕ) (tokens : Tokens) → length tokens ≤ n → length tokens ≤ m → many_at n test f tokens ≡ many_at m test f tokens
+  unfolding many_at another same_choice
+  many_fuel shrinks zero zero tokens = λ h k. refl
+  many_fuel shrinks zero (suc m) [] = λ h k. refl
+  many_fuel shrinks zero (suc m) (t ∷ tokens) = λ h k. absurd (omega arith)
+  many_fuel shrinks (suc n) zero [] = λ h k. refl
+  many_fuel shrinks (suc n) zero (t ∷ tokens) = λ h k. absurd (omega arith)
+  many_fuel shrinks (suc n) (suc m) tokens = λ h k. same_choice n m (begins test tokens) tokens (same_behind n m (f tokens).0 (f tokens).1 (λ a e. let less = shrinks tokens a (f tokens).1 (λ i. (e i, (f tokens).1)) in many_fuel shrinks n m (f tokens).1 (omega arith) (omega arith)))
+
+  step_behind : (n : ℕ) (o : Result A Trouble) (rest : Tokens) → ((a : A) → o ≡ Ok a → many_at n test f rest ≡ many test f rest) → go_on o rest (λ a. mapped (λ more. a ∷ more) (many_at n test f)) ≡ go_on o rest (λ a. mapped (λ more. a ∷ more) (many test f))
+  step_behind n (Ok a) rest same = ap (λ reading. go_on reading.0 reading.1 (λ more. gives (a ∷ more))) (same a refl)
+  step_behind n (Err k) rest same = refl
+
+  step_choice : (n : ℕ) (b : Bool) (tokens : Tokens) → another test f n tokens ≡ (f then (λ a. mapped (λ more. a ∷ more) (many test f))) tokens → choose b (another test f n) (gives []) tokens ≡ choose b (f then (λ a. mapped (λ more. a ∷ more) (many test f))) (gives []) tokens
+  step_choice n true tokens same = same
+  step_choice n false tokens same = refl
+
+  -- one step of a repetition
+  pub many_step : Shrinks f → (tokens : Tokens) → many test f tokens ≡ choose (begins test tokens) (f then (λ a. mapped (λ more. a ∷ more) (many test f))) (gives []) tokens
+  unfolding many many_at another
+  many_step shrinks tokens =
+      many_fuel shrinks (length tokens) (suc (length tokens)) tokens (omega arith) (omega arith)
+      ∙ step_choice (length tokens) (begins test tokens) tokens (step_behind (length tokens) (f tokens).0 (f tokens).1 (λ a e. let less = shrinks tokens a (f tokens).1 (λ i. (e i, (f tokens).1)) in many_fuel shrinks (length tokens) (length (f tokens).1) (f tokens).1 (omega arith) (omega arith)))
+
 module _ {A : Type 0} (test : Token → Bool) (f : Reader A) (D : A → Language) where
   each_of : (v : List A) (ms : Word) → Seq D (λ a. Map (λ more. a ∷ more) (Each D)) v ms → Each D v ms
   each_of v ms (a, x, y, e, d, (more, k, ds)) = subst (λ w. Each D w ms) (sym k) (x, y, e, d, ds)
@@ -356,38 +394,9 @@ module _ {A : Type 0} (test : Token → Bool) (f : Reader A) (D : A → Language
       omega (arith, ap length e, length-append (tokens_of c) rest)
   shrinks starts tokens (Err w) rest x a k = absurd (cc k)
 
-  same_behind : (n m : ℕ) (o : Result A Trouble) (rest : Tokens) → ((a : A) → o ≡ Ok a → many_at n test f rest ≡ many_at m test f rest) → go_on o rest (λ a. mapped (λ more. a ∷ more) (many_at n test f)) ≡ go_on o rest (λ a. mapped (λ more. a ∷ more) (many_at m test f))
-  same_behind n m (Ok a) rest same = ap (λ reading. go_on reading.0 reading.1 (λ more. gives (a ∷ more))) (same a refl)
-  same_behind n m (Err k) rest same = refl
-
-  same_choice : (n m : ℕ) (b : Bool) (tokens : Tokens) → another test f n tokens ≡ another test f m tokens → choose b (another test f n) (gives []) tokens ≡ choose b (another test f m) (gives []) tokens
-  same_choice n m true tokens same = same
-  same_choice n m false tokens same = refl
-
-  -- any number that is enough gives the same
-  pub many_fuel : Sound f D → Starts test D → (n m : ℕ) (tokens : Tokens) → length tokens ≤ n → length tokens ≤ m → many_at n test f tokens ≡ many_at m test f tokens
-  unfolding many_at another same_choice
-  many_fuel sound starts zero zero tokens = λ h k. refl
-  many_fuel sound starts zero (suc m) [] = λ h k. refl
-  many_fuel sound starts zero (suc m) (t ∷ tokens) = λ h k. absurd (omega arith)
-  many_fuel sound starts (suc n) zero [] = λ h k. refl
-  many_fuel sound starts (suc n) zero (t ∷ tokens) = λ h k. absurd (omega arith)
-  many_fuel sound starts (suc n) (suc m) tokens = λ h k. same_choice n m (begins test tokens) tokens (same_behind n m (f tokens).0 (f tokens).1 (λ a e. let less = shrinks starts tokens (f tokens).0 (f tokens).1 (sound tokens) a e in many_fuel sound starts n m (f tokens).1 (omega arith) (omega arith)))
-
-  step_behind : (n : ℕ) (o : Result A Trouble) (rest : Tokens) → ((a : A) → o ≡ Ok a → many_at n test f rest ≡ many test f rest) → go_on o rest (λ a. mapped (λ more. a ∷ more) (many_at n test f)) ≡ go_on o rest (λ a. mapped (λ more. a ∷ more) (many test f))
-  step_behind n (Ok a) rest same = ap (λ reading. go_on reading.0 reading.1 (λ more. gives (a ∷ more))) (same a refl)
-  step_behind n (Err k) rest same = refl
-
-  step_choice : (n : ℕ) (b : Bool) (tokens : Tokens) → another test f n tokens ≡ (f then (λ a. mapped (λ more. a ∷ more) (many test f))) tokens → choose b (another test f n) (gives []) tokens ≡ choose b (f then (λ a. mapped (λ more. a ∷ more) (many test f))) (gives []) tokens
-  step_choice n true tokens same = same
-  step_choice n false tokens same = refl
-
-  -- one step of a repetition
-  pub many_step : Sound f D → Starts test D → (tokens : Tokens) → many test f tokens ≡ choose (begins test tokens) (f then (λ a. mapped (λ more. a ∷ more) (many test f))) (gives []) tokens
-  unfolding many many_at another
-  many_step sound starts tokens =
-      many_fuel sound starts (length tokens) (suc (length tokens)) tokens (omega arith) (omega arith)
-      ∙ step_choice (length tokens) (begins test tokens) tokens (step_behind (length tokens) (f tokens).0 (f tokens).1 (λ a e. let less = shrinks starts tokens (f tokens).0 (f tokens).1 (sound tokens) a e in many_fuel sound starts (length tokens) (length (f tokens).1) (f tokens).1 (omega arith) (omega arith)))
+  pub shrinking : Sound f D → Starts test D → Shrinks f
+  shrinking sound starts tokens a rest e =
+      subst (λ ts. length ts < length tokens) (ap (λ reading. reading.1) e) (shrinks starts tokens (f tokens).0 (f tokens).1 (sound tokens) a (ap (λ reading. reading.0) e))
 
   follows : (F G : Tokens → Type 0) → ((v : A) (ms : Word) (rest : Tokens) → D v ms → F (tokens_of ms ++ rest)) → ((rest : Tokens) → G rest → F rest) → (vs : List A) (ms : Word) (rest : Tokens) → Each D vs ms → G rest → F (tokens_of ms ++ rest)
   follows F G apart weaker [] ms rest nil after = behind_nothing F ms rest nil (weaker rest after)
@@ -422,8 +431,8 @@ module _ {A : Type 0} (test : Token → Bool) (f : Reader A) (D : A → Language
   unfolding many
   many_local sound starts local x t r s d o e =
       let n = length (x ++ t ∷ r) + length (x ++ t ∷ s) in
-      many_fuel sound starts (length (x ++ t ∷ s)) n (x ++ t ∷ s) (omega arith) (omega arith)
-      ∙ many_at_local sound local n x t r s d o (many_fuel sound starts n (length (x ++ t ∷ r)) (x ++ t ∷ r) (omega arith) (omega arith) ∙ e)
+      many_fuel test f (shrinking sound starts) (length (x ++ t ∷ s)) n (x ++ t ∷ s) (omega arith) (omega arith)
+      ∙ many_at_local sound local n x t r s d o (many_fuel test f (shrinking sound starts) n (length (x ++ t ∷ r)) (x ++ t ∷ r) (omega arith) (omega arith) ∙ e)
 
   pub many_reads : (F G : Tokens → Type 0) → Reads f D F → Starts test D → ((v : A) (ms : Word) (rest : Tokens) → D v ms → F (tokens_of ms ++ rest)) → ((rest : Tokens) → G rest → F rest) → ((rest : Tokens) → G rest → begins test rest ≡ false) → Reads (many test f) (Each D) G
   unfolding many

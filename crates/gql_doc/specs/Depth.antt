@@ -1,6 +1,6 @@
 -- How deep the sets of a document lie. The set of a field that has one, that of a known fragment
 -- where it is spread and that of an inline fragment lie one level deeper than the set around them.
-use Rattle.std.specs.Prelude.{ℕ, zero, suc, List, [], ◌∷◌, map, Option, Some, None, option_and_then}
+use Rattle.std.specs.Prelude.{ℕ, zero, suc, List, [], ◌∷◌, Option, Some, None, option_and_then}
 use Rattle.std.specs.Option.{option_map}
 use Rattle.gql_base.specs.declared.pos.Pos.{Pos}
 use Rattle.gql_base.specs.Pairs.{under, values_of}

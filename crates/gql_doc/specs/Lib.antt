@@ -1,9 +1,11 @@
 pub mod Building
-pub mod Builds
 pub mod Depth
 pub mod Document
+pub mod Drafting
+pub mod Drafts
 pub mod Faults
 pub mod First
+pub mod Gathered
 pub mod Grammar
 pub mod NameRules
 pub mod Readers

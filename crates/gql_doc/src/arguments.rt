@@ -1,13 +1,14 @@
 //! Reads arguments (section 2.6) and directives (section 2.12).
 ghost use Rattle.std.specs.Prelude.{◌≡◌};
-ghost use Rattle.gql_tokens.specs.declared.token.Punctuator.TheVariants.{CloseParen};
-ghost use Rattle.gql_doc.specs.Readers.{Leaves, some};
-ghost use Rattle.gql_doc.specs.Reading.{other_than, argument, arguments as arguments_at, directive};
-ghost use Rattle.gql_doc.specs.Reading.{directives as directives_at};
+ghost use Rattle.gql_doc.specs.Readers.{Leaves};
+ghost use Rattle.gql_doc.specs.Drafting.{argument_draft, some_arguments_draft, arguments_draft};
+ghost use Rattle.gql_doc.specs.Drafting.{directive_draft, directives_draft};
 
 use crate::cursor::Cursor;
+use crate::document::{Argument, Directive, Positioned};
+use crate::draft::{Draft, add_item, plain};
 use crate::lists::list_of;
-use crate::tree::{ArgumentTree, DirectiveTree, Variables};
+use crate::tree::Variables;
 use crate::trouble::ReadError;
 use crate::values::read_placed_value;
 use gql_base::Items;
@@ -15,18 +16,17 @@ use gql_tokens::Punctuator;
 use std::alloc::Global;
 
 /// Reads arguments in parentheses, or none.
-#[tactic(auto, unfolding(crate::specs::Reading::arguments))]
+#[tactic(auto, unfolding(crate::specs::Drafting::arguments_draft))]
 pub fn read_arguments(
     alloc: Global,
     cursor: &mut Cursor,
     variables: Variables,
-) -> Result<Items<ArgumentTree>, ReadError>
-    ensures { Leaves result cursor.new (arguments_at variables cursor.old) }
+) -> Result<Draft<Items<Argument>>, ReadError>
+    ensures { Leaves result cursor.new (arguments_draft variables cursor.old) }
 {
-    if !cursor.is_at(Punctuator::OpenParen) {
-        return Ok(Items::new(alloc));
+    if !cursor.take_if(Punctuator::OpenParen)? {
+        return Ok(plain(Items::new(alloc)));
     }
-    cursor.take_sign(Punctuator::OpenParen)?;
     let arguments = read_some_arguments(alloc, cursor, variables)?;
     cursor.take_sign(Punctuator::CloseParen)?;
     Ok(arguments)
@@ -37,30 +37,34 @@ fn read_some_arguments(
     alloc: Global,
     cursor: &mut Cursor,
     variables: Variables,
-) -> Result<Items<ArgumentTree>, ReadError>
-    ensures { Leaves result cursor.new (some (other_than CloseParen) (argument variables) cursor.old) }
+) -> Result<Draft<Items<Argument>>, ReadError>
+    ensures { Leaves result cursor.new (some_arguments_draft variables cursor.old) }
 {
     let first = read_argument(alloc, cursor, variables)?;
     let mut arguments = list_of(alloc, first)?;
     'more: while cursor.is_before(Punctuator::CloseParen) {
-        arguments.push(read_argument(alloc, cursor, variables)?)?;
+        let argument = read_argument(alloc, cursor, variables)?;
+        add_item(&mut arguments, argument)?;
     }
     Ok(arguments)
 }
 
 /// Reads an argument.
-#[tactic(auto, unfolding(crate::specs::Reading::argument))]
+#[tactic(auto, unfolding(crate::specs::Drafting::argument_draft))]
 fn read_argument(
     alloc: Global,
     cursor: &mut Cursor,
     variables: Variables,
-) -> Result<ArgumentTree, ReadError>
-    ensures { Leaves result cursor.new (argument variables cursor.old) }
+) -> Result<Draft<Argument>, ReadError>
+    ensures { Leaves result cursor.new (argument_draft variables cursor.old) }
 {
     let name = cursor.take_name()?;
     cursor.take_sign(Punctuator::Colon)?;
-    let value = read_placed_value(alloc, cursor, variables)?;
-    Ok(ArgumentTree { name, value })
+    let Draft { part, doubled } = read_placed_value(alloc, cursor, variables)?;
+    Ok(Draft {
+        part: Argument { name, value: part },
+        doubled,
+    })
 }
 
 /// Reads directives, as long as an `@` is next.
@@ -68,31 +72,35 @@ pub fn read_directives(
     alloc: Global,
     cursor: &mut Cursor,
     variables: Variables,
-) -> Result<Items<DirectiveTree>, ReadError>
-    ensures { Leaves result cursor.new (directives_at variables cursor.old) }
+) -> Result<Draft<Items<Positioned<Directive>>>, ReadError>
+    ensures { Leaves result cursor.new (directives_draft variables cursor.old) }
 {
-    let mut directives = Items::new(alloc);
+    let mut directives = plain(Items::new(alloc));
     'directives: while cursor.is_at(Punctuator::At) {
-        directives.push(read_directive(alloc, cursor, variables)?)?;
+        let directive = read_directive(alloc, cursor, variables)?;
+        add_item(&mut directives, directive)?;
     }
     Ok(directives)
 }
 
 /// Reads a directive.
-#[tactic(auto, unfolding(crate::specs::Reading::directive))]
+#[tactic(auto, unfolding(crate::specs::Drafting::directive_draft))]
 fn read_directive(
     alloc: Global,
     cursor: &mut Cursor,
     variables: Variables,
-) -> Result<DirectiveTree, ReadError>
-    ensures { Leaves result cursor.new (directive variables cursor.old) }
+) -> Result<Draft<Positioned<Directive>>, ReadError>
+    ensures { Leaves result cursor.new (directive_draft variables cursor.old) }
 {
     let pos = cursor.take_sign(Punctuator::At)?;
     let name = cursor.take_name()?;
-    let arguments = read_arguments(alloc, cursor, variables)?;
-    Ok(DirectiveTree {
-        pos,
+    let Draft { part, doubled } = read_arguments(alloc, cursor, variables)?;
+    let node = Directive {
         name,
-        arguments,
+        arguments: part,
+    };
+    Ok(Draft {
+        part: Positioned { pos, node },
+        doubled,
     })
 }

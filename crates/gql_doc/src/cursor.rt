@@ -1,25 +1,24 @@
 //! The tokens that are left to read.
-ghost use Rattle.std.specs.Prelude.{◌≡◌, ◌∷◌, true, drop, IfOk, OnOk};
+ghost use Rattle.std.specs.Prelude.{◌≡◌, ◌∷◌, ◌<◌, true, drop, IfOk, IfSome, OnOk};
 ghost use Rattle.std.specs.Str.{chars};
 ghost use Rattle.std.specs.Option.{option_copied};
 ghost use Rattle.gql_tokens.specs.Place.{text_start};
 ghost use Rattle.gql_tokens.specs.Lexer.{Lexes, EndFinally};
 ghost use Rattle.gql_tokens.specs.Reaching.{IsReached};
 ghost use Rattle.gql_tokens.proofs.TokenFronts.{tokens_behind, tokens_left, is_last};
-ghost use Rattle.gql_doc.specs.Readers.{first, behind_first, begins, place_of, too_deep as deep_at};
-ghost use Rattle.gql_doc.specs.Readers.{Leaves};
+ghost use Rattle.gql_doc.specs.Readers.{first, behind_first, begins, place_of, Leaves};
+ghost use Rattle.gql_doc.specs.Drafting.{taken_if, open_at, scalar_in, named_value};
+ghost use Rattle.gql_doc.specs.Drafting.{scalar as read_scalar};
 ghost use Rattle.gql_doc.specs.Reading as reading;
 ghost use Rattle.gql_doc.specs.Reading.{is_sign, is_word, is_name, is_fragment_name, is_scalar};
 ghost use Rattle.gql_doc.specs.Reading.{is_end, other_than, before_end, says_sign, says_word};
-ghost use Rattle.gql_doc.specs.Reading.{scalar_in, named_value, next_operation as kind_next};
+ghost use Rattle.gql_doc.specs.Reading.{next_operation as kind_next};
 ghost use Rattle.gql_doc.specs.Reading.{take_sign as read_sign, take_word as read_word};
 ghost use Rattle.gql_doc.specs.Reading.{take_name as read_name};
 ghost use Rattle.gql_doc.specs.Reading.{take_fragment_name as read_fragment_name};
-ghost use Rattle.gql_doc.specs.Reading.{take_scalar as read_scalar};
 ghost use Rattle.gql_doc.specs.Reading.{take_operation as read_operation, take_end as read_end};
 
-use crate::document::{OperationType, Positioned};
-use crate::tree::ValueTree;
+use crate::document::{DocValue, OperationType, Positioned};
 use crate::trouble::{ReadError, Trouble};
 use gql_base::{Made, Name, Pos, Text};
 use gql_tokens::{Lexeme, Punctuator, Reached, Token, characters_of, is_final, next_token};
@@ -48,6 +47,13 @@ impl Model for Cursor {
         (drop cursor.reached.at cursor.characters.items) };
 
     ghost invariant = { λ cursor. IsReached cursor.characters.items cursor.reached };
+}
+
+/// A bracket that was opened: its place, and the levels that may still open within.
+#[derive(Clone, Copy, Debug)]
+pub struct Opened {
+    pub pos: Pos,
+    pub levels: usize,
 }
 
 /// Whether no token stands behind this one.
@@ -238,15 +244,53 @@ impl Cursor {
         }
     }
 
-    /// The trouble where no level is left for what this sign opens.
-    pub fn too_deep<T>(&self, sign: Punctuator) -> Result<T, ReadError>
-        ensures { Leaves result self.now (deep_at (is_sign sign) self.now) }
+    /// Takes a sign if it is next, and answers whether it was.
+    #[tactic(auto, using(crate::proofs::CursorLaws::one_there, crate::proofs::CursorLaws::not_there))]
+    pub fn take_if(&mut self, sign: Punctuator) -> Result<bool, ReadError>
+        ensures { Leaves result self.new (taken_if (is_sign sign) self.old) }
     {
-        if self.is_at(sign) {
-            Err(ReadError::Stopped(Trouble::TooDeep))
-        } else {
-            Err(ReadError::Stopped(Trouble::Unexpected))
+        if !self.is_at(sign) {
+            return Ok(false);
         }
+        self.skip()?;
+        Ok(true)
+    }
+
+    /// Takes a word if it is next, and answers whether it was.
+    #[tactic(auto, using(crate::proofs::CursorLaws::one_there, crate::proofs::CursorLaws::not_there))]
+    pub fn take_if_word(&mut self, word: &str) -> Result<bool, ReadError>
+        ensures { Leaves result self.new (taken_if (is_word word.now) self.old) }
+    {
+        if !self.is_at_word(word) {
+            return Ok(false);
+        }
+        self.skip()?;
+        Ok(true)
+    }
+
+    /// Opens a bracket if it is next: takes it and counts its level, or answers that it lies too
+    /// deep where no level is left.
+    #[tactic(auto, using(crate::proofs::CursorLaws::not_opened, crate::proofs::CursorLaws::none_left, crate::proofs::CursorLaws::opened_one))]
+    pub fn open_bracket(
+        &mut self,
+        sign: Punctuator,
+        levels: usize,
+    ) -> Result<Option<Opened>, ReadError>
+        ensures read { Leaves result self.new (open_at sign levels self.old) }
+        ensures fewer { IfOk result (λ opened. IfSome opened (λ here. here.levels < levels)) }
+    {
+        if !self.is_at(sign) {
+            return Ok(None);
+        }
+        if levels == 0 {
+            return Err(ReadError::Stopped(Trouble::TooDeep));
+        }
+        let pos = self.pos();
+        self.skip()?;
+        Ok(Some(Opened {
+            pos,
+            levels: levels - 1,
+        }))
     }
 
     /// Takes a sign, and answers its place.
@@ -306,7 +350,7 @@ impl Cursor {
 
     /// Takes a value of one token, but no variable.
     #[tactic(auto, using(crate::proofs::CursorLaws::scalar_missed, crate::proofs::CursorLaws::scalar_sure))]
-    pub fn take_scalar(&mut self) -> Result<ValueTree, ReadError>
+    pub fn take_scalar(&mut self) -> Result<DocValue, ReadError>
         ensures { Leaves result self.new (read_scalar self.old) }
     {
         if !self.is_at_scalar() {
@@ -393,29 +437,29 @@ fn says_end(lexeme: &Lexeme) -> bool
 }
 
 /// The value that a token is.
-fn scalar_of(lexeme: Lexeme) -> Option<ValueTree>
+fn scalar_of(lexeme: Lexeme) -> Option<DocValue>
     ensures { result ≡ scalar_in lexeme }
 {
     match lexeme {
-        Lexeme::Number(number) => Some(ValueTree::Number(number)),
-        Lexeme::String(text) => Some(ValueTree::String(text)),
+        Lexeme::Number(number) => Some(DocValue::Number(number)),
+        Lexeme::String(text) => Some(DocValue::String(text)),
         Lexeme::Name(text) => Some(value_named(text)),
         _ => None,
     }
 }
 
 /// The value that a name is.
-fn value_named(text: Text) -> ValueTree
+fn value_named(text: Text) -> DocValue
     ensures { result ≡ named_value text }
 {
     if text.as_str() == "true" {
-        ValueTree::Boolean(true)
+        DocValue::Boolean(true)
     } else if text.as_str() == "false" {
-        ValueTree::Boolean(false)
+        DocValue::Boolean(false)
     } else if text.as_str() == "null" {
-        ValueTree::Null
+        DocValue::Null
     } else {
-        ValueTree::Enum(Name::from_text(text))
+        DocValue::Enum(Name::from_text(text))
     }
 }
 

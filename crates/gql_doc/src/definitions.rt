@@ -1,14 +1,16 @@
 //! Reads definitions (sections 2.2, 2.3 and 2.8) and whole texts.
-ghost use Rattle.gql_doc.specs.Readers.{Leaves, some, optional};
-ghost use Rattle.gql_doc.specs.Reading.{is_name, before_end, take_name, set as set_at, shorthand};
-ghost use Rattle.gql_doc.specs.Reading.{operation, fragment, definition, document, type_text};
+ghost use Rattle.gql_doc.specs.Readers.{Leaves, optional};
+ghost use Rattle.gql_doc.specs.Reading.{is_name, take_name, type_text};
+ghost use Rattle.gql_doc.specs.Drafting.{shorthand_draft, operation_draft, fragment_draft};
+ghost use Rattle.gql_doc.specs.Drafting.{definition_draft, definitions_draft, document_draft};
 
 use crate::arguments::read_directives;
 use crate::cursor::Cursor;
-use crate::document::{OperationType, Positioned};
-use crate::lists::list_of;
+use crate::document::{FragmentDefinition, OperationDefinition, OperationType, Positioned};
+use crate::draft::Draft;
+use crate::gathering::{DefinitionDraft, Gathering};
 use crate::selections::{read_condition, read_set};
-use crate::tree::{DefinitionTree, FragmentTree, OperationTree, SetTree, Variables};
+use crate::tree::Variables;
 use crate::trouble::ReadError;
 use crate::types::read_type;
 use crate::values::MAX_LEVELS;
@@ -18,9 +20,9 @@ use gql_tokens::Punctuator;
 use std::alloc::Global;
 
 /// Reads the definitions of a document, and the end of the text.
-#[tactic(auto, unfolding(crate::specs::Reading::document))]
-pub fn read_document(alloc: Global, cursor: &mut Cursor) -> Result<Items<DefinitionTree>, ReadError>
-    ensures { Leaves result cursor.new (document cursor.old) }
+#[tactic(auto, unfolding(crate::specs::Drafting::document_draft))]
+pub fn read_document(alloc: Global, cursor: &mut Cursor) -> Result<Gathering, ReadError>
+    ensures { Leaves result cursor.new (document_draft cursor.old) }
 {
     let definitions = read_definitions(alloc, cursor)?;
     cursor.take_end()?;
@@ -38,21 +40,23 @@ pub fn read_type_text(alloc: Global, cursor: &mut Cursor) -> Result<TypeRef, Rea
 }
 
 /// Reads a definition and more of them, up to the end.
-fn read_definitions(alloc: Global, cursor: &mut Cursor) -> Result<Items<DefinitionTree>, ReadError>
-    ensures { Leaves result cursor.new (some before_end definition cursor.old) }
+fn read_definitions(alloc: Global, cursor: &mut Cursor) -> Result<Gathering, ReadError>
+    ensures { Leaves result cursor.new (definitions_draft cursor.old) }
 {
     let first = read_definition(alloc, cursor)?;
-    let mut definitions = list_of(alloc, first)?;
+    let mut definitions = Gathering::new(alloc);
+    definitions.add(first)?;
     'more: while cursor.is_before_end() {
-        definitions.push(read_definition(alloc, cursor)?)?;
+        let definition = read_definition(alloc, cursor)?;
+        definitions.add(definition)?;
     }
     Ok(definitions)
 }
 
 /// Reads a definition.
-#[tactic(auto, unfolding(crate::specs::Reading::definition))]
-fn read_definition(alloc: Global, cursor: &mut Cursor) -> Result<DefinitionTree, ReadError>
-    ensures { Leaves result cursor.new (definition cursor.old) }
+#[tactic(auto, unfolding(crate::specs::Drafting::definition_draft))]
+fn read_definition(alloc: Global, cursor: &mut Cursor) -> Result<DefinitionDraft, ReadError>
+    ensures { Leaves result cursor.new (definition_draft cursor.old) }
 {
     if cursor.is_at(Punctuator::OpenBrace) {
         return read_shorthand(alloc, cursor);
@@ -64,39 +68,47 @@ fn read_definition(alloc: Global, cursor: &mut Cursor) -> Result<DefinitionTree,
 }
 
 /// Reads a query that is written as its set alone.
-#[tactic(auto, unfolding(crate::specs::Reading::shorthand))]
-fn read_shorthand(alloc: Global, cursor: &mut Cursor) -> Result<DefinitionTree, ReadError>
-    ensures { Leaves result cursor.new (shorthand cursor.old) }
+#[tactic(auto, unfolding(crate::specs::Drafting::shorthand_draft))]
+fn read_shorthand(alloc: Global, cursor: &mut Cursor) -> Result<DefinitionDraft, ReadError>
+    ensures { Leaves result cursor.new (shorthand_draft cursor.old) }
 {
-    let set = read_definition_set(alloc, cursor)?;
-    Ok(DefinitionTree::Operation(OperationTree {
-        pos: set.pos,
+    let pos = cursor.pos();
+    let Draft { part, doubled } = read_set(alloc, cursor, MAX_LEVELS)?;
+    let part = OperationDefinition {
         ty: OperationType::Query,
-        name: None,
-        variables: Items::new(alloc),
+        variable_definitions: Items::new(alloc),
         directives: Items::new(alloc),
-        set,
-    }))
+        selection_set: part,
+    };
+    Ok(DefinitionDraft::Operation {
+        pos,
+        name: None,
+        operation: Draft { part, doubled },
+    })
 }
 
 /// Reads an operation with its keyword.
-#[tactic(auto, unfolding(crate::specs::Reading::operation))]
-fn read_operation(alloc: Global, cursor: &mut Cursor) -> Result<DefinitionTree, ReadError>
-    ensures { Leaves result cursor.new (operation cursor.old) }
+#[tactic(auto, unfolding(crate::specs::Drafting::operation_draft))]
+fn read_operation(alloc: Global, cursor: &mut Cursor) -> Result<DefinitionDraft, ReadError>
+    ensures { Leaves result cursor.new (operation_draft cursor.old) }
 {
     let (pos, ty) = cursor.take_operation()?;
     let name = read_name_if_any(cursor)?;
     let variables = read_variables(alloc, cursor)?;
     let directives = read_directives(alloc, cursor, Variables::Allowed)?;
-    let set = read_definition_set(alloc, cursor)?;
-    Ok(DefinitionTree::Operation(OperationTree {
-        pos,
+    let set = read_set(alloc, cursor, MAX_LEVELS)?;
+    let doubled = variables.doubled.or(directives.doubled.or(set.doubled));
+    let part = OperationDefinition {
         ty,
+        variable_definitions: variables.part,
+        directives: directives.part,
+        selection_set: set.part,
+    };
+    Ok(DefinitionDraft::Operation {
+        pos,
         name,
-        variables,
-        directives,
-        set,
-    }))
+        operation: Draft { part, doubled },
+    })
 }
 
 /// Reads a name, if one is next.
@@ -111,28 +123,24 @@ fn read_name_if_any(cursor: &mut Cursor) -> Result<Option<Positioned<Name>>, Rea
 }
 
 /// Reads the definition of a fragment.
-#[tactic(auto, unfolding(crate::specs::Reading::fragment))]
-fn read_fragment(alloc: Global, cursor: &mut Cursor) -> Result<DefinitionTree, ReadError>
-    ensures { Leaves result cursor.new (fragment cursor.old) }
+#[tactic(auto, unfolding(crate::specs::Drafting::fragment_draft))]
+fn read_fragment(alloc: Global, cursor: &mut Cursor) -> Result<DefinitionDraft, ReadError>
+    ensures { Leaves result cursor.new (fragment_draft cursor.old) }
 {
     let pos = cursor.take_word("fragment")?;
     let name = cursor.take_fragment_name()?;
-    let condition = read_condition(cursor)?;
+    let type_condition = read_condition(cursor)?;
     let directives = read_directives(alloc, cursor, Variables::Allowed)?;
-    let set = read_definition_set(alloc, cursor)?;
-    Ok(DefinitionTree::Fragment(FragmentTree {
+    let set = read_set(alloc, cursor, MAX_LEVELS)?;
+    let part = FragmentDefinition {
+        type_condition,
+        directives: directives.part,
+        selection_set: set.part,
+    };
+    let doubled = directives.doubled.or(set.doubled);
+    Ok(DefinitionDraft::Fragment {
         pos,
         name,
-        condition,
-        directives,
-        set,
-    }))
-}
-
-/// Reads the set of a definition, which begins its own levels.
-#[tactic(auto, unfolding(crate::specs::Reading::set))]
-fn read_definition_set(alloc: Global, cursor: &mut Cursor) -> Result<SetTree, ReadError>
-    ensures { Leaves result cursor.new (set_at cursor.old) }
-{
-    read_set(alloc, cursor, MAX_LEVELS)
+        fragment: Draft { part, doubled },
+    })
 }

@@ -1,29 +1,25 @@
 //! Executable documents of GraphQL and their grammar (GraphQL, October 2021, section 2).
 #![tactic(auto)]
 
-mod argument_building;
 mod arguments;
-mod constant_building;
+mod constants;
 mod copied;
 mod cursor;
-mod definition_building;
 mod definitions;
 mod depth;
 mod document;
+mod draft;
 mod fault;
+mod gathering;
 mod lists;
-mod operation_rule;
+mod outcome;
 mod parse;
-mod selection_building;
 mod selections;
 mod shared;
 mod tree;
-mod tree_of;
 mod trouble;
 mod types;
-mod value_building;
 mod values;
-mod variable_building;
 mod variables;
 
 pub use depth::more_levels_find_no_more;

@@ -6,19 +6,13 @@ ghost use Rattle.gql_doc.specs.declared.document.ExecutableDocument.{ExecutableD
 ghost use Rattle.gql_doc.specs.declared.fault.ParseFault.{ParseFault};
 ghost use Rattle.gql_doc.specs.Spelled.{SpellsDocument, IsDocumentFault, GivesDocument, SpellsType};
 ghost use Rattle.gql_doc.specs.Spelled.{IsTypeFault, GivesType};
-ghost use Rattle.gql_tokens.specs.Lexer.{EndFinally};
-ghost use Rattle.gql_doc.specs.Ruled.{ruled, query_of};
 
 use crate::cursor::Cursor;
-use crate::definition_building::build_document;
 use crate::document::ExecutableDocument;
-use crate::fault::{ParseFault, ParseKind};
-use crate::operation_rule::place_of_wrong_operation;
-use crate::tree::DefinitionTree;
-use crate::tree_of::{document_tree, type_tree};
-use crate::trouble::BuildError;
-use gql_base::{Items, Made, TypeRef};
-use std::alloc::{AllocError, Global};
+use crate::fault::ParseFault;
+use crate::outcome::{document_of_tokens, type_of_tokens};
+use gql_base::{Made, TypeRef};
+use std::alloc::Global;
 
 /// The document that a text spells, or the text's first fault.
 pub fn parse_query(alloc: Global, text: &str) -> Made<Result<ExecutableDocument, ParseFault>>
@@ -41,44 +35,7 @@ pub fn parse_type(alloc: Global, text: &str) -> Made<Result<TypeRef, ParseFault>
         (λ outcome. outcome ≡ Err fault) }
 {
     let mut tokens = Cursor::of(alloc, text)?;
-    type_tree(alloc, &mut tokens)
-}
-
-/// The document of the tokens of a text, or their first fault.
-fn document_of_tokens(
-    alloc: Global,
-    cursor: &mut Cursor,
-) -> Made<Result<ExecutableDocument, ParseFault>>
-    requires { EndFinally cursor.old }
-    ensures { IfOk result (λ outcome. outcome ≡ query_of cursor.old) }
-{
-    match document_tree(alloc, cursor)? {
-        Ok(tree) => document_by_rules(alloc, tree),
-        Err(fault) => Ok(Err(fault)),
-    }
-}
-
-/// The document of a tree, unless the tree breaks a rule on operations or names.
-fn document_by_rules(
-    alloc: Global,
-    tree: Items<DefinitionTree>,
-) -> Made<Result<ExecutableDocument, ParseFault>>
-    ensures { IfOk result (λ outcome. outcome ≡ ruled tree) }
-{
-    if let Some(pos) = place_of_wrong_operation(tree.as_slice()) {
-        return Ok(Err(ParseFault {
-            kind: ParseKind::Operations,
-            pos,
-        }));
-    }
-    match build_document(alloc, tree) {
-        Ok(document) => Ok(Ok(document)),
-        Err(BuildError::Memory) => Err(AllocError),
-        Err(BuildError::Doubled(pos)) => Ok(Err(ParseFault {
-            kind: ParseKind::Doubled,
-            pos,
-        })),
-    }
+    type_of_tokens(alloc, &mut tokens)
 }
 
 /// A text spells one document at most, it has one first fault at most, and it never has both.

@@ -1,45 +1,59 @@
 //! Reads selections and their sets (sections 2.4, 2.5, 2.7 and 2.8).
-ghost use Rattle.std.specs.Prelude.{◌≡◌};
-ghost use Rattle.gql_tokens.specs.declared.token.Punctuator.TheVariants.{CloseBrace};
+ghost use Rattle.std.specs.Prelude.{◌≡◌, codes};
 ghost use Rattle.gql_doc.specs.Grammar.{head_pos};
-ghost use Rattle.gql_doc.specs.Readers.{Leaves, some, optional};
-ghost use Rattle.gql_doc.specs.Reading.{is_word, other_than, head as head_at, condition, set_at};
-ghost use Rattle.gql_doc.specs.Reading.{set_by, set_or_none, selection_at, spread_at};
-ghost use Rattle.gql_doc.specs.Reading.{spread_behind, inline_behind, field_at};
-ghost use Rattle.std.specs.Prelude.{codes};
+ghost use Rattle.gql_doc.specs.Readers.{Leaves, optional};
+ghost use Rattle.gql_doc.specs.Reading.{is_word, head as head_at, condition};
+ghost use Rattle.gql_doc.specs.Drafting.{set_draft, set_behind, selections_draft, selection_draft};
+ghost use Rattle.gql_doc.specs.Drafting.{field_draft, set_or_none_draft, spread_draft};
+ghost use Rattle.gql_doc.specs.Drafting.{spread_behind, inline_behind, field_of as field_in};
 
 use crate::arguments::{read_arguments, read_directives};
 use crate::cursor::Cursor;
-use crate::document::Positioned;
+use crate::document::{
+    Argument, Directive, Field, FragmentSpread, InlineFragment, Positioned, Selection, SelectionSet,
+};
+use crate::draft::{Draft, add_item, plain};
 use crate::lists::list_of;
-use crate::tree::{SelectionTree, SetTree, Variables};
-use crate::trouble::ReadError;
+use crate::tree::Variables;
+use crate::trouble::{ReadError, Trouble};
 use gql_base::{Items, Name, Pos};
 use gql_tokens::Punctuator;
 use std::alloc::Global;
 
 /// Reads a set. So many levels of sets may still open.
 #[cycle(set)]
-#[tactic(auto, using(crate::proofs::LevelLaws::no_set, crate::proofs::LevelLaws::set_of))]
-pub fn read_set(alloc: Global, cursor: &mut Cursor, levels: usize) -> Result<SetTree, ReadError>
-    ensures { Leaves result cursor.new (set_at levels cursor.old) }
+#[tactic(auto, using(crate::proofs::LevelLaws::set_step))]
+pub fn read_set(
+    alloc: Global,
+    cursor: &mut Cursor,
+    levels: usize,
+) -> Result<Draft<Positioned<SelectionSet>>, ReadError>
+    ensures { Leaves result cursor.new (set_draft levels cursor.old) }
 {
-    if levels == 0 {
-        cursor.too_deep(Punctuator::OpenBrace)
-    } else {
-        read_set_of(alloc, cursor, levels - 1)
+    match cursor.open_bracket(Punctuator::OpenBrace, levels)? {
+        Some(set) => read_set_behind(alloc, cursor, set.pos, set.levels),
+        None => Err(ReadError::Stopped(Trouble::Unexpected)),
     }
 }
 
-/// Reads a set, in which so many levels may open.
+/// Reads a set behind its brace. So many levels may open within.
 #[cycle(set)]
-fn read_set_of(alloc: Global, cursor: &mut Cursor, levels: usize) -> Result<SetTree, ReadError>
-    ensures { Leaves result cursor.new (set_by (selection_at levels) cursor.old) }
+#[tactic(auto, unfolding(crate::specs::Drafting::set_behind))]
+fn read_set_behind(
+    alloc: Global,
+    cursor: &mut Cursor,
+    pos: Pos,
+    levels: usize,
+) -> Result<Draft<Positioned<SelectionSet>>, ReadError>
+    ensures { Leaves result cursor.new (set_behind levels pos cursor.old) }
 {
-    let pos = cursor.take_sign(Punctuator::OpenBrace)?;
-    let selections = read_selections(alloc, cursor, levels)?;
+    let Draft { part, doubled } = read_selections(alloc, cursor, levels)?;
     cursor.take_sign(Punctuator::CloseBrace)?;
-    Ok(SetTree { pos, selections })
+    let node = SelectionSet { items: part };
+    Ok(Draft {
+        part: Positioned { pos, node },
+        doubled,
+    })
 }
 
 /// Reads a selection and more of them, up to the brace.
@@ -48,29 +62,31 @@ fn read_selections(
     alloc: Global,
     cursor: &mut Cursor,
     levels: usize,
-) -> Result<Items<SelectionTree>, ReadError>
-    ensures { Leaves result cursor.new (some (other_than CloseBrace) (selection_at levels) cursor.old) }
+) -> Result<Draft<Items<Positioned<Selection>>>, ReadError>
+    ensures { Leaves result cursor.new (selections_draft levels cursor.old) }
 {
     let first = read_selection(alloc, cursor, levels)?;
     let mut selections = list_of(alloc, first)?;
     'more: while cursor.is_before(Punctuator::CloseBrace) {
-        selections.push(read_selection(alloc, cursor, levels)?)?;
+        let selection = read_selection(alloc, cursor, levels)?;
+        add_item(&mut selections, selection)?;
     }
     Ok(selections)
 }
 
 /// Reads a selection.
 #[cycle(set)]
-#[tactic(auto, using(crate::proofs::LevelLaws::selection_is_spread, crate::proofs::LevelLaws::selection_is_field))]
+#[tactic(auto, unfolding(crate::specs::Drafting::selection_draft))]
 fn read_selection(
     alloc: Global,
     cursor: &mut Cursor,
     levels: usize,
-) -> Result<SelectionTree, ReadError>
-    ensures { Leaves result cursor.new (selection_at levels cursor.old) }
+) -> Result<Draft<Positioned<Selection>>, ReadError>
+    ensures { Leaves result cursor.new (selection_draft levels cursor.old) }
 {
-    if cursor.is_at(Punctuator::Spread) {
-        read_spread(alloc, cursor, levels)
+    let pos = cursor.pos();
+    if cursor.take_if(Punctuator::Spread)? {
+        read_spread(alloc, cursor, pos, levels)
     } else {
         read_field(alloc, cursor, levels)
     }
@@ -78,41 +94,63 @@ fn read_selection(
 
 /// Reads a field.
 #[cycle(set)]
-#[tactic(auto, unfolding(crate::specs::Reading::field_at))]
-fn read_field(alloc: Global, cursor: &mut Cursor, levels: usize) -> Result<SelectionTree, ReadError>
-    ensures { Leaves result cursor.new (field_at levels cursor.old) }
+#[tactic(auto, unfolding(crate::specs::Drafting::field_draft))]
+fn read_field(
+    alloc: Global,
+    cursor: &mut Cursor,
+    levels: usize,
+) -> Result<Draft<Positioned<Selection>>, ReadError>
+    ensures { Leaves result cursor.new (field_draft levels cursor.old) }
 {
     let (alias, name) = read_head(cursor)?;
     let arguments = read_arguments(alloc, cursor, Variables::Allowed)?;
     let directives = read_directives(alloc, cursor, Variables::Allowed)?;
     let pos = pos_of(&alias, &name);
     let set = read_set_or_none(alloc, cursor, pos, levels)?;
-    Ok(SelectionTree::Field {
+    Ok(field_of(alias, name, arguments, directives, set))
+}
+
+/// The field of its parts.
+fn field_of(
+    alias: Option<Positioned<Name>>,
+    name: Positioned<Name>,
+    arguments: Draft<Items<Argument>>,
+    directives: Draft<Items<Positioned<Directive>>>,
+    set: Draft<Positioned<SelectionSet>>,
+) -> Draft<Positioned<Selection>>
+    ensures { result ≡ field_in alias name arguments directives set }
+{
+    let pos = pos_of(&alias, &name);
+    let doubled = arguments.doubled.or(directives.doubled.or(set.doubled));
+    let node = Field {
         alias,
         name,
-        arguments,
-        directives,
-        set: set.pos,
-        selections: set.selections,
-    })
+        arguments: arguments.part,
+        directives: directives.part,
+        selection_set: set.part,
+    };
+    let node = Selection::Field(Positioned { pos, node });
+    Draft {
+        part: Positioned { pos, node },
+        doubled,
+    }
 }
 
 /// Reads an alias, if one is there, and a name.
-#[tactic(auto, unfolding(crate::specs::Reading::head))]
+#[tactic(auto, using(crate::proofs::LevelLaws::head_step))]
 fn read_head(cursor: &mut Cursor) -> Result<(Option<Positioned<Name>>, Positioned<Name>), ReadError>
     ensures { Leaves result cursor.new (head_at cursor.old) }
 {
     let first = cursor.take_name()?;
-    if !cursor.is_at(Punctuator::Colon) {
+    if !cursor.take_if(Punctuator::Colon)? {
         return Ok((None, first));
     }
-    cursor.take_sign(Punctuator::Colon)?;
     let name = cursor.take_name()?;
     Ok((Some(first), name))
 }
 
 /// The place of a field: its first token's.
-pub fn pos_of(alias: &Option<Positioned<Name>>, name: &Positioned<Name>) -> Pos
+fn pos_of(alias: &Option<Positioned<Name>>, name: &Positioned<Name>) -> Pos
     ensures { result ≡ head_pos alias.now name.now }
 {
     match alias {
@@ -123,34 +161,36 @@ pub fn pos_of(alias: &Option<Positioned<Name>>, name: &Positioned<Name>) -> Pos
 
 /// Reads the set of a field, or none at the field's place.
 #[cycle(set)]
+#[tactic(auto, using(crate::proofs::LevelLaws::set_or_none_step))]
 fn read_set_or_none(
     alloc: Global,
     cursor: &mut Cursor,
     field: Pos,
     levels: usize,
-) -> Result<SetTree, ReadError>
-    ensures { Leaves result cursor.new (set_or_none field (set_at levels) cursor.old) }
+) -> Result<Draft<Positioned<SelectionSet>>, ReadError>
+    ensures { Leaves result cursor.new (set_or_none_draft levels field cursor.old) }
 {
-    if cursor.is_at(Punctuator::OpenBrace) {
-        return read_set(alloc, cursor, levels);
+    if let Some(set) = cursor.open_bracket(Punctuator::OpenBrace, levels)? {
+        return read_set_behind(alloc, cursor, set.pos, set.levels);
     }
-    Ok(SetTree {
+    let items = Items::new(alloc);
+    Ok(plain(Positioned {
         pos: field,
-        selections: Items::new(alloc),
-    })
+        node: SelectionSet { items },
+    }))
 }
 
-/// Reads the spread of a fragment, or an inline fragment.
+/// Reads the spread of a fragment, or an inline fragment, behind its dots.
 #[cycle(set)]
-#[tactic(auto, unfolding(crate::specs::Reading::spread_at))]
+#[tactic(auto, unfolding(crate::specs::Drafting::spread_draft))]
 fn read_spread(
     alloc: Global,
     cursor: &mut Cursor,
+    pos: Pos,
     levels: usize,
-) -> Result<SelectionTree, ReadError>
-    ensures { Leaves result cursor.new (spread_at levels cursor.old) }
+) -> Result<Draft<Positioned<Selection>>, ReadError>
+    ensures { Leaves result cursor.new (spread_draft levels pos cursor.old) }
 {
-    let pos = cursor.take_sign(Punctuator::Spread)?;
     if cursor.is_at_fragment_name() {
         read_spread_behind(alloc, cursor, pos)
     } else {
@@ -159,52 +199,62 @@ fn read_spread(
 }
 
 /// Reads the spread of a fragment behind its dots.
+#[tactic(auto, unfolding(crate::specs::Drafting::spread_behind))]
 fn read_spread_behind(
     alloc: Global,
     cursor: &mut Cursor,
     pos: Pos,
-) -> Result<SelectionTree, ReadError>
+) -> Result<Draft<Positioned<Selection>>, ReadError>
     ensures { Leaves result cursor.new (spread_behind pos cursor.old) }
 {
-    let name = cursor.take_fragment_name()?;
-    let directives = read_directives(alloc, cursor, Variables::Allowed)?;
-    Ok(SelectionTree::Spread {
-        pos,
-        name,
-        directives,
+    let fragment_name = cursor.take_fragment_name()?;
+    let Draft { part, doubled } = read_directives(alloc, cursor, Variables::Allowed)?;
+    let node = FragmentSpread {
+        fragment_name,
+        directives: part,
+    };
+    let node = Selection::FragmentSpread(Positioned { pos, node });
+    Ok(Draft {
+        part: Positioned { pos, node },
+        doubled,
     })
 }
 
 /// Reads an inline fragment behind its dots.
 #[cycle(set)]
+#[tactic(auto, unfolding(crate::specs::Drafting::inline_behind))]
 fn read_inline_behind(
     alloc: Global,
     cursor: &mut Cursor,
     pos: Pos,
     levels: usize,
-) -> Result<SelectionTree, ReadError>
-    ensures { Leaves result cursor.new (inline_behind pos (set_at levels) cursor.old) }
+) -> Result<Draft<Positioned<Selection>>, ReadError>
+    ensures { Leaves result cursor.new (inline_behind levels pos cursor.old) }
 {
-    let condition = read_condition_if_any(cursor)?;
+    let type_condition = read_condition_if_any(cursor)?;
     let directives = read_directives(alloc, cursor, Variables::Allowed)?;
     let set = read_set(alloc, cursor, levels)?;
-    Ok(SelectionTree::Inline {
-        pos,
-        condition,
-        directives,
-        set: set.pos,
-        selections: set.selections,
+    let node = InlineFragment {
+        type_condition,
+        directives: directives.part,
+        selection_set: set.part,
+    };
+    let node = Selection::InlineFragment(Positioned { pos, node });
+    Ok(Draft {
+        part: Positioned { pos, node },
+        doubled: directives.doubled.or(set.doubled),
     })
 }
 
 /// Reads a condition, if `on` is next.
+#[tactic(auto, using(crate::proofs::LevelLaws::condition_step))]
 fn read_condition_if_any(cursor: &mut Cursor) -> Result<Option<Positioned<Name>>, ReadError>
     ensures { Leaves result cursor.new (optional (is_word (codes "on")) condition cursor.old) }
 {
-    if !cursor.is_at_word("on") {
+    if !cursor.take_if_word("on")? {
         return Ok(None);
     }
-    let condition = read_condition(cursor)?;
+    let condition = cursor.take_name()?;
     Ok(Some(condition))
 }
 

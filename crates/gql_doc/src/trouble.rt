@@ -1,4 +1,3 @@
-use gql_base::Pos;
 use std::alloc::AllocError;
 
 /// What stops the reading of tokens.
@@ -25,23 +24,5 @@ impl From<AllocError> for ReadError {
 
     fn from(_error: AllocError) -> ReadError {
         ReadError::Memory
-    }
-}
-
-/// Why a part of a document isn't built: memory is wanting, or a name is doubled at the place.
-#[derive(Clone, Copy, PartialEq, Eq, Debug)]
-pub enum BuildError {
-    Memory,
-    Doubled(Pos),
-}
-
-impl From<AllocError> for BuildError {
-    ghost use Rattle.std.specs.Prelude.{◌≡◌};
-    ghost use Rattle.gql_doc.specs.declared.trouble.BuildError.TheVariants.{Memory};
-
-    ghost from_gives = { λ _ e. e ≡ Memory };
-
-    fn from(_error: AllocError) -> BuildError {
-        BuildError::Memory
     }
 }

@@ -1,7 +1,8 @@
 //! Reads types (section 2.11).
 ghost use Rattle.gql_doc.specs.Readers.{Leaves};
-ghost use Rattle.gql_doc.specs.Reading.{type_at, bare_type_by, list_type_at, list_type_by};
-ghost use Rattle.gql_doc.specs.Reading.{null_or_not, placed_type};
+ghost use Rattle.gql_doc.specs.Reading.{type_at, bare_type_by, list_type_at, null_or_not};
+ghost use Rattle.gql_doc.specs.Reading.{placed_type};
+ghost use Rattle.gql_doc.specs.Drafting.{list_type_behind};
 
 use crate::cursor::Cursor;
 use crate::document::Positioned;
@@ -35,51 +36,34 @@ pub fn read_type(alloc: Global, cursor: &mut Cursor, levels: usize) -> Result<Ty
 }
 
 /// Reads the `!` behind a type, if one is there.
+#[tactic(auto, using(crate::proofs::LevelLaws::bang_step))]
 fn read_bang(alloc: Global, cursor: &mut Cursor, bare: TypeRef) -> Result<TypeRef, ReadError>
     ensures { Leaves result cursor.new (null_or_not bare cursor.old) }
 {
-    if !cursor.is_at(Punctuator::Bang) {
+    if !cursor.take_if(Punctuator::Bang)? {
         return Ok(bare);
     }
-    cursor.take_sign(Punctuator::Bang)?;
     Ok(bare.non_null(alloc)?)
 }
 
 /// Reads a type without a `!` at its end.
 #[cycle(ty)]
+#[tactic(auto, using(crate::proofs::LevelLaws::bare_type_step))]
 fn read_bare_type(alloc: Global, cursor: &mut Cursor, levels: usize) -> Result<TypeRef, ReadError>
     ensures { Leaves result cursor.new (bare_type_by (list_type_at levels) cursor.old) }
 {
-    if cursor.is_at(Punctuator::OpenBracket) {
-        return read_list_type(alloc, cursor, levels);
+    if let Some(list) = cursor.open_bracket(Punctuator::OpenBracket, levels)? {
+        return read_list_type(alloc, cursor, list.levels);
     }
     let name = cursor.take_name()?;
     Ok(TypeRef::Named(name.node))
 }
 
-/// Reads a list type.
+/// Reads a list type behind its bracket. So many levels may open within.
 #[cycle(ty)]
-#[tactic(auto, using(crate::proofs::LevelLaws::no_list_type, crate::proofs::LevelLaws::list_type_of))]
 fn read_list_type(alloc: Global, cursor: &mut Cursor, levels: usize) -> Result<TypeRef, ReadError>
-    ensures { Leaves result cursor.new (list_type_at levels cursor.old) }
+    ensures { Leaves result cursor.new (list_type_behind (type_at levels) cursor.old) }
 {
-    if levels == 0 {
-        cursor.too_deep(Punctuator::OpenBracket)
-    } else {
-        read_list_type_of(alloc, cursor, levels - 1)
-    }
-}
-
-/// Reads a list type, in which so many levels may open.
-#[cycle(ty)]
-fn read_list_type_of(
-    alloc: Global,
-    cursor: &mut Cursor,
-    levels: usize,
-) -> Result<TypeRef, ReadError>
-    ensures { Leaves result cursor.new (list_type_by (type_at levels) cursor.old) }
-{
-    cursor.take_sign(Punctuator::OpenBracket)?;
     let inner = read_type(alloc, cursor, levels)?;
     cursor.take_sign(Punctuator::CloseBracket)?;
     Ok(inner.list(alloc)?)

@@ -1,16 +1,17 @@
 //! Reads values (section 2.9).
-ghost use Rattle.std.specs.Prelude.{◌≡◌};
-ghost use Rattle.gql_tokens.specs.declared.token.Punctuator.TheVariants.{CloseBracket, CloseBrace};
-ghost use Rattle.gql_doc.specs.Readers.{Leaves, many};
-ghost use Rattle.gql_doc.specs.Reading.{other_than, value_at, list_at, list_by, object_at};
-ghost use Rattle.gql_doc.specs.Reading.{object_by, plain_value, variable_value, member_at};
-ghost use Rattle.gql_doc.specs.Reading.{placed_value};
+ghost use Rattle.std.specs.Prelude.{◌≡◌, OnOk};
+ghost use Rattle.gql_doc.specs.Drafts.{with_member};
+ghost use Rattle.gql_doc.specs.Readers.{Leaves};
+ghost use Rattle.gql_doc.specs.Drafting.{value_draft, list_draft, values_draft, object_draft};
+ghost use Rattle.gql_doc.specs.Drafting.{members_draft, member_draft, plain_value as plain_at};
+ghost use Rattle.gql_doc.specs.Drafting.{variable_or_scalar, placed_draft};
 
 use crate::cursor::Cursor;
-use crate::document::Positioned;
-use crate::tree::{MemberTree, ValueTree, Variables};
+use crate::document::{DocValue, Positioned};
+use crate::draft::{Draft, add_item, add_named, plain};
+use crate::tree::Variables;
 use crate::trouble::ReadError;
-use gql_base::Items;
+use gql_base::{Items, Made, Name, Pairs};
 use gql_tokens::Punctuator;
 use std::alloc::Global;
 
@@ -18,97 +19,86 @@ use std::alloc::Global;
 /// types.
 pub const MAX_LEVELS: usize = 64;
 
+/// A member of an object as it was read.
+type Member = (Positioned<Name>, Draft<DocValue>);
+
 /// Reads a value that begins its own levels, with its place.
-#[tactic(auto, unfolding(crate::specs::Reading::placed_value))]
+#[tactic(auto, unfolding(crate::specs::Drafting::placed_draft))]
 pub fn read_placed_value(
     alloc: Global,
     cursor: &mut Cursor,
     variables: Variables,
-) -> Result<Positioned<ValueTree>, ReadError>
-    ensures { Leaves result cursor.new (placed_value variables cursor.old) }
+) -> Result<Draft<Positioned<DocValue>>, ReadError>
+    ensures { Leaves result cursor.new (placed_draft variables cursor.old) }
 {
     let pos = cursor.pos();
-    let node = read_value(alloc, cursor, variables, MAX_LEVELS)?;
-    Ok(Positioned { pos, node })
+    let Draft { part, doubled } = read_value(alloc, cursor, variables, MAX_LEVELS)?;
+    Ok(Draft {
+        part: Positioned { pos, node: part },
+        doubled,
+    })
 }
 
 /// Reads a value. So many levels of lists and objects may still open.
 #[cycle(value)]
-#[tactic(auto, using(crate::proofs::LevelLaws::value_is_list, crate::proofs::LevelLaws::value_is_object, crate::proofs::LevelLaws::value_is_plain))]
+#[tactic(auto, using(crate::proofs::LevelLaws::value_step))]
 fn read_value(
     alloc: Global,
     cursor: &mut Cursor,
     variables: Variables,
     levels: usize,
-) -> Result<ValueTree, ReadError>
-    ensures { Leaves result cursor.new (value_at variables levels cursor.old) }
+) -> Result<Draft<DocValue>, ReadError>
+    ensures { Leaves result cursor.new (value_draft variables levels cursor.old) }
 {
-    if cursor.is_at(Punctuator::OpenBracket) {
-        return read_list(alloc, cursor, variables, levels);
+    if let Some(list) = cursor.open_bracket(Punctuator::OpenBracket, levels)? {
+        return read_list(alloc, cursor, variables, list.levels);
     }
-    if cursor.is_at(Punctuator::OpenBrace) {
-        return read_object(alloc, cursor, variables, levels);
+    if let Some(object) = cursor.open_bracket(Punctuator::OpenBrace, levels)? {
+        return read_object(alloc, cursor, variables, object.levels);
     }
-    read_plain_value(cursor, variables)
+    let value = read_plain_value(cursor, variables)?;
+    Ok(plain(value))
 }
 
 /// Reads a value that is no list and no object.
-fn read_plain_value(cursor: &mut Cursor, variables: Variables) -> Result<ValueTree, ReadError>
-    ensures { Leaves result cursor.new (plain_value variables cursor.old) }
+fn read_plain_value(cursor: &mut Cursor, variables: Variables) -> Result<DocValue, ReadError>
+    ensures { Leaves result cursor.new (plain_at variables cursor.old) }
 {
     match variables {
-        Variables::Allowed => {
-            if cursor.is_at(Punctuator::Dollar) {
-                read_variable(cursor)
-            } else {
-                cursor.take_scalar()
-            }
-        }
+        Variables::Allowed => read_variable_or_scalar(cursor),
         Variables::Forbidden => cursor.take_scalar(),
     }
 }
 
-/// Reads a variable.
-fn read_variable(cursor: &mut Cursor) -> Result<ValueTree, ReadError>
-    ensures { Leaves result cursor.new (variable_value cursor.old) }
+/// Reads a variable or a value of one token.
+#[tactic(auto, unfolding(crate::specs::Drafting::variable_or_scalar))]
+fn read_variable_or_scalar(cursor: &mut Cursor) -> Result<DocValue, ReadError>
+    ensures { Leaves result cursor.new (variable_or_scalar cursor.old) }
 {
-    cursor.take_sign(Punctuator::Dollar)?;
+    if !cursor.take_if(Punctuator::Dollar)? {
+        return cursor.take_scalar();
+    }
     let name = cursor.take_name()?;
-    Ok(ValueTree::Variable(name.node))
+    Ok(DocValue::Variable(name.node))
 }
 
-/// Reads a list.
+/// Reads a list behind its bracket. So many levels may open within.
 #[cycle(value)]
-#[tactic(auto, using(crate::proofs::LevelLaws::no_list, crate::proofs::LevelLaws::list_of))]
+#[tactic(auto, unfolding(crate::specs::Drafting::list_draft))]
 fn read_list(
     alloc: Global,
     cursor: &mut Cursor,
     variables: Variables,
     levels: usize,
-) -> Result<ValueTree, ReadError>
-    ensures { Leaves result cursor.new (list_at variables levels cursor.old) }
+) -> Result<Draft<DocValue>, ReadError>
+    ensures { Leaves result cursor.new (list_draft variables levels cursor.old) }
 {
-    if levels == 0 {
-        cursor.too_deep(Punctuator::OpenBracket)
-    } else {
-        read_list_of(alloc, cursor, variables, levels - 1)
-    }
-}
-
-/// Reads a list, in which so many levels may open.
-#[cycle(value)]
-fn read_list_of(
-    alloc: Global,
-    cursor: &mut Cursor,
-    variables: Variables,
-    levels: usize,
-) -> Result<ValueTree, ReadError>
-    ensures { Leaves result cursor.new (list_by (value_at variables levels) cursor.old) }
-{
-    cursor.take_sign(Punctuator::OpenBracket)?;
-    let values = read_values(alloc, cursor, variables, levels)?;
+    let Draft { part, doubled } = read_values(alloc, cursor, variables, levels)?;
     cursor.take_sign(Punctuator::CloseBracket)?;
-    Ok(ValueTree::List(values))
+    Ok(Draft {
+        part: DocValue::List(part),
+        doubled,
+    })
 }
 
 /// Reads the values of a list, up to its bracket.
@@ -118,49 +108,34 @@ fn read_values(
     cursor: &mut Cursor,
     variables: Variables,
     levels: usize,
-) -> Result<Items<ValueTree>, ReadError>
-    ensures { Leaves result cursor.new (many (other_than CloseBracket)
-        (value_at variables levels) cursor.old) }
+) -> Result<Draft<Items<DocValue>>, ReadError>
+    ensures { Leaves result cursor.new (values_draft variables levels cursor.old) }
 {
-    let mut values = Items::new(alloc);
+    let mut values = plain(Items::new(alloc));
     'values: while cursor.is_before(Punctuator::CloseBracket) {
-        values.push(read_value(alloc, cursor, variables, levels)?)?;
+        let value = read_value(alloc, cursor, variables, levels)?;
+        add_item(&mut values, value)?;
     }
     Ok(values)
 }
 
-/// Reads an object.
+/// Reads an object behind its brace. So many levels may open within.
 #[cycle(value)]
-#[tactic(auto, using(crate::proofs::LevelLaws::no_object, crate::proofs::LevelLaws::object_of))]
+#[tactic(auto, unfolding(crate::specs::Drafting::object_draft))]
 fn read_object(
     alloc: Global,
     cursor: &mut Cursor,
     variables: Variables,
     levels: usize,
-) -> Result<ValueTree, ReadError>
-    ensures { Leaves result cursor.new (object_at variables levels cursor.old) }
+) -> Result<Draft<DocValue>, ReadError>
+    ensures { Leaves result cursor.new (object_draft variables levels cursor.old) }
 {
-    if levels == 0 {
-        cursor.too_deep(Punctuator::OpenBrace)
-    } else {
-        read_object_of(alloc, cursor, variables, levels - 1)
-    }
-}
-
-/// Reads an object, in which so many levels may open.
-#[cycle(value)]
-fn read_object_of(
-    alloc: Global,
-    cursor: &mut Cursor,
-    variables: Variables,
-    levels: usize,
-) -> Result<ValueTree, ReadError>
-    ensures { Leaves result cursor.new (object_by (member_at variables levels) cursor.old) }
-{
-    cursor.take_sign(Punctuator::OpenBrace)?;
-    let members = read_members(alloc, cursor, variables, levels)?;
+    let Draft { part, doubled } = read_members(alloc, cursor, variables, levels)?;
     cursor.take_sign(Punctuator::CloseBrace)?;
-    Ok(ValueTree::Object(members))
+    Ok(Draft {
+        part: DocValue::Object(part),
+        doubled,
+    })
 }
 
 /// Reads the members of an object, up to its brace.
@@ -170,30 +145,44 @@ fn read_members(
     cursor: &mut Cursor,
     variables: Variables,
     levels: usize,
-) -> Result<Items<MemberTree>, ReadError>
-    ensures { Leaves result cursor.new (many (other_than CloseBrace)
-        (member_at variables levels) cursor.old) }
+) -> Result<Draft<Pairs<DocValue>>, ReadError>
+    ensures { Leaves result cursor.new (members_draft variables levels cursor.old) }
 {
-    let mut members = Items::new(alloc);
+    let mut members = plain(Pairs::new(alloc));
     'members: while cursor.is_before(Punctuator::CloseBrace) {
-        members.push(read_member(alloc, cursor, variables, levels)?)?;
+        let member = read_member(alloc, cursor, variables, levels)?;
+        add_member(&mut members, member)?;
     }
     Ok(members)
 }
 
+/// Adds a member to those before.
+fn add_member(members: &mut Draft<Pairs<DocValue>>, member: Member) -> Made<()>
+    ensures { OnOk result (members.new ≡ with_member members.old member) }
+{
+    let (name, value) = member;
+    add_named(
+        &mut members.part,
+        &mut members.doubled,
+        name.node,
+        name.pos,
+        value,
+    )
+}
+
 /// Reads a member of an object.
 #[cycle(value)]
-#[tactic(auto, unfolding(crate::specs::Reading::member_at))]
+#[tactic(auto, unfolding(crate::specs::Drafting::member_draft))]
 fn read_member(
     alloc: Global,
     cursor: &mut Cursor,
     variables: Variables,
     levels: usize,
-) -> Result<MemberTree, ReadError>
-    ensures { Leaves result cursor.new (member_at variables levels cursor.old) }
+) -> Result<Member, ReadError>
+    ensures { Leaves result cursor.new (member_draft variables levels cursor.old) }
 {
     let name = cursor.take_name()?;
     cursor.take_sign(Punctuator::Colon)?;
     let value = read_value(alloc, cursor, variables, levels)?;
-    Ok(MemberTree { name, value })
+    Ok((name, value))
 }

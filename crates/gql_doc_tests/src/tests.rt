@@ -47,7 +47,7 @@ pub(crate) fn first_wrong(
 }
 
 /// Texts that are no document, each with its first fault.
-const FAULTS: [(&str, &str); 27] = [
+const FAULTS: [(&str, &str); 33] = [
     ("", "Token 1:1"),
     ("{ % }", "Character 1:3"),
     ("{ a ", "Token 1:5"),
@@ -84,6 +84,15 @@ const FAULTS: [(&str, &str); 27] = [
         "query A {a}\nquery($v: T = {b: 1 b: 2}) {a}",
         "Operations 2:1",
     ),
+    ("{ a(x: {b: 1, b: 2}) ", "Token 1:22"),
+    ("{ a(x: {b: 1, b: 2}) } %", "Character 1:24"),
+    ("{ a(x: {b: 1, b: 2}) } { c }", "Operations 1:1"),
+    ("query A {a} query A {a(x: {b: 1, b: 2})}", "Doubled 1:13"),
+    (
+        "{a @d(x: {b: 1, b: 2}) {c(x: {b: 1, b: 2})}}",
+        "Doubled 1:17",
+    ),
+    ("{a(x: {b: 1, b: {c: 1, c: 2}, b: 3})}", "Doubled 1:14"),
 ];
 
 /// Documents in short.

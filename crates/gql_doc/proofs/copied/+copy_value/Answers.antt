@@ -1,4 +1,4 @@
-use Rattle.std.proofs.Common.{◌≡◌, List, ℕ, [], ◌∷◌, ◌++◌, take, IfOk, ap, sym, ◌∙◌, subst, arith, rules}
+use Rattle.std.proofs.Common.{◌≡◌, List, ℕ, [], ◌∷◌, ◌++◌, take, IfOk, ap, sym, ◌∙◌, subst, arith}
 use lib.Seq.{take_all}
 use Rattle.std.specs.List.{zip}
 use Rattle.gql_doc.specs.declared.document.DocValue.{DocValue}

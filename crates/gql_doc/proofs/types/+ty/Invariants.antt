@@ -2,13 +2,10 @@ use Rattle.std.proofs.Common.{◌+◌, ◌*◌}
 use Rattle.gql_doc.proofs.types.+ty.Given as goal
 
 abbrev pub decreases-read_type : goal.decreases-read_type
-decreases-read_type l = 4 * l.levels + 2
+decreases-read_type l = 3 * l.levels + 1
 
 abbrev pub decreases-read_bare_type : goal.decreases-read_bare_type
-decreases-read_bare_type l = 4 * l.levels + 1
+decreases-read_bare_type l = 3 * l.levels
 
 abbrev pub decreases-read_list_type : goal.decreases-read_list_type
-decreases-read_list_type l = 4 * l.levels
-
-abbrev pub decreases-read_list_type_of : goal.decreases-read_list_type_of
-decreases-read_list_type_of l = 4 * l.levels + 3
+decreases-read_list_type l = 3 * l.levels + 2
