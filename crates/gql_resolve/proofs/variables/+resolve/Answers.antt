@@ -11,7 +11,7 @@ use Rattle.gql_resolve.proofs.variables.+resolve.Goals as goal
 pub resolve_members-loop-index-preserved : goal.resolve_members-loop-index-preserved
 resolve_members-loop-index-preserved t c =
     resolved_more (known_in c.args.env.now) c.args.members.now c.loop-index.index c.at.result.0.now c.at.result.1.now _ _ _ c.at.ensures c.loop-index.invariant
-    c.in_ok-resolve.ensures c.in_ok-push.ensures.items
+    c.in_ok-resolved_value.ensures c.in_ok-push.ensures.items
 
 pub resolve_members-returns : goal.resolve_members-returns
 resolve_members-returns t c =
