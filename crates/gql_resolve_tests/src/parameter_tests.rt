@@ -1,8 +1,8 @@
 //! Parameters that are there, absent, null, of another kind and out of range.
 use crate::queries::Ground;
-use gql_base::{Made, Pos, ServerError, ServerResult, Text, Value, Variables};
+use gql_base::{Made, Pos, ServerError, ServerResult, Text, Value, Variables, json_of};
 use gql_input::InputType;
-use gql_resolve::ResolverContext;
+use gql_resolve::{ResolverContext, resolved_value};
 use std::alloc::Global;
 use std::test::Fail;
 
@@ -127,5 +127,48 @@ fn nulls(alloc: Global) -> Made<bool> {
 #[test]
 fn nulls_as_parameters(rt: HostRuntime) -> Result<(), Fail> {
     assert!(rt; nulls(rt.alloc())?);
+    Ok(())
+}
+
+fn first_argument(alloc: Global, context: &ResolverContext<'_, u64>) -> Made<Text> {
+    match context.item.arguments.as_slice().first() {
+        Some(argument) => {
+            let value = resolved_value(alloc, context.env, &argument.value.node)?;
+            json_of(alloc, &value)
+        }
+        None => Text::new(alloc, "no argument"),
+    }
+}
+
+/// What the first argument of the first field of a query comes to, as JSON.
+fn resolved(alloc: Global, text: &str) -> Made<Text> {
+    match query(alloc, text)? {
+        Some(ground) => match ground.first() {
+            Some(context) => first_argument(alloc, &context),
+            None => Text::new(alloc, "no field"),
+        },
+        None => Text::new(alloc, "no query"),
+    }
+}
+
+#[test]
+fn arguments_with_their_variables(rt: HostRuntime) -> Result<(), Fail> {
+    let alloc = rt.alloc();
+    assert_eq!(rt;
+        resolved(
+            alloc,
+            "query($v: Int = 6) { o(n: [1, {a: $v, b: E}, \"t\"]) }"
+        )?
+        .as_str(),
+        "[1,{\"a\":6,\"b\":\"E\"},\"t\"]"
+    );
+    assert_eq!(rt;
+        resolved(alloc, "query($v: Int) { o(n: $v) }")?.as_str(),
+        "null"
+    );
+    assert_eq!(rt;
+        resolved(alloc, "{ o(n: [true, $lost]) }")?.as_str(),
+        "[true,null]"
+    );
     Ok(())
 }
