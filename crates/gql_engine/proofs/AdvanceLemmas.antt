@@ -112,6 +112,7 @@ module _ {R Own World Future L H P : Type 0} {e : Parts R Own World Future L H P
       turns_is = t.turns_is;
       task_is = t.pick.task_is;
       old_is = t.pick.old_is;
+      open_is = undone;
       context_is = t.context_is;
     }
 

@@ -9,7 +9,8 @@ use Rattle.gql_resolve.specs.declared.record_entry.RecordEntry.{RecordEntry}
 use Rattle.gql_resolve.specs.declared.resolver_set.ResolverSet.{Ghosts as Resolving}
 use Rattle.gql_engine.specs.declared.arena.State.{State}
 use Rattle.gql_engine.specs.declared.arena.State.TheVariants as state
-use Rattle.gql_engine.specs.Arena.{Fits, Subject, fresh_states, mark_of, marks_of}
+use Rattle.gql_engine.specs.Arena.{Fits, Subject, fresh_states, mark_of, marks_of, started, total}
+use Rattle.gql_engine.proofs.NearerLemmas.{total_append}
 use Rattle.gql_engine.specs.Pace.{pending_then_ready, to_come_at, told_of}
 use Rattle.gql_engine.specs.Parts.{Parts, Moment, choice_by, delay_at, stage, subject}
 use Rattle.gql_engine.specs.Phases.{CutBefore, CutInTurn, InTurn, IsCutPhase, IsPhase, IsRootOf, NextRoot, PacedSince, PacedSinceSoFar, PhaseCut, PhaseOver, Phases, Serving, serving_of, serving_with, story_in, with_root, world_past}
@@ -76,6 +77,7 @@ module _ {R Own World Future L H P : Type 0} {e : Parts R Own World Future L H P
     waits = waits;
     none = waits ∙ ap (λ ss. waiting_from 0 (marks_of ss)) no_states;
     enters = enters_none m m refl refl refl;
+    stepped = λ calm. refl;
     phases = λ law calm. refl;
     world = λ law calm. refl;
   }
@@ -304,6 +306,12 @@ module _ {R Own World Future L H P : Type 0} {e : Parts R Own World Future L H P
       waits = over.sound.waits;
       none = over.none;
       enters = enters_trans turn.enters (enters_trans (next_enters opens) over.enters);
+      stepped = λ calm.
+          let before = turn.stepped calm in
+          let phase = over.stepped (to_next.quiet_is calm) in
+          let opened = ap (total started) opens.states_is ∙ total_append Future started now.states (fresh_states 1) in
+          let still = opens.steps_is in
+          omega arith;
       phases = λ law calm. phases_more (serving_of e old) (subject e) (choice_by e.turns) (e.set.world old.set) done root (stage e old) (stage e now) (stage e new)
           (turn.phases law calm)
           (same_phase e.set (subject e) (choice_by e.turns) (e.set.is_paced next.set) (e.set.is_paced old.set) to_next.paced_is

@@ -4,6 +4,7 @@ pub mod ApartLemmas
 pub mod ApartPlanLemmas
 pub mod ArenaLemmas
 pub mod BlockLemmas
+pub mod CountLemmas
 pub mod GivenLemmas
 pub mod InTurnLemmas
 pub mod Lists

@@ -5,7 +5,7 @@ use Rattle.std.specs.Prelude.{Option, Some, None, option_map, slice_get}
 use Rattle.std.specs.Option.{ForSome}
 use Rattle.gql_resolve.specs.Record.{with_more}
 use Rattle.gql_resolve.specs.declared.record_entry.RecordEntry.{RecordEntry}
-use Rattle.gql_engine.specs.Record.{Choice, Story, Made, Stage, waiting, after_entry, Turned, state_at, made_at, begins, begun_at, Ran, Stopped}
+use Rattle.gql_engine.specs.Record.{Choice, Story, Made, Stage, waiting, after_entry, Turned, EachWaits, state_at, made_at, begins, begun_at, Ran, Stopped}
 
 pub with_more_none : {T : Type 0} (told : Option (List T)) → with_more told [] ≡ told
 with_more_none None = refl
@@ -40,11 +40,17 @@ module _ (Task State : Type 0) (choice : Choice State) (story : Story Task) wher
   Turned-append state made (e ∷ one) other first second =
       (first.0, first.1, Turned-append (choice.after state (length (waiting made))) (after_entry story made e) one other first.2 second)
 
+  EachWaits-append : (made : Made Task) (one other : List RecordEntry) → EachWaits story made one → EachWaits story (made_at story made one) other
+      → EachWaits story made (one ++ other)
+  EachWaits-append made [] other first second = second
+  EachWaits-append made (e ∷ one) other first second = (first.0, EachWaits-append (after_entry story made e) one other first.1 second)
+
   pub ran_none : (stage : Stage Task State) → Ran choice story stage stage
   ran_none stage = record {
     entries = [];
     told_is = sym (with_more_none stage.told);
     starts_is = sym (with_more_none stage.starts);
+    waits = tt;
     turned = λ s is. tt;
     state_is = same stage.turns;
     made_is = refl;
@@ -79,6 +85,7 @@ module _ (Task State : Type 0) (choice : Choice State) (story : Story Task) wher
         ∙ ap (with_more (with_more old.starts (begun_at story old.made one.entries))) (sym (append-nil (begun_at story middle.made other.entries)))
         ∙ starts_on old.starts old.made middle.made one.entries other.entries [] one.made_is
         ∙ ap (with_more old.starts) (append-nil (begun_at story old.made (one.entries ++ other.entries)));
+    waits = EachWaits-append old.made one.entries other.entries one.waits (subst (λ m. EachWaits story m other.entries) one.made_is other.waits);
     turned = turned_on old.turns middle.turns old.made middle.made one.entries other.entries one.made_is one.state_is one.turned other.turned;
     state_is = later old.turns one.state_is;
     made_is = other.made_is ∙ ap (λ m. made_at story m other.entries) one.made_is ∙ sym (made_at-append old.made one.entries other.entries);

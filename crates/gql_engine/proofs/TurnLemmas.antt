@@ -9,7 +9,7 @@ use Rattle.gql_resolve.specs.declared.record_entry.RecordEntry.{RecordEntry}
 use Rattle.gql_resolve.specs.declared.resolver_context.ResolverContext.{ResolverContext}
 use Rattle.gql_engine.specs.declared.arena.State.{State}
 use Rattle.gql_engine.specs.declared.arena.State.TheVariants as state
-use Rattle.gql_engine.specs.Record.{Choice, untold, ready, Story, Made, waiting_from, untold_marks, beneath_of, after_ready, after_mark, NamesTask, Stage, begins, begun_at, Ran, Stopped}
+use Rattle.gql_engine.specs.Record.{Choice, untold, ready, Story, Made, waiting_from, untold_marks, beneath_of, after_ready, after_mark, NamesTask, Stage, begins, begun_at, IsOpenAt, Ran, Stopped}
 use Rattle.gql_base.specs.PathSegment.{path_text}
 use Rattle.gql_engine.specs.Arena.{mark_of, marks_of, made_of, fresh_states, subject_of}
 use Rattle.gql_engine.specs.Plan.{Asking, IsContextOf}
@@ -29,6 +29,7 @@ module _ (V Task F State_ : Type 0) (choice : Choice State_) (asks : Task → As
     pub turns_is : turns' ≡ option_map (λ s. choice.after s (length (waiting_from 0 (marks_of states)))) turns
     pub task_is : slice_get tasks number ≡ Some task
     pub old_is : slice_get states number ≡ Some old
+    pub open_is : old ≡ state.Done → ⊥
     pub context_is : IsContextOf number (asks task) context
 
 module _ (V Task F State_ : Type 0) (choice : Choice State_) (asks : Task → Asking V) (beneath : Task → Answer V → List Task) (answers : Task → Answer V) where
@@ -43,6 +44,11 @@ module _ (V Task F State_ : Type 0) (choice : Choice State_) (asks : Task → As
   begins_is number state.Fresh = refl
   begins_is number (state.Waiting f) = refl
   begins_is number state.Done = refl
+
+  open_mark : (s : State F) → (s ≡ state.Done → ⊥) → IsOpenAt (Some (mark_of s))
+  open_mark state.Fresh undone = tt
+  open_mark (state.Waiting f) undone = tt
+  open_mark state.Done undone = absurd (undone refl)
 
   module _ (turns turns' : Option State_) (tasks : List Task) (states : List (State F)) (number : ℕ) (task : Task) (old : State F) (context : ResolverContext V)
       (chosen : Chosen V Task F State_ choice asks turns turns' tasks states number task old context) (told told' : Option (List RecordEntry)) (starts starts' : Option (List ℕ))
@@ -62,6 +68,11 @@ module _ (V Task F State_ : Type 0) (choice : Choice State_) (asks : Task → As
           ∙ ap (begins number) (sym (get_map mark_of states number old chosen.old_is))
           ∙ ap (λ n. begins n (slice_get (marks_of states) n)) (sym chosen.context_is.task_is)
           ∙ sym (append-nil (begins context.task (slice_get (marks_of states) context.task))));
+      waits = (
+        subst IsOpenAt (sym (ap (slice_get (marks_of states)) chosen.context_is.task_is ∙ get_map mark_of states number old chosen.old_is))
+            (open_mark old chosen.open_is),
+        tt,
+      );
       turned = λ s is. (chosen.picked s is ∙ ap Some (sym chosen.context_is.task_is), names is_ready, tt);
       state_is = chosen.turns_is;
       made_is = made_is ∙ ap (λ n. after_mark story (made_of tasks states) n is_ready) (sym chosen.context_is.task_is);

@@ -207,6 +207,8 @@ module _ {R Own World Future L H P : Type 0} (e : Parts R Own World Future L H P
     pub waits : now.waiting ≡ waiting_from 0 (marks_of now.states)
     pub none : now.waiting ≡ []
     pub enters : Enters e old now
+    pub stepped : e.hooks.are_quiet old.hooks
+        → now.steps + total started old.states ≡ old.steps + total started now.states
     pub phases : e.set.is_lawful old.set → e.hooks.are_quiet old.hooks
         → Phases (serving_of old) (subject e) (choice_by e.turns) (e.set.world old.set) done
         (stage e old) (stage e now)

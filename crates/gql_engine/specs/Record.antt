@@ -92,6 +92,19 @@ Turned choice story state made (entry ∷ entries) =
     × Turned choice story (choice.after state (length (waiting made)))
     (after_entry story made entry) entries
 
+-- a task without a ready entry
+abbrev pub IsOpenAt : Option Mark → Type 0
+IsOpenAt None = ⊥
+IsOpenAt (Some untold) = Unit {0}
+IsOpenAt (Some begun) = Unit {0}
+IsOpenAt (Some ready) = ⊥
+
+-- each entry is of a task that waits before it, whatever chose it
+abbrev pub EachWaits : {Task : Type 0} → Story Task → Made Task → List RecordEntry → Type 0
+EachWaits story made [] = Unit {0}
+EachWaits story made (entry ∷ entries) = IsOpenAt (slice_get made.marks entry.task)
+    × EachWaits story (after_entry story made entry) entries
+
 -- the state of the turns after a record
 abbrev pub state_at : {Task State : Type 0} → Choice State → Story Task → State → Made Task
     → List RecordEntry → State
@@ -132,6 +145,7 @@ module _ {Task State : Type 0} (choice : Choice State) (story : Story Task) wher
     pub entries : List RecordEntry
     pub told_is : new.told ≡ with_more old.told entries
     pub starts_is : new.starts ≡ with_more old.starts (begun_at story old.made entries)
+    pub waits : EachWaits story old.made entries
     pub turned : ForSome old.turns (λ s. Turned choice story s old.made entries)
     pub state_is : new.turns ≡ option_map (λ s. state_at choice story s old.made entries) old.turns
     pub made_is : new.made ≡ made_at story old.made entries

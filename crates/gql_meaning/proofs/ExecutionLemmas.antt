@@ -105,7 +105,7 @@ module _ {V : Type 0} (execution : Execution) (answer : Call V → Answer V) (on
       let none : asking false execution object parent (name_of f) arguments ≡ None = nothing_asked false object parent (name_of f) arguments in
       let beneath : parents_in (named_outcome false execution answer object parent (name_of f) arguments).shape ≡ []
       = none_beneath (is_typename (name_of f)) object (asking false execution object parent (name_of f) arguments) none in
-      λ i. one_if execution answer (none i) + total (map (λ inner. total (values_of (below inner.0 inner.1))) (beneath i))
+      λ i. one_if (none i) + total (map (λ inner. total (values_of (below inner.0 inner.1))) (beneath i))
 
   none_in_all : (object : List ℕ) (parent : FieldValue V) (below : Positioned Field → List ℕ → FieldValue V → List (List ℕ × ℕ)) (ms : List (List ℕ × Positioned Field))
       → total (values_of (over (λ f. count_at execution answer object parent f (below f)) ms)) ≡ 0

@@ -1,20 +1,20 @@
 -- How many answers merged execution asks. It is the same recursion as that of the places, with
 -- numbers in their stead.
-use Rattle.std.specs.Prelude.{ℕ, ◌+◌, false, List, [], ◌∷◌, map, Option, Some, None}
+use Rattle.std.specs.Prelude.{ℕ, ◌+◌, Bool, true, false, List, [], ◌∷◌, map, Option, Some, None}
 use Rattle.std.specs.List.{flat_map}
 use Rattle.gql_base.specs.Pairs.{values_of}
 use Rattle.gql_doc.specs.declared.document.Field.{Field}
 use Rattle.gql_doc.specs.declared.document.Positioned.{Positioned}
 use Rattle.gql_doc.specs.declared.document.Selection.{Selection}
 use Rattle.gql_meaning.specs.Execution.{Asking, Execution, field_asking, field_outcome}
-use Rattle.gql_meaning.specs.Responses.{Asked, kept_in, kept_reading}
+use Rattle.gql_meaning.specs.Responses.{Asked, kept_in, kept_reading, world_after}
 use Rattle.gql_place.specs.declared.shape.Shape.{Shape}
 use Rattle.gql_place.specs.declared.shape.Shape.TheOpen.{Shape-F}
 use Rattle.gql_place.specs.declared.shape.Shape.TheFolds.{fold-Shape}
 use Rattle.gql_resolve.specs.Call.{Call}
 use Rattle.gql_resolve.specs.declared.answer.Answer.{Answer}
 use Rattle.gql_resolve.specs.declared.field_value.FieldValue.{FieldValue}
-use Rattle.gql_select.specs.Grouped.{Beneath, grouped, Placing}
+use Rattle.gql_select.specs.Grouped.{Beneath, grouped, Mutating, Placing, serial_grouped}
 
 -- the sum of numbers
 abbrev pub total : List ℕ → ℕ
@@ -34,19 +34,25 @@ module _ {O P : Type 0} where
   abbrev pub parents_in : Shape O P → List (O × P)
   parents_in = fold-Shape O P (List (O × P)) parents_step
 
-module _ {V : Type 0} (execution : Execution) (answer : Call V → Answer V) where
-  -- one, where a field asks an answer
-  abbrev pub one_if : Option (Asking V) → ℕ
-  one_if None = 0
-  one_if (Some asking) = 1
+-- one, where a field asks an answer
+abbrev pub one_if : {V : Type 0} → Option (Asking V) → ℕ
+one_if None = 0
+one_if (Some asking) = 1
 
-  -- what is asked for a field, and for all beneath it
+module _ {V : Type 0} (execution : Execution) (answer : Call V → Answer V) where
+  -- what is asked for a field, as a root of a mutation or as another, and for all beneath it
+  abbrev pub count_as : Bool → List ℕ → FieldValue V → Positioned Field
+      → Beneath (List ℕ) (FieldValue V) ℕ
+      → ℕ
+  count_as is_root object parent field below =
+      one_if (field_asking is_root execution object parent field)
+      + total (map (λ inner. total (values_of (below inner.0 inner.1)))
+      (parents_in (field_outcome is_root execution answer object parent field).shape))
+
+  -- as another
   abbrev pub count_at : List ℕ → FieldValue V → Positioned Field → Beneath (List ℕ) (FieldValue V) ℕ
       → ℕ
-  count_at object parent field below =
-      one_if (field_asking false execution object parent field)
-      + total (map (λ inner. total (values_of (below inner.0 inner.1)))
-      (parents_in (field_outcome false execution answer object parent field).shape))
+  count_at object parent field below = count_as false object parent field below
 
   -- fields become numbers as they become places
   abbrev pub counting : Placing (List ℕ) (FieldValue V) (Positioned Field) (Positioned Selection) ℕ
@@ -57,3 +63,24 @@ module _ {V : Type 0} (execution : Execution) (answer : Call V → Answer V) whe
   asked_count levels asked =
       total
       (values_of (grouped counting levels asked.object asked.parent (kept_in execution asked)))
+
+module _ {V W : Type 0} (execution : Execution) (answer : Call V → W → Answer V)
+    (effect : Call V → W → W) where
+  -- how the root keys of a mutation become numbers, each in the world so far, and what is beneath
+  -- them in the world that they leave
+  abbrev pub counting_in_turn : Asked V
+      → Mutating (List ℕ) (FieldValue V) (Positioned Field) (Positioned Selection) ℕ W
+  counting_in_turn asked = record {
+    reading = kept_reading execution;
+    effect = world_after execution effect asked;
+    root = λ world. count_as execution (λ call. answer call world) true;
+    place = λ world. count_as execution (λ call. answer call world) false;
+  }
+
+  -- the number of answers that a mutation asks
+  abbrev pub mutation_asked_count : ℕ → Asked V → W → ℕ
+  mutation_asked_count levels asked world =
+      total
+      (values_of
+      (serial_grouped (counting_in_turn asked) levels asked.object asked.parent
+      (kept_in execution asked) world))
