@@ -2,7 +2,8 @@
 use Rattle.std.proofs.Common.{rules, ◌≡◌, ℕ, suc, true, false, length, List, [], ◌∷◌, ◌++◌, map, refl, ap, sym, ◌∙◌}
 use Rattle.std.specs.declared.alloc.Global.{Global}
 use Rattle.std.specs.declared.rc.Rc.{Rc}
-use Rattle.gql_base.specs.Pairs.{values_of}
+use Rattle.std.specs.List.{zip}
+use Rattle.gql_base.specs.Pairs.{names_of, unite_all, values_of}
 use Rattle.gql_base.specs.declared.pos.Pos.{Pos}
 use Rattle.gql_base.specs.declared.value.Value.{Value}
 use Rattle.gql_base.specs.declared.value.Value.TheVariants as value
@@ -11,6 +12,7 @@ use Rattle.gql_doc.specs.declared.document.Positioned.{Positioned}
 use Rattle.gql_meaning.specs.Execution.{field_outcome}
 use Rattle.gql_meaning.specs.Responses.{Members}
 use Rattle.gql_place.specs.Filled.{fill, place_with}
+use Rattle.gql_place.specs.Join.{join}
 use Rattle.gql_place.specs.declared.place.Place.{Place}
 use Rattle.gql_place.specs.declared.place.Tree.TheVariants as tree
 use Rattle.gql_place.specs.declared.shape.Shape.{the_lemmas}
@@ -31,6 +33,10 @@ use Rattle.gql_merged.specs.declared.asks.Asks.TheVariants as asks
 use Rattle.gql_merged.specs.declared.basis.Basis.{Basis}
 use Rattle.gql_merged.specs.declared.level.Node.{Node}
 use Rattle.gql_merged.proofs.AskingLemmas.{outcome_is}
+
+-- the places of an object's fields under their keys, of the places of those that ask an answer
+abbrev pub places_under : List ℕ → List (List ℕ × Asked) → List Place → Members
+places_under object members places = zip (names_of members) (places_with object (values_of members) places)
 
 module _ {V : Type 0} where
   pub fill-Leaf : (pos : Pos) (below : List ℕ → FieldValue V → Members) (leaf : Value) → fill pos below (shape.Leaf leaf) ≡ tree.Leaf leaf
@@ -57,8 +63,8 @@ module _ {V : Type 0} where
     own_jobs field a = job_of basis spot field (asking_by false (layers_of basis.layers) spot.parent a)
 
     one_more : (key : List ℕ) (field : Positioned Field) (a : Asks) (members : List (List ℕ × Asked)) (jobs : List (Job V)) (rest : List Place) (all : Members)
-        → members_with spot.object members (map placed jobs ++ rest) ≡ all
-        → members_with spot.object ((key, record { basis = basis; field = field; asks = a }) ∷ members) (map placed (own_jobs field a ++ jobs) ++ rest)
+        → places_under spot.object members (map placed jobs ++ rest) ≡ all
+        → places_under spot.object ((key, record { basis = basis; field = field; asks = a }) ∷ members) (map placed (own_jobs field a ++ jobs) ++ rest)
         ≡ (key, by_asks field a) ∷ all
     one_more key field asks.Typename members jobs rest all is =
         λ i. (key, record { pos = field.pos; non_null = true; added = []; headers = []; tree = sym (fill-Leaf field.pos (below field) (value.String spot.object)) i }) ∷ is i
@@ -67,15 +73,21 @@ module _ {V : Type 0} where
     one_more key field (asks.Call resolver ty arguments) members jobs rest all is =
         λ i. (key, place_with field.pos (outcome_by false (execution_of basis) answer spot.object spot.parent (asks.Call resolver ty arguments)) (below field)) ∷ is i
 
+    -- the places of an object's fields under their keys, with those of its tasks
+    places_are : (fields : List (List ℕ × Positioned Field)) (rest : List Place)
+        → places_under spot.object (asked_on basis spot.object fields) (map placed (jobs_by spot (values_of (asked_on basis spot.object fields))) ++ rest)
+        ≡ over comes fields
+    places_are [] rest = refl
+    places_are (field ∷ fields) rest =
+        one_more field.0 field.1 (asks_of (execution_of basis) spot.object field.1) (asked_on basis spot.object fields)
+        (jobs_by spot (values_of (asked_on basis spot.object fields))) rest (over comes fields) (places_are fields rest)
+        ∙ (λ i. (field.0, place_with field.1.pos (sym (outcome_is false (execution_of basis) spot.parent answer spot.object field.1) i) (below field.1)) ∷ over comes fields)
+
     -- the members of an object, with the places of its tasks
     pub members_are : (fields : List (List ℕ × Positioned Field)) (rest : List Place)
         → members_with spot.object (asked_on basis spot.object fields) (map placed (jobs_by spot (values_of (asked_on basis spot.object fields))) ++ rest)
-        ≡ over comes fields
-    members_are [] rest = refl
-    members_are (field ∷ fields) rest =
-        one_more field.0 field.1 (asks_of (execution_of basis) spot.object field.1) (asked_on basis spot.object fields)
-        (jobs_by spot (values_of (asked_on basis spot.object fields))) rest (over comes fields) (members_are fields rest)
-        ∙ (λ i. (field.0, place_with field.1.pos (sym (outcome_is false (execution_of basis) spot.parent answer spot.object field.1) i) (below field.1)) ∷ over comes fields)
+        ≡ unite_all join [] (over comes fields)
+    members_are fields rest = ap (unite_all join []) (places_are fields rest)
 
 module _ {V : Type 0} (basis : Basis) (spot : Spot V) (place : Job V → Place) where
   left_one : (field : Positioned Field) (a : Asks) (jobs : List (Job V)) (rest : List Place)

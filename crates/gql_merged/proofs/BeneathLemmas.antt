@@ -17,11 +17,10 @@ use Rattle.gql_meaning.specs.Execution.{Asking, field_asking}
 use Rattle.gql_request.specs.QueryEnv.{levels_of}
 use Rattle.gql_resolve.specs.declared.answer.Answer.{Answer}
 use Rattle.gql_select.specs.Collected.{own_selections}
-use Rattle.gql_select.specs.Documents.{reading}
-use Rattle.gql_select.specs.Reading.{merged}
 use Rattle.gql_merged.specs.Basis.{execution_of, setting_by}
 use Rattle.gql_merged.specs.Beneath.{AreBeneath, IsBeneath, level_behind}
 use Rattle.gql_merged.specs.FieldsWithin.{collected}
+use Rattle.gql_merged.specs.Grouped.{groups_in}
 use Rattle.gql_merged.specs.Groups.{united}
 use Rattle.gql_merged.specs.Jobs.{completed_by, Job, job_at, jobs_at, jobs_at_as, jobs_beneath, jobs_of_as}
 use Rattle.gql_merged.specs.Parents.{jobs_here, jobs_of_standing, spot_found, Standing, standing_at, standing_behind}
@@ -38,7 +37,7 @@ use Rattle.gql_merged.specs.declared.step.Step.{Step}
 use Rattle.gql_merged.proofs.JobLemmas.{level_jobs}
 use Rattle.gql_merged.proofs.NestLemmas.{collected_nest, every_both}
 use Rattle.gql_merged.proofs.TaskLemmas.{map_append}
-use Rattle.gql_merged.proofs.WithinLemmas.{both_within, merged_all}
+use Rattle.gql_merged.proofs.WithinLemmas.{both_within, groups_all}
 
 -- what holds of all holds of each
 pub every_at : {X : Type 0} (P : X → Type 0) (xs : List X) (k : ℕ) (x : X) → AllByRecursion P xs → slice_get xs k ≡ Some x → P x
@@ -72,12 +71,12 @@ module _ {V : Type 0} where
 
     -- as roots of a mutation or as others
     pub jobs_all_as : (root : Bool) (selections : List (Positioned Selection))
-        → AllByRecursion Q (values_of (merged (reading (setting_by basis)) (collected basis spot.object selections)))
+        → AllByRecursion Q (values_of (groups_in root basis spot.object selections))
         → AllByRecursion P (jobs_at_as root basis selections spot)
-    jobs_all_as root selections h = jobs_each root (merged (reading (setting_by basis)) (collected basis spot.object selections)) h
+    jobs_all_as root selections h = jobs_each root (groups_in root basis spot.object selections) h
 
     pub jobs_all : (selections : List (Positioned Selection))
-        → AllByRecursion Q (values_of (merged (reading (setting_by basis)) (collected basis spot.object selections)))
+        → AllByRecursion Q (values_of (groups_in false basis spot.object selections))
         → AllByRecursion P (jobs_at basis selections spot)
     jobs_all selections h = jobs_all_as false selections h
 
@@ -86,7 +85,7 @@ module _ {V : Type 0} where
   deep_at basis selections spot some =
       jobs_all IsDeep (λ field. Unit {0}) basis spot
       (λ field asking q. (let e = length-append spot.path (segment.Field (key_text field) ∷ []) in omega arith)) selections
-      (every_of (λ field. Unit {0}) (λ field. tt) (values_of (merged (reading (setting_by basis)) (collected basis spot.object selections))))
+      (every_of (λ field. Unit {0}) (λ field. tt) (values_of (groups_in false basis spot.object selections)))
 
   found_below : (found : List (Found V)) → AllByRecursion (λ (spot : Spot V). 0 < length spot.path) (map spot_found found)
   found_below [] = tt
@@ -114,8 +113,8 @@ module _ {V : Type 0} where
   below_at basis n selections spot within =
       jobs_all (IsBelow basis n) (λ field. IsWithin (setting_by basis) n (own_selections field)) basis spot
       (λ field asking q. record { basis_is = refl; within = q }) selections
-      (merged_all (λ field. IsWithin (setting_by basis) n (own_selections field)) (λ f g h k. both_within (setting_by basis) n f g h k)
-      (setting_by basis) (collected basis spot.object selections) (within spot.object))
+      (groups_all (λ field. IsWithin (setting_by basis) n (own_selections field)) (λ f g h k. both_within (setting_by basis) n f g h k)
+      basis.grouping (setting_by basis) (collected basis spot.object selections) (within spot.object))
 
   pub below_all : (basis : Basis) (n : ℕ) (selections : List (Positioned Selection)) (ss : List (Spot V)) → IsWithin (setting_by basis) (suc n) selections
       → AllByRecursion (IsBelow basis n) (flat_map (jobs_at basis selections) ss)

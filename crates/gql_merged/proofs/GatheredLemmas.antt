@@ -2,15 +2,15 @@
 use Rattle.std.proofs.Common.{◌≡◌, ℕ, zero, suc, ◌+◌, ◌<◌, List, [], ◌∷◌, ◌++◌, length, map, drop, get_or, Option, Some, None, slice_get, slice_set, refl, ap, sym, ◌∙◌, append_assoc, inl, inr}
 use Rattle.std.proofs.lemmas.List.{drop_more}
 use Rattle.std.specs.Prelude.{false, is_some, true}
-use Rattle.std.specs.List.{zip}
 use Rattle.std.specs.declared.alloc.Global.{Global}
 use Rattle.std.specs.declared.rc.Rc.{Rc}
-use Rattle.gql_base.specs.Pairs.{names_of, values_of}
+use Rattle.gql_base.specs.Pairs.{values_of}
 use Rattle.gql_engine.proofs.Lists.{get_append}
 use Rattle.gql_meaning.specs.Responses.{Members}
 use Rattle.gql_place.specs.declared.place.Place.{Place}
-use Rattle.gql_merged.specs.Assembled.{members_with, places_behind_all, places_with}
+use Rattle.gql_merged.specs.Assembled.{members_with, places_behind_all, places_with, united_members}
 use Rattle.gql_merged.specs.Assembling.{members_each}
+use Rattle.gql_merged.specs.KeyNames.{names_in}
 use Rattle.gql_merged.specs.Levels.{asked_behind, members_of}
 use Rattle.gql_merged.specs.Parents.{standing_behind}
 use Rattle.gql_merged.specs.Standing.{OpenSince, present, put_open}
@@ -59,9 +59,9 @@ put_some place (Some q ∷ places) (suc n) p is = ap (λ ps. Some q ∷ ps) (put
 
 -- the members of a level are those of an object that stands on it
 pub level_members : (level : Level) (object : List ℕ) (places : List Place)
-    → zip (names_of level.keys) (places_with object (map asked_behind level.nodes.items) places) ≡ members_with object (members_of level) places
+    → united_members (names_in level.keys) (places_with object (map asked_behind level.nodes.items) places) ≡ members_with object (members_of level) places
 level_members level object places =
-    λ i. zip (sym (members_names level) i) (places_with object (sym (members_values level) i) places)
+    λ i. united_members (sym (members_names level) i) (places_with object (sym (members_values level) i) places)
 
 pub level_left : (level : Level) (places : List Place)
     → places_behind_all (map asked_behind level.nodes.items) places ≡ places_behind_all (values_of (members_of level)) places
@@ -70,7 +70,7 @@ level_left level places = ap (λ fs. places_behind_all fs places) (sym (members_
 -- one more object has its members
 pub members_more : {V : Type 0} (parents : List (Rc (Parent V) Global)) (i : ℕ) (parent : Rc (Parent V) Global) (made made' all : List Members) (m : Members) (own own' : List Place)
     → i < length parents → parent ≡ get_or parents i parent → made' ≡ made ++ m ∷ []
-    → m ≡ zip (names_of parent.value.level.value.keys) (places_with parent.value.level.value.object (map asked_behind parent.value.level.value.nodes.items) own)
+    → m ≡ united_members (names_in parent.value.level.value.keys) (places_with parent.value.level.value.object (map asked_behind parent.value.level.value.nodes.items) own)
     → own' ≡ places_behind_all (map asked_behind parent.value.level.value.nodes.items) own
     → made ++ members_each (map standing_behind (drop i parents)) own ≡ all
     → made' ++ members_each (map standing_behind (drop (i + 1) parents)) own' ≡ all

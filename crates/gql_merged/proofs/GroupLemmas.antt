@@ -97,7 +97,7 @@ names_last : (keys : List (List ℕ × Unit {0})) (key : List ℕ) → names_of 
 names_last [] key = refl
 names_last (k ∷ keys) key = ap (λ ks. k.0 ∷ ks) (names_last keys key)
 
-names_long : (keys : List (List ℕ × Unit {0})) → length (names_of keys) ≡ length keys
+pub names_long : (keys : List (List ℕ × Unit {0})) → length (names_of keys) ≡ length keys
 names_long keys = map_length (λ (p : List ℕ × Unit {0}). p.0) keys
 
 -- an occurrence of a new key is a group of its own

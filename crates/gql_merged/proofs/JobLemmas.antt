@@ -5,12 +5,10 @@ use Rattle.gql_doc.specs.declared.document.Field.{Field}
 use Rattle.gql_doc.specs.declared.document.Positioned.{Positioned}
 use Rattle.gql_doc.specs.declared.document.Selection.{Selection}
 use Rattle.gql_resolve.specs.Call.{is_mutation}
-use Rattle.gql_select.specs.Documents.{reading}
-use Rattle.gql_select.specs.Reading.{merged}
-use Rattle.gql_merged.specs.Basis.{execution_of, setting_by}
-use Rattle.gql_merged.specs.FieldsWithin.{collected}
+use Rattle.gql_merged.specs.Basis.{execution_of}
+use Rattle.gql_merged.specs.Grouped.{groups_in}
 use Rattle.gql_merged.specs.Jobs.{job_of, jobs_at, jobs_at_as, jobs_by, jobs_by_as, jobs_of, jobs_of_as}
-use Rattle.gql_merged.specs.Levels.{Asked, asked_in, asked_on}
+use Rattle.gql_merged.specs.Levels.{Asked, asked_in, asked_in_as, asked_on}
 use Rattle.gql_merged.specs.Stored.{Spot}
 use Rattle.gql_merged.specs.declared.basis.Basis.{Basis}
 use Rattle.gql_merged.proofs.AskingLemmas.{asking_is}
@@ -35,10 +33,11 @@ module _ {V : Type 0} (basis : Basis) (spot : Spot V) where
 pub level_jobs : {V : Type 0} (basis : Basis) (spot : Spot V) (selections : List (Positioned Selection))
     → jobs_by spot (values_of (asked_in basis spot.object selections)) ≡ jobs_at basis selections spot
 level_jobs basis spot selections =
-    jobs_by_is basis spot (merged (reading (setting_by basis)) (collected basis spot.object selections))
+    jobs_by_is basis spot (groups_in false basis spot.object selections)
 
 -- those that the level of the root makes
 pub root_level_jobs : {V : Type 0} (basis : Basis) (spot : Spot V) (selections : List (Positioned Selection))
-    → jobs_by_as at_root spot (values_of (asked_in basis spot.object selections)) ≡ jobs_at_as (is_mutation basis.env.now.operation.node.ty) basis selections spot
+    → jobs_by_as at_root spot (values_of (asked_in_as (is_mutation basis.env.now.operation.node.ty) basis spot.object selections))
+    ≡ jobs_at_as (is_mutation basis.env.now.operation.node.ty) basis selections spot
 root_level_jobs basis spot selections =
-    root_jobs_by basis spot (merged (reading (setting_by basis)) (collected basis spot.object selections))
+    root_jobs_by basis spot (groups_in (is_mutation basis.env.now.operation.node.ty) basis spot.object selections)

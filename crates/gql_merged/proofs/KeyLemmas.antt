@@ -10,7 +10,8 @@ use Rattle.gql_engine.proofs.ProgressLemmas.{steady_none}
 use Rattle.gql_engine.proofs.RecordLemmas.{with_more_none}
 use Rattle.gql_engine.proofs.RoundLemmas.{enters_none}
 use Rattle.gql_engine.proofs.RunLemmas.{all_done}
-use Rattle.gql_engine.specs.Arena.{fresh_states, IsRight as IsRightAt, Subject, Work}
+use Rattle.gql_engine.proofs.StepLemmas.{all_started}
+use Rattle.gql_engine.specs.Arena.{fresh_states, IsRight as IsRightAt, started, Subject, total, Work}
 use Rattle.gql_engine.specs.Pace.{pending_then_ready}
 use Rattle.gql_engine.specs.Parts.{Moment, Parts, choice_by, stage, subject}
 use Rattle.gql_engine.specs.Phases.{answer_between, CutBefore, CutInTurn, HaltsInTurn, InTurn, none_made, Serving, serving_at, NextRoot, PhaseCut, PhaseOver, Phases, serving_of, world_past}
@@ -65,6 +66,7 @@ module _ {R Own World Future L H P : Type 0} {e : Parts R Own World Future L H P
     waits = turn.waits;
     none = turn.none;
     enters = enters_none m m refl refl refl;
+    stepped = λ calm. refl;
     phases = λ law calm. refl;
     world = λ law calm. refl;
   }
@@ -92,6 +94,7 @@ module _ {R Own World Future L H P : Type 0} {e : Parts R Own World Future L H P
       };
       once = turn.enters.once;
     };
+    stepped = turn.stepped;
     phases = λ law calm. subst (λ ts. Phases (serving_of e first) (subject e) (choice_by e.turns) (e.set.world first.set) done (stage e first)
         (record { made = record { tasks = ts; marks = (stage e m).made.marks }; told = (stage e m).told; starts = (stage e m).starts; turns = (stage e m).turns })) (sym same) (turn.phases law calm);
     world = turn.world;
@@ -320,3 +323,12 @@ turn_answered {Own = Own} {Future = Future} {e = e} {m = m} turn k task is =
     let lengths = turn.lengths in
     let at = get_at m.states k (omega arith) in
     at.1 ∙ ap Some (sym (all_done Own e.plan.Task Future m.states (sym turn.waits ∙ turn.none) k at.0 at.1))
+
+-- as many steps were taken as there are tasks
+pub steps_in_turn : {R Own World Future L H P : Type 0} {e : Parts R Own World Future L H P} {first m : Moment R Future L H P} {done : List e.plan.Task} → InTurn e first m done
+    → (steps steps' : ℕ) → total started first.states ≡ 0 → steps' + total started first.states ≡ steps + total started m.states
+    → steps' ≡ steps + length (e.plan.tasks m.plan)
+steps_in_turn {Own = Own} {Future = Future} {e = e} {m = m} turn steps steps' none stepped =
+    let all = all_started Future m.states (λ k s is. all_done Own e.plan.Task Future m.states (sym turn.waits ∙ turn.none) k s is) in
+    let long = turn.lengths in
+    omega (arith, none, stepped, all, long)

@@ -1,3 +1,4 @@
+pub mod ApartLemmas
 pub mod ArgumentLemmas
 pub mod AskingLemmas
 pub mod AssembledLemmas
@@ -5,12 +6,16 @@ pub mod AssemblyLemmas
 pub mod BeneathLemmas
 pub mod CompletingLemmas
 pub mod ContextLemmas
+pub mod CountedLemmas
+pub mod CountedKeysLemmas
 pub mod EntryLemmas
 pub mod FillingLemmas
 pub mod GatheredLemmas
 pub mod GivingLemmas
 pub mod GroupLemmas
+pub mod GroupingLemmas
 pub mod JobLemmas
+pub mod JoiningLemmas
 pub mod KeyLemmas
 pub mod LevelLemmas
 pub mod MergedLemmas

@@ -3,22 +3,22 @@ use Rattle.std.proofs.Common.{◌≡◌, ℕ, List, [], length, map, ap, sym, �
 use Rattle.std.specs.List.{zip}
 use Rattle.std.specs.declared.alloc.Global.{Global}
 use Rattle.std.specs.declared.rc.Rc.{Rc}
-use Rattle.gql_base.specs.Pairs.{names_of, values_of}
+use Rattle.gql_base.specs.Pairs.{values_of}
 use Rattle.gql_doc.specs.Depth.{field_set}
 use Rattle.gql_doc.specs.declared.document.Field.{Field}
 use Rattle.gql_doc.specs.declared.document.Positioned.{Positioned}
 use Rattle.gql_request.specs.QueryEnv.{levels_of, NestsIn}
 use Rattle.gql_select.specs.Collected.{own_selections, Setting}
-use Rattle.gql_select.specs.Documents.{reading}
-use Rattle.gql_select.specs.Reading.{merged}
 use Rattle.gql_merged.specs.Basis.{setting_by}
 use Rattle.gql_merged.specs.Beneath.{IsBeneath}
-use Rattle.gql_merged.specs.Groups.{under_keys, united}
+use Rattle.gql_merged.specs.Grouped.{groups_by}
+use Rattle.gql_merged.specs.Groups.{under_names, united}
 use Rattle.gql_merged.specs.Levels.{asked_behind, asked_in, asked_of, asked_on}
 use Rattle.gql_merged.specs.Parents.{spot_found, standing_at, standing_behind, standing_of}
 use Rattle.gql_merged.specs.Steps.{path_of}
 use Rattle.gql_merged.specs.Within.{AllNest}
 use Rattle.gql_merged.specs.declared.basis.Basis.{Basis}
+use Rattle.gql_merged.specs.declared.basis.Grouping.{Grouping}
 use Rattle.gql_merged.specs.declared.group.Group.{Group}
 use Rattle.gql_merged.specs.declared.level.Level.{Level}
 use Rattle.gql_merged.specs.declared.level.Node.{Node}
@@ -28,32 +28,32 @@ use Rattle.gql_merged.specs.declared.parent.Parent.{Parent}
 use Rattle.gql_merged.proofs.LevelLemmas.{asked_zipped}
 use Rattle.gql_merged.proofs.NestLemmas.{both_nests}
 use Rattle.gql_merged.proofs.TaskLemmas.{map_length, zip_values}
-use Rattle.gql_merged.proofs.WithinLemmas.{merged_all}
+use Rattle.gql_merged.proofs.WithinLemmas.{groups_all}
 
-module _ (basis : Basis) (keys : List (List ℕ × Unit {0})) (groups : List Group) (fields : List (Positioned Field)) where
+module _ (basis : Basis) (by : Grouping) (names : List (List ℕ)) (groups : List Group) (fields : List (Positioned Field)) where
   -- the groups of fields that nest do
-  pub groups_nest : length groups ≡ length keys → ((setting : Setting) → under_keys keys groups ≡ merged (reading setting) fields)
+  pub groups_nest : length groups ≡ length names → ((setting : Setting) → under_names names groups ≡ groups_by by setting fields)
       → AllNest basis.env.now fields → AllNest basis.env.now (map united groups)
   groups_nest long is nest =
       subst (AllNest basis.env.now)
       (ap values_of (sym (is (setting_by basis)))
-      ∙ zip_values (names_of keys) (map united groups) (map_length united groups ∙ long ∙ sym (map_length (λ p. p.0) keys)))
-      (merged_all (λ field. NestsIn basis.env.now (field_set field)) (both_nests (setting_by basis) [] (levels_of basis.env.now))
-      (setting_by basis) fields nest)
+      ∙ zip_values names (map united groups) (map_length united groups ∙ long))
+      (groups_all (λ field. NestsIn basis.env.now (field_set field)) (both_nests (setting_by basis) [] (levels_of basis.env.now))
+      by (setting_by basis) fields nest)
 
   module _ (object : List ℕ) (nodes : List (Rc Node Global)) (made : map asked_behind nodes ≡ map (asked_of basis object) (map united groups)) where
     -- each key has a node
-    pub nodes_paired : length groups ≡ length keys → length nodes ≡ length keys
+    pub nodes_paired : length groups ≡ length names → length nodes ≡ length names
     nodes_paired long =
         sym (map_length asked_behind nodes) ∙ ap length made
         ∙ map_length (asked_of basis object) (map united groups) ∙ map_length united groups ∙ long
 
-    -- the nodes under their keys are the merged fields, each with what it asks
-    pub nodes_asked : ((setting : Setting) → under_keys keys groups ≡ merged (reading setting) fields)
-        → zip (names_of keys) (map asked_behind nodes) ≡ asked_on basis object (merged (reading (setting_by basis)) fields)
+    -- the nodes under their keys are the fields of the groups, each with what it asks
+    pub nodes_asked : ((setting : Setting) → under_names names groups ≡ groups_by by setting fields)
+        → zip names (map asked_behind nodes) ≡ asked_on basis object (groups_by by (setting_by basis) fields)
     nodes_asked is =
-        ap (zip (names_of keys)) made
-        ∙ sym (asked_zipped basis object (names_of keys) (map united groups))
+        ap (zip names) made
+        ∙ sym (asked_zipped basis object names (map united groups))
         ∙ ap (asked_on basis object) (is (setting_by basis))
 
 -- an object that was found stands on the level of its name

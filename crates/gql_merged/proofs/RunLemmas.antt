@@ -1,12 +1,12 @@
 -- From the first turn to the last: the tasks of the root, and what stands when none waits.
-use Rattle.std.proofs.Common.{ℕ, zero, suc, ◌≡◌, ◌≤◌, Bool, true, false, ltb, List, [], ◌∷◌, ◌++◌, length, map, take, inl, inr, refl, sym, ap, subst, ◌∙◌, arith, ltb-true, ltb-false}
+use Rattle.std.proofs.Common.{ℕ, zero, suc, ◌≡◌, ◌+◌, ◌≤◌, Bool, true, false, ltb, List, [], ◌∷◌, ◌++◌, length, map, take, inl, inr, refl, sym, ap, subst, ◌∙◌, arith, ltb-true, ltb-false}
 use Rattle.std.proofs.lemmas.List.{append-nil}
 use Rattle.std.specs.Prelude.{Some, slice_get}
-use Rattle.std.specs.List.{AllByRecursion, zip}
+use Rattle.std.specs.List.{AllByRecursion}
 use Rattle.std.specs.Option.{ForSome}
 use Rattle.std.specs.declared.alloc.Global.{Global}
 use Rattle.std.specs.declared.rc.Rc.{Rc}
-use Rattle.gql_base.specs.Pairs.{names_of, values_of}
+use Rattle.gql_base.specs.Pairs.{values_of}
 use Rattle.gql_base.specs.declared.pos.Pos.{Pos}
 use Rattle.gql_doc.specs.Depth.{operation_set}
 use Rattle.gql_doc.specs.declared.document.Field.{Field}
@@ -14,7 +14,8 @@ use Rattle.gql_doc.specs.declared.document.Positioned.{Positioned}
 use Rattle.gql_engine.proofs.Lists.{get_at, get_within}
 use Rattle.gql_engine.proofs.RecordLemmas.{with_more_none}
 use Rattle.gql_engine.proofs.RunLemmas.{all_done, first_made, first_right}
-use Rattle.gql_engine.specs.Arena.{fresh_states, IsRight as IsRightAt, made_of, marks_of}
+use Rattle.gql_engine.proofs.StepLemmas.{all_started, started_fresh}
+use Rattle.gql_engine.specs.Arena.{fresh_states, IsRight as IsRightAt, made_of, marks_of, started, total}
 use Rattle.gql_engine.specs.Pace.{EachPaced, EachPacedSoFar, pending_then_ready}
 use Rattle.gql_engine.specs.Parts.{choice_by, delay_by, due_by}
 use Rattle.gql_engine.specs.Progress.{Agrees, RunsWhole, RunStopped, Seen, stage_of, story_at}
@@ -32,30 +33,33 @@ use Rattle.gql_resolve.specs.declared.answer.Answer.{Answer}
 use Rattle.gql_resolve.specs.declared.record_entry.RecordEntry.{RecordEntry}
 use Rattle.gql_resolve.specs.declared.resolver_set.ResolverSet.{Ghosts as Resolving}
 use Rattle.gql_resolve.specs.declared.turns.Turns.{Ghosts as Choosing}
-use Rattle.gql_select.specs.Documents.{reading}
-use Rattle.gql_select.specs.Reading.{merged}
-use Rattle.gql_merged.specs.Assembled.{members_with, places_with}
+use Rattle.gql_merged.specs.Assembled.{members_with, places_with, united_members}
 use Rattle.gql_merged.specs.Assembling.{AllHeld, IsAssembled, IsRight}
 use Rattle.gql_merged.specs.Basis.{setting_by}
+use Rattle.gql_merged.specs.Counted.{count_by}
 use Rattle.gql_merged.specs.Entries.{Entry}
 use Rattle.gql_merged.specs.FieldsWithin.{collected}
+use Rattle.gql_merged.specs.Grouped.{groups_in}
 use Rattle.gql_merged.specs.Fitting.{HoldsGiven, HoldsSince, IsFilled}
 use Rattle.gql_merged.specs.Jobs.{Job, jobs_at_as, jobs_beneath, jobs_by_as}
-use Rattle.gql_merged.specs.Levels.{asked_behind, asked_in, members_of}
-use Rattle.gql_merged.specs.Parents.{jobs_here, Standing, standing_at, standing_of}
-use Rattle.gql_merged.specs.Run.{basis_of, job_subject, merged_response, merged_work, Nests, own_jobs, root_jobs, root_selections, root_spot}
+use Rattle.gql_merged.specs.KeyNames.{names_in}
+use Rattle.gql_merged.specs.Levels.{asked_behind, asked_in_as, members_of}
+use Rattle.gql_merged.specs.Parents.{jobs_here, Standing, standing_at, standing_at_as, standing_of}
+use Rattle.gql_merged.specs.Run.{basis_by, job_subject, Nests, own_jobs_by, response_by, root_jobs_by, root_selections, root_spot, work_by}
 use Rattle.gql_merged.specs.Keys.{IsKey}
 use Rattle.gql_merged.specs.NeverRoots.{jobs_as}
-use Rattle.gql_merged.specs.Serial.{key_jobs}
+use Rattle.gql_merged.specs.Serial.{key_jobs_by}
 use Rattle.gql_merged.specs.Standing.{Paired}
 use Rattle.gql_merged.specs.Tasks.{IsDeep, job_of_task, jobs_in}
 use Rattle.gql_merged.specs.Within.{AllNest}
+use Rattle.gql_merged.specs.declared.basis.Grouping.{Grouping}
 use Rattle.gql_merged.specs.declared.kept.Filled.{Filled}
 use Rattle.gql_merged.specs.declared.level.Level.{Level}
 use Rattle.gql_merged.specs.declared.parent.Held.TheVariants as held
 use Rattle.gql_merged.specs.declared.parent.Parent.{Parent}
 use Rattle.gql_merged.specs.declared.task.Task.{Task}
 use Rattle.gql_merged.proofs.BeneathLemmas.{every_at, every_of, jobs_all, jobs_all_as}
+use Rattle.gql_merged.proofs.CountedLemmas.{tasks_counted}
 use Rattle.gql_merged.proofs.GatheredLemmas.{level_members}
 use Rattle.gql_merged.proofs.JobLemmas.{at_root, root_level_jobs}
 use Rattle.gql_merged.proofs.NestLemmas.{collected_nest}
@@ -92,22 +96,35 @@ both_all : {X : Type 0} (P Q : X → Type 0) (xs : List X) → AllByRecursion P 
 both_all P Q [] h k = tt
 both_all P Q (x ∷ xs) h k = ((h.0, k.0), both_all P Q xs h.1 k.1)
 
-module _ {V : Type 0} (scene : Scene V) where
+module _ {V : Type 0} (how : Grouping) (scene : Scene V) where
   -- where the operation is no mutation, the tasks of the root are no roots of one
-  pub query_jobs : is_mutation scene.env.now.operation.node.ty ≡ false → own_jobs scene ≡ root_jobs scene
-  query_jobs query = ap (λ b. jobs_at_as b (basis_of scene) (root_selections scene) (root_spot scene)) query
+  pub query_jobs : is_mutation scene.env.now.operation.node.ty ≡ false → own_jobs_by how scene ≡ root_jobs_by how scene
+  query_jobs query = ap (λ b. jobs_at_as b (basis_by how scene) (root_selections scene) (root_spot scene)) query
+
+  -- and it stands as others do
+  pub query_stands : is_mutation scene.env.now.operation.node.ty ≡ false
+      → standing_at_as (is_mutation scene.env.now.operation.node.ty) (basis_by how scene) (root_selections scene) (root_spot scene)
+      ≡ standing_at (basis_by how scene) (root_selections scene) (root_spot scene)
+  query_stands query = ap (λ b. standing_at_as b (basis_by how scene) (root_selections scene) (root_spot scene)) query
+
+  -- of a mutation, as root keys do
+  pub mutation_stands : is_mutation scene.env.now.operation.node.ty ≡ true
+      → standing_at_as (is_mutation scene.env.now.operation.node.ty) (basis_by how scene) (root_selections scene) (root_spot scene)
+      ≡ standing_at_as true (basis_by how scene) (root_selections scene) (root_spot scene)
+  mutation_stands mutation = ap (λ b. standing_at_as b (basis_by how scene) (root_selections scene) (root_spot scene)) mutation
 
   -- the tasks that the level of the root makes
-  pub root_tasks : (standing : Standing V) → standing ≡ standing_at (basis_of scene) (root_selections scene) (root_spot scene)
-      → jobs_by_as at_root standing.spot (values_of standing.members) ≡ own_jobs scene
+  pub root_tasks : (standing : Standing V)
+      → standing ≡ standing_at_as (is_mutation scene.env.now.operation.node.ty) (basis_by how scene) (root_selections scene) (root_spot scene)
+      → jobs_by_as at_root standing.spot (values_of standing.members) ≡ own_jobs_by how scene
   root_tasks standing is =
       ap (λ (s : Standing V). jobs_by_as at_root s.spot (values_of s.members)) is
-      ∙ root_level_jobs (basis_of scene) (root_spot scene) (root_selections scene)
+      ∙ root_level_jobs (basis_by how scene) (root_spot scene) (root_selections scene)
 
   -- of the object at the root
   pub root_here : (level : Rc Level Global) (own : Level) → level.value ≡ own → own.object ≡ (root_spot scene).object
-      → members_of own ≡ asked_in (basis_of scene) (root_spot scene).object (root_selections scene)
-      → jobs_here (record { level = level; held = held.Root scene.root }) ≡ own_jobs scene
+      → members_of own ≡ asked_in_as (is_mutation scene.env.now.operation.node.ty) (basis_by how scene) (root_spot scene).object (root_selections scene)
+      → jobs_here (record { level = level; held = held.Root scene.root }) ≡ own_jobs_by how scene
   root_here level own is object_is members_are =
       root_tasks (standing_of (record { level = level; held = held.Root scene.root }))
       (λ i. record {
@@ -116,59 +133,59 @@ module _ {V : Type 0} (scene : Scene V) where
       })
 
   -- the fields of the root nest
-  pub root_nest : (object : List ℕ) (fields : List (Positioned Field)) → fields ≡ collected (basis_of scene) object (root_selections scene) → AllNest scene.env.now fields
+  pub root_nest : (object : List ℕ) (fields : List (Positioned Field)) → fields ≡ collected (basis_by how scene) object (root_selections scene) → AllNest scene.env.now fields
   root_nest object fields is =
-      let setting = setting_by (basis_of scene) in
+      let setting = setting_by (basis_by how scene) in
       subst (AllNest scene.env.now) (sym is)
       (collected_nest setting object (levels_of scene.env.now) setting.levels (operation_set scene.env.now.operation) scene.env.now.nests)
 
   -- the tasks of the root have paths of one segment
-  root_short : AllByRecursion (λ (job : Job V). length job.path ≡ 1) (root_jobs scene)
-  root_short = jobs_all (λ (job : Job V). length job.path ≡ 1) (λ field. Unit {0}) (basis_of scene) (root_spot scene)
+  root_short : AllByRecursion (λ (job : Job V). length job.path ≡ 1) (root_jobs_by how scene)
+  root_short = jobs_all (λ (job : Job V). length job.path ≡ 1) (λ field. Unit {0}) (basis_by how scene) (root_spot scene)
       (λ field asking q. refl) (root_selections scene)
-      (every_of (λ field. Unit {0}) (λ field. tt) (values_of (merged (reading (setting_by (basis_of scene))) (collected (basis_of scene) (root_spot scene).object (root_selections scene)))))
+      (every_of (λ field. Unit {0}) (λ field. tt) (values_of (groups_in false (basis_by how scene) (root_spot scene).object (root_selections scene))))
 
   -- the tasks of the root keys of a mutation
-  pub all_keys : AllByRecursion IsKey (key_jobs scene)
-  all_keys = both_all (λ (job : Job V). job.asking.call.is_root ≡ true) (λ job. length job.path ≡ 1) (key_jobs scene)
-      (jobs_as true (basis_of scene) (root_selections scene) (root_spot scene))
-      (jobs_all_as (λ (job : Job V). length job.path ≡ 1) (λ field. Unit {0}) (basis_of scene) (root_spot scene)
+  pub all_keys : AllByRecursion IsKey (key_jobs_by how scene)
+  all_keys = both_all (λ (job : Job V). job.asking.call.is_root ≡ true) (λ job. length job.path ≡ 1) (key_jobs_by how scene)
+      (jobs_as true (basis_by how scene) (root_selections scene) (root_spot scene))
+      (jobs_all_as (λ (job : Job V). length job.path ≡ 1) (λ field. Unit {0}) (basis_by how scene) (root_spot scene)
       (λ field asking q. refl) true (root_selections scene)
-      (every_of (λ field. Unit {0}) (λ field. tt) (values_of (merged (reading (setting_by (basis_of scene))) (collected (basis_of scene) (root_spot scene).object (root_selections scene))))))
+      (every_of (λ field. Unit {0}) (λ field. tt) (values_of (groups_in true (basis_by how scene) (root_spot scene).object (root_selections scene)))))
 
   -- where the operation is a mutation, these are the tasks of the root
-  pub mutation_jobs : is_mutation scene.env.now.operation.node.ty ≡ true → own_jobs scene ≡ key_jobs scene
-  mutation_jobs mutation = ap (λ b. jobs_at_as b (basis_of scene) (root_selections scene) (root_spot scene)) mutation
+  pub mutation_jobs : is_mutation scene.env.now.operation.node.ty ≡ true → own_jobs_by how scene ≡ key_jobs_by how scene
+  mutation_jobs mutation = ap (λ b. jobs_at_as b (basis_by how scene) (root_selections scene) (root_spot scene)) mutation
 
   -- the first tasks of a plan are those of the root
-  pub roots_enough : (tasks : List (Task V)) (roots : ℕ) → KeepNumbers (root_jobs scene) (jobs_in tasks)
-      → ((k : ℕ) (task : Task V) → roots ≤ k → slice_get tasks k ≡ Some task → IsDeep (job_of_task task)) → length (root_jobs scene) ≤ roots
-  roots_enough tasks roots keeps deep = by (ltb roots (length (root_jobs scene))) refl
+  pub roots_enough : (tasks : List (Task V)) (roots : ℕ) → KeepNumbers (root_jobs_by how scene) (jobs_in tasks)
+      → ((k : ℕ) (task : Task V) → roots ≤ k → slice_get tasks k ≡ Some task → IsDeep (job_of_task task)) → length (root_jobs_by how scene) ≤ roots
+  roots_enough tasks roots keeps deep = by (ltb roots (length (root_jobs_by how scene))) refl
     where
-      by : (b : Bool) → ltb roots (length (root_jobs scene)) ≡ b → length (root_jobs scene) ≤ roots
+      by : (b : Bool) → ltb roots (length (root_jobs_by how scene)) ≡ b → length (root_jobs_by how scene) ≤ roots
       by true test =
-          let found = get_at (root_jobs scene) roots (ltb-true roots (length (root_jobs scene)) test) in
+          let found = get_at (root_jobs_by how scene) roots (ltb-true roots (length (root_jobs_by how scene)) test) in
           let at = at_task tasks roots found.0 (keeps roots found.0 found.1) in
           let long : 2 ≤ length found.0.path = subst IsDeep at.2 (deep roots at.0 (omega arith) at.1) in
-          let short : length found.0.path ≡ 1 = every_at (λ (job : Job V). length job.path ≡ 1) (root_jobs scene) roots found.0 root_short found.1 in
+          let short : length found.0.path ≡ 1 = every_at (λ (job : Job V). length job.path ≡ 1) (root_jobs_by how scene) roots found.0 root_short found.1 in
           absurd (omega arith)
-      by false test = ltb-false roots (length (root_jobs scene)) test
+      by false test = ltb-false roots (length (root_jobs_by how scene)) test
 
-  -- the place that is assembled is that of merged execution
+  -- the place that is assembled is the one that is due
   pub response_is : (answer : Call V → Answer V) (root : Standing V) (roots : ℕ) (jobs : List (Job V)) (place : Place) (n : ℕ)
-      → root ≡ standing_at (basis_of scene) (root_selections scene) (root_spot scene) → KeepNumbers (root_jobs scene) jobs → length (root_jobs scene) ≤ roots
-      → IsAssembled answer scene.env.now.operation.pos root (take roots jobs) place → Nests scene n → place ≡ merged_response scene answer n
+      → root ≡ standing_at (basis_by how scene) (root_selections scene) (root_spot scene) → KeepNumbers (root_jobs_by how scene) jobs → length (root_jobs_by how scene) ≤ roots
+      → IsAssembled answer scene.env.now.operation.pos root (take roots jobs) place → Nests scene n → place ≡ response_by how scene answer n
   response_is answer root roots jobs place zero root_is keeps enough assembled nests = cc
   response_is answer root roots jobs place (suc n) root_is keeps enough assembled nests =
-      let begun = begun_by (root_jobs scene) jobs keeps in
-      let front = taken (root_jobs scene) begun.more roots enough in
-      let right : Paired (IsRight answer) (root_jobs scene ++ front.more) assembled.own
+      let begun = begun_by (root_jobs_by how scene) jobs keeps in
+      let front = taken (root_jobs_by how scene) begun.more roots enough in
+      let right : Paired (IsRight answer) (root_jobs_by how scene ++ front.more) assembled.own
       = subst (λ js. Paired (IsRight answer) js assembled.own) (ap (take roots) begun.is ∙ front.is) assembled.right in
       assembled.place_is
       ∙ ap (λ (s : Standing V). root_place scene.env.now.operation.pos (members_with s.spot.object s.members assembled.own)) root_is
       ∙ ap (λ ms. root_place scene.env.now.operation.pos ms)
-      (root_right answer (basis_of scene) n (root_selections scene) (root_spot scene) front.more assembled.own
-      (nests_within (setting_by (basis_of scene)) n (operation_set scene.env.now.operation) nests) right)
+      (root_right answer (basis_by how scene) n (root_selections scene) (root_spot scene) front.more assembled.own
+      (nests_within (setting_by (basis_by how scene)) n (operation_set scene.env.now.operation) nests) right)
 
 -- what is kept of an answer wasn't given away
 pub held_since : {V : Type 0} (base : ℕ) (jobs : List (Job V)) (entries : List (Entry (Filled V))) (number : ℕ) (answer : Answer V)
@@ -179,7 +196,7 @@ held_since base jobs entries number answer held = elim held [
 ]
 
 -- the execution of a scene, from its plan to its place
-module _ {R Own World Future P : Type 0} (set : Resolving R Own World Future) (turns : Choosing P) (scene : Scene Own) (old : Seen R P) where
+module _ {R Own World Future P : Type 0} (set : Resolving R Own World Future) (turns : Choosing P) (how : Grouping) (scene : Scene Own) (old : Seen R P) where
   -- the answers that are due
   abbrev pub answers_due : Job Own → Answer Own
   answers_due job = due_by set old.set job.asking.call
@@ -193,7 +210,7 @@ module _ {R Own World Future P : Type 0} (set : Resolving R Own World Future) (t
   -- the plan and the arena as they are made
   pub record Begins (first : List (Job Own)) (states : List (State Future)) : Type 0 where
     pub n : ℕ
-    pub first_is : first ≡ root_jobs scene
+    pub first_is : first ≡ root_jobs_by how scene
     pub states_is : states ≡ fresh_states n
     pub n_is : n ≡ length first
 
@@ -208,7 +225,7 @@ module _ {R Own World Future P : Type 0} (set : Resolving R Own World Future) (t
         (stage_of set turns (made_of last states') new)
 
   pub stopped_none : (new : Seen R P) → set.told new.set ≡ set.told old.set → set.begun new.set ≡ set.begun old.set
-      → RunStopped set turns (merged_work scene) old new
+      → RunStopped set turns (work_by how scene) old new
   stopped_none new told_is begun_is = record {
     stopped = record {
       entries = [];
@@ -222,19 +239,19 @@ module _ {R Own World Future P : Type 0} (set : Resolving R Own World Future) (t
   }
 
   module _ (first : List (Job Own)) (states : List (State Future)) (begins : Begins first states) where
-    made_is : made_of first states ≡ fresh (root_jobs scene)
+    made_is : made_of first states ≡ fresh (root_jobs_by how scene)
     made_is = first_made Own (Job Own) Future first states begins.n begins.states_is begins.n_is ∙ ap fresh begins.first_is
 
-    asks_pace : (entries : List RecordEntry) → EachPacedSoFar delay_of first entries → EachPacedSoFar delay_of (root_jobs scene) entries
+    asks_pace : (entries : List RecordEntry) → EachPacedSoFar delay_of first entries → EachPacedSoFar delay_of (root_jobs_by how scene) entries
     asks_pace entries paced = subst (λ ts. EachPacedSoFar delay_of ts entries) begins.first_is paced
 
     pub stopped_run : (new : Seen R P)
         → Stopped (choice_by turns) (story_at set turns job_subject old) (stage_of set turns (made_of first states) old) (set.told new.set) (set.begun new.set)
         → ((before entries : List RecordEntry) → set.is_paced old.set → set.told old.set ≡ Some before → set.told new.set ≡ with_more (set.told old.set) entries
         → EachPacedSoFar delay_of first entries)
-        → RunStopped set turns (merged_work scene) old new
+        → RunStopped set turns (work_by how scene) old new
     stopped_run new stopped paces =
-        let whole : Stopped (choice_by turns) (story_at set turns job_subject old) (stage_of set turns (fresh (root_jobs scene)) old) (set.told new.set) (set.begun new.set)
+        let whole : Stopped (choice_by turns) (story_at set turns job_subject old) (stage_of set turns (fresh (root_jobs_by how scene)) old) (set.told new.set) (set.begun new.set)
         = subst (λ m. Stopped (choice_by turns) (story_at set turns job_subject old) (stage_of set turns m old) (set.told new.set) (set.begun new.set)) made_is stopped in
         record {
           stopped = whole;
@@ -243,13 +260,13 @@ module _ {R Own World Future P : Type 0} (set : Resolving R Own World Future) (t
 
     module _ (new : Seen R P) (last : List (Job Own)) (entries entries' : List (Entry (Filled Own))) (states' : List (State Future))
         (finishes : Finishes new first last entries entries' states states') where
-      pub whole_ran : Ran (choice_by turns) (story_at set turns job_subject old) (stage_of set turns (fresh (root_jobs scene)) old)
+      pub whole_ran : Ran (choice_by turns) (story_at set turns job_subject old) (stage_of set turns (fresh (root_jobs_by how scene)) old)
           (stage_of set turns (made_of last states') new)
       whole_ran = subst (λ m. Ran (choice_by turns) (story_at set turns job_subject old) (stage_of set turns m old)
           (stage_of set turns (made_of last states') new)) made_is finishes.ran
 
       pub runs_whole : (set.is_paced old.set → ForSome (set.told old.set) (λ before. EachPaced delay_of last whole_ran.entries))
-          → RunsWhole set turns (merged_work scene) old new
+          → RunsWhole set turns (work_by how scene) old new
       runs_whole paces = record {
         made = made_of last states';
         ran = whole_ran;
@@ -259,18 +276,29 @@ module _ {R Own World Future P : Type 0} (set : Resolving R Own World Future) (t
 
       pub stopped_whole : ((before entries : List RecordEntry) → set.is_paced old.set → set.told old.set ≡ Some before → set.told new.set ≡ with_more (set.told old.set) entries
           → EachPacedSoFar delay_of first entries)
-          → RunStopped set turns (merged_work scene) old new
+          → RunStopped set turns (work_by how scene) old new
       stopped_whole paces = record {
         stopped = record {
           entries = whole_ran.entries;
           told_is = whole_ran.told_is;
           last = [];
           at_most_one = omega arith;
-          starts_is = whole_ran.starts_is ∙ ap (with_more (set.begun old.set)) (sym (append-nil (begun_at (story_at set turns job_subject old) (fresh (root_jobs scene)) whole_ran.entries)));
+          starts_is = whole_ran.starts_is ∙ ap (with_more (set.begun old.set)) (sym (append-nil (begun_at (story_at set turns job_subject old) (fresh (root_jobs_by how scene)) whole_ran.entries)));
           turned = whole_ran.turned;
         };
         paces = λ pace before some. asks_pace whole_ran.entries (paces before whole_ran.entries pace some whole_ran.told_is);
       }
+
+      -- as many steps are taken as there are tasks
+      pub steps_end : (n : ℕ) → Nests scene n → (steps steps' : ℕ) → steps' + total started states ≡ steps + total started states'
+          → steps' ≡ steps + count_by scene (due_by set old.set) n how
+      steps_end n nests steps steps' stepped =
+          let none = ap (total started) begins.states_is ∙ started_fresh Future begins.n in
+          let all = all_started Future states' (λ k s is. all_done Own (Job Own) Future states' finishes.whole k s is) in
+          let long = finishes.lengths in
+          let count = tasks_counted how scene (due_by set old.set) answers_due (λ job. refl) whole_ran.entries (made_of last states') whole_ran.waits whole_ran.made_is
+          finishes.whole n nests in
+          omega (arith, stepped, none, all, long, count)
 
       held_due : (k : ℕ) (job : Job Own) → slice_get last k ≡ Some job → HoldsGiven last entries' k (Answered (answers_due job))
       held_due k job is =
@@ -304,7 +332,7 @@ none_deep tasks roots is k task above there = (let w = get_within tasks k task t
 -- the place of the root is put together of the places of its tasks
 pub root_assembled : {V : Type 0} (answer : Call V → Answer V) (pos : Pos) (parent : Parent V) (jobs : List (Job V)) (own : List Place) (members : Members) (place : Place)
     → Paired (IsRight answer) jobs own
-    → members ≡ zip (names_of parent.level.value.keys) (places_with parent.level.value.object (map asked_behind parent.level.value.nodes.items) own)
+    → members ≡ united_members (names_in parent.level.value.keys) (places_with parent.level.value.object (map asked_behind parent.level.value.nodes.items) own)
     → place ≡ root_place pos members → IsAssembled answer pos (standing_of parent) jobs place
 root_assembled answer pos parent jobs own members place right members_is place_is = record {
   own = own;

@@ -1,7 +1,8 @@
 -- The members of the root of a mutation, of the places of its root keys, one after another.
 use Rattle.std.proofs.Common.{◌≡◌, ℕ, zero, suc, true, false, List, [], ◌∷◌, ◌++◌, Option, Some, None, refl, ap, sym, subst, ◌∙◌}
 use Rattle.std.specs.List.{AllByRecursion}
-use Rattle.gql_base.specs.Pairs.{values_of}
+use Rattle.std.specs.Str.{bytes_eq}
+use Rattle.gql_base.specs.Pairs.{HasDistinctNames, under, unite_all, values_of}
 use Rattle.gql_base.specs.declared.value.Value.TheVariants as value
 use Rattle.gql_doc.specs.Depth.{operation_set}
 use Rattle.gql_doc.specs.declared.document.Field.{Field}
@@ -11,31 +12,36 @@ use Rattle.gql_engine.specs.declared.scene.Scene.{Scene}
 use Rattle.gql_meaning.specs.Execution.{Asking, field_asking, field_outcome}
 use Rattle.gql_meaning.specs.Responses.{Members, placed, world_of}
 use Rattle.gql_place.specs.Filled.{place_with}
+use Rattle.gql_place.specs.Join.{join}
 use Rattle.gql_place.specs.declared.place.Place.{Place}
 use Rattle.gql_resolve.specs.Call.{Call}
 use Rattle.gql_resolve.specs.Layers.{layers_of}
 use Rattle.gql_resolve.specs.declared.answer.Answer.{Answer}
 use Rattle.gql_resolve.specs.declared.field_value.FieldValue.{FieldValue}
 use Rattle.gql_select.specs.Collected.{own_selections}
-use Rattle.gql_select.specs.Documents.{placing_by}
-use Rattle.gql_select.specs.Grouped.{grouped, in_turn, world_behind}
+use Rattle.gql_select.specs.Documents.{both, placing_by, reading}
+use Rattle.gql_select.specs.Grouped.{in_turn, respond_by, world_behind}
+use Rattle.gql_select.specs.Reading.{keyed}
+use Rattle.gql_select.proofs.UnitingLemmas.{distinct_united, either, united_distinct}
 use Rattle.gql_merged.specs.Asks.{asking_by, asks_of, outcome_by}
 use Rattle.gql_merged.specs.Assembled.{members_with}
 use Rattle.gql_merged.specs.Assembling.{IsRight}
 use Rattle.gql_merged.specs.Basis.{execution_of, setting_by}
 use Rattle.gql_merged.specs.FieldsWithin.{collected}
+use Rattle.gql_merged.specs.Grouped.{groups_by}
 use Rattle.gql_merged.specs.Jobs.{Job, job_of, jobs_of_as}
-use Rattle.gql_merged.specs.Levels.{Asked, asked_in, asked_on}
-use Rattle.gql_merged.specs.Merged.{merged_beneath}
-use Rattle.gql_merged.specs.Run.{basis_of, job_subject, Nests, root_selections, root_spot}
-use Rattle.gql_merged.specs.Serial.{answer_in_phase, answering, key_jobs, keys_of, last_world_of, PlacedInTurn, serial_members}
+use Rattle.gql_merged.specs.Levels.{Asked, asked_in_as, asked_on}
+use Rattle.gql_merged.specs.Merged.{beneath_by}
+use Rattle.gql_merged.specs.Run.{basis_by, job_subject, Nests, root_selections, root_spot}
+use Rattle.gql_merged.specs.Serial.{answer_in_phase, answering, key_jobs_by, keys_of, last_world_of, PlacedInTurn, serial_members_by}
 use Rattle.gql_merged.specs.Standing.{present}
 use Rattle.gql_merged.specs.Within.{IsWithin}
 use Rattle.gql_merged.specs.declared.asks.Asks.{Asks}
 use Rattle.gql_merged.specs.declared.asks.Asks.TheVariants as asks
 use Rattle.gql_merged.specs.declared.basis.Basis.{Basis}
+use Rattle.gql_merged.specs.declared.basis.Grouping.{Grouping}
 use Rattle.gql_merged.proofs.AskingLemmas.{asking_is, outcome_is}
-use Rattle.gql_merged.proofs.AssembledLemmas.{fill-Absent, fill-Leaf}
+use Rattle.gql_merged.proofs.AssembledLemmas.{fill-Absent, fill-Leaf, places_under}
 use Rattle.gql_merged.proofs.WithinLemmas.{both_within, merged_all, nests_within}
 
 -- one place more
@@ -52,7 +58,7 @@ module _ {V W : Type 0} (serving : Serving V W) where
 
 -- beneath a root key the answers of its phase are those of the world that it leaves
 module _ {V W : Type 0} (basis : Basis) (answer : Call V → W → Answer V) (before behind : W) where
-  below_outcome : (object : List ℕ) (parent : FieldValue V) (field : Positioned Field)
+  pub below_outcome : (object : List ℕ) (parent : FieldValue V) (field : Positioned Field)
       → field_outcome false (execution_of basis) (answer_between answer before behind) object parent field
       ≡ field_outcome false (execution_of basis) (λ call. answer call behind) object parent field
   below_outcome object parent field =
@@ -66,39 +72,54 @@ module _ {V W : Type 0} (basis : Basis) (answer : Call V → W → Answer V) (be
       by asks.Nothing = refl
       by (asks.Call resolver ty arguments) = refl
 
-  pub below_merged : (n : ℕ) (field : Positioned Field) (object : List ℕ) (parent : FieldValue V)
-      → merged_beneath basis (answer_between answer before behind) n field object parent
-      ≡ merged_beneath basis (λ call. answer call behind) n field object parent
-  below_merged n field object parent =
-      λ i. grouped (placing_by (setting_by basis) (λ o p f below. place_with f.pos (below_outcome o p f i) below)) n object parent (own_selections field)
+  pub below_alike : (n : ℕ) (field : Positioned Field) (object : List ℕ) (parent : FieldValue V)
+      → beneath_by basis (answer_between answer before behind) n field object parent
+      ≡ beneath_by basis (λ call. answer call behind) n field object parent
+  below_alike n field object parent =
+      λ i. respond_by (placing_by (setting_by basis) (λ o p f below. place_with f.pos (below_outcome o p f i) below)) join (groups_by basis.grouping (setting_by basis))
+      n object parent (own_selections field)
 
-module _ {V W : Type 0} (scene : Scene V) (serving : Serving V W) (n : ℕ) where
+-- keys that stand once each do so once they are answered
+module _ {F Pl W : Type 0} (effect : W → F → W) (placed : W → W → F → Pl) where
+  absent_in_turn : (k : List ℕ) (ms : List (List ℕ × F)) (world : W) → under k ms ≡ None → under k (in_turn effect placed world ms) ≡ None
+  absent_in_turn k [] world none = refl
+  absent_in_turn k (m ∷ ms) world none =
+      either (bytes_eq k m.0) (under k (in_turn effect placed world (m ∷ ms)) ≡ None)
+      (λ e. let found : under k (m ∷ ms) ≡ Some m.1 = rw e refl in cc)
+      (λ e. let past : under k (m ∷ ms) ≡ under k ms = rw e refl in
+      let rest : under k (in_turn effect placed (effect world m.1) ms) ≡ None = absent_in_turn k ms (effect world m.1) (sym past ∙ none) in rw e rest)
+
+  distinct_in_turn : (ms : List (List ℕ × F)) (world : W) → HasDistinctNames ms → HasDistinctNames (in_turn effect placed world ms)
+  distinct_in_turn [] world d = tt
+  distinct_in_turn (m ∷ ms) world d = (absent_in_turn m.0 ms (effect world m.1) d.0, distinct_in_turn ms (effect world m.1) d.1)
+
+module _ {V W : Type 0} (how : Grouping) (scene : Scene V) (serving : Serving V W) (n : ℕ) where
   -- what is beneath a root key that left this world
   abbrev beneath : W → Positioned Field → List ℕ → FieldValue V → Members
-  beneath behind field object parent = merged_beneath (basis_of scene) (λ call. serving.answer call behind) n field object parent
+  beneath behind field object parent = beneath_by (basis_by how scene) (λ call. serving.answer call behind) n field object parent
 
   abbrev own_asking : Positioned Field → Option (Asking V)
-  own_asking field = field_asking true (execution_of (basis_of scene)) (root_spot scene).object (root_spot scene).parent field
+  own_asking field = field_asking true (execution_of (basis_by how scene)) (root_spot scene).object (root_spot scene).parent field
 
   -- the place of a root key, by what it asks
   abbrev key_place : W → W → Positioned Field → Asks → Place
   key_place before behind field a = place_with field.pos
-      (outcome_by true (execution_of (basis_of scene)) (λ call. serving.answer call before) (root_spot scene).object (root_spot scene).parent a)
+      (outcome_by true (execution_of (basis_by how scene)) (λ call. serving.answer call before) (root_spot scene).object (root_spot scene).parent a)
       (beneath behind field)
 
   abbrev asked_by_key : Asks → Option (Asking V)
-  asked_by_key a = asking_by true (layers_of (basis_of scene).layers) (root_spot scene).parent a
+  asked_by_key a = asking_by true (layers_of (basis_by how scene).layers) (root_spot scene).parent a
 
   abbrev left_by : W → Option (Asking V) → W
-  left_by world asking = world_of (execution_of (basis_of scene)) serving.effect world asking
+  left_by world asking = world_of (execution_of (basis_by how scene)) serving.effect world asking
 
   -- one root key, and those behind it
   one_key : (key : List ℕ) (field : Positioned Field) (a : Asks) (world : W) (os : List (Option Place)) (jobs : List (Job V)) (members : List (List ℕ × Asked))
       (rest : W → Members)
-      → ((w : W) (ps : List (Option Place)) → PlacedInTurn serving w jobs ps → members_with (root_spot scene).object members (present ps) ≡ rest w)
-      → IsWithin (setting_by (basis_of scene)) n (own_selections field)
-      → PlacedInTurn serving world (job_of (basis_of scene) (root_spot scene) field (asked_by_key a) ++ jobs) os
-      → members_with (root_spot scene).object ((key, record { basis = basis_of scene; field = field; asks = a }) ∷ members) (present os)
+      → ((w : W) (ps : List (Option Place)) → PlacedInTurn serving w jobs ps → places_under (root_spot scene).object members (present ps) ≡ rest w)
+      → IsWithin (setting_by (basis_by how scene)) n (own_selections field)
+      → PlacedInTurn serving world (job_of (basis_by how scene) (root_spot scene) field (asked_by_key a) ++ jobs) os
+      → places_under (root_spot scene).object ((key, record { basis = basis_by how scene; field = field; asks = a }) ∷ members) (present os)
       ≡ (key, key_place world (left_by world (asked_by_key a)) field a) ∷ rest (left_by world (asked_by_key a))
   one_key key field asks.Typename world os jobs members rest others within placed =
       λ i. (key, record { pos = field.pos; non_null = true; added = []; headers = []; tree = sym (fill-Leaf field.pos (beneath world field) (value.String (root_spot scene).object)) i })
@@ -112,65 +133,70 @@ module _ {V W : Type 0} (scene : Scene V) (serving : Serving V W) (n : ℕ) wher
       let right : here.0 ≡ key_place world behind field (asks.Call resolver ty arguments) =
       here.2 n within
       ∙ (λ i. place_with field.pos
-      (outcome_by true (execution_of (basis_of scene)) (λ call. serving.answer call world) (root_spot scene).object (root_spot scene).parent (asks.Call resolver ty arguments))
-      (λ object parent. below_merged (basis_of scene) serving.answer world behind n field object parent i)) in
-      ap (λ q. members_with (root_spot scene).object ((key, record { basis = basis_of scene; field = field; asks = asks.Call resolver ty arguments }) ∷ members) (present (q ∷ os))) here.1
+      (outcome_by true (execution_of (basis_by how scene)) (λ call. serving.answer call world) (root_spot scene).object (root_spot scene).parent (asks.Call resolver ty arguments))
+      (λ object parent. below_alike (basis_by how scene) serving.answer world behind n field object parent i)) in
+      ap (λ q. places_under (root_spot scene).object ((key, record { basis = basis_by how scene; field = field; asks = asks.Call resolver ty arguments }) ∷ members) (present (q ∷ os))) here.1
       ∙ (λ i. (key, right i) ∷ others behind os placed.1 i)
 
   -- all of them
   pub keys_are : (fields : List (List ℕ × Positioned Field)) (world : W) (os : List (Option Place))
-      → AllByRecursion (λ field. IsWithin (setting_by (basis_of scene)) n (own_selections field)) (values_of fields)
-      → PlacedInTurn serving world (jobs_of_as true (basis_of scene) (root_spot scene) fields) os
-      → members_with (root_spot scene).object (asked_on (basis_of scene) (root_spot scene).object fields) (present os)
+      → AllByRecursion (λ field. IsWithin (setting_by (basis_by how scene)) n (own_selections field)) (values_of fields)
+      → PlacedInTurn serving world (jobs_of_as true (basis_by how scene) (root_spot scene) fields) os
+      → places_under (root_spot scene).object (asked_on (basis_by how scene) (root_spot scene).object fields) (present os)
       ≡ in_turn (answering scene serving.answer serving.effect).effect
-      (λ before behind field. placed (execution_of (basis_of scene)) true (λ call. serving.answer call before) (root_spot scene).object (root_spot scene).parent field (beneath behind field))
+      (λ before behind field. placed (execution_of (basis_by how scene)) true (λ call. serving.answer call before) (root_spot scene).object (root_spot scene).parent field (beneath behind field))
       world fields
   keys_are [] world [] within all = refl
   keys_are [] world (o ∷ os) within all = absurd all
   keys_are (member ∷ fields) world os within all =
-      let a = asks_of (execution_of (basis_of scene)) (root_spot scene).object member.1 in
-      let same : own_asking member.1 ≡ asked_by_key a = asking_is true (execution_of (basis_of scene)) (root_spot scene).parent (root_spot scene).object member.1 in
+      let a = asks_of (execution_of (basis_by how scene)) (root_spot scene).object member.1 in
+      let same : own_asking member.1 ≡ asked_by_key a = asking_is true (execution_of (basis_by how scene)) (root_spot scene).parent (root_spot scene).object member.1 in
       let rest : W → Members = λ w. in_turn (answering scene serving.answer serving.effect).effect
-      (λ before behind field. placed (execution_of (basis_of scene)) true (λ call. serving.answer call before) (root_spot scene).object (root_spot scene).parent field (beneath behind field))
+      (λ before behind field. placed (execution_of (basis_by how scene)) true (λ call. serving.answer call before) (root_spot scene).object (root_spot scene).parent field (beneath behind field))
       w fields in
-      one_key member.0 member.1 a world os (jobs_of_as true (basis_of scene) (root_spot scene) fields) (asked_on (basis_of scene) (root_spot scene).object fields) rest
+      one_key member.0 member.1 a world os (jobs_of_as true (basis_by how scene) (root_spot scene) fields) (asked_on (basis_by how scene) (root_spot scene).object fields) rest
       (λ w ps. keys_are fields w ps within.1) within.0
-      (subst (λ q. PlacedInTurn serving world (job_of (basis_of scene) (root_spot scene) member.1 q ++ jobs_of_as true (basis_of scene) (root_spot scene) fields) os) same all)
+      (subst (λ q. PlacedInTurn serving world (job_of (basis_by how scene) (root_spot scene) member.1 q ++ jobs_of_as true (basis_by how scene) (root_spot scene) fields) os) same all)
       ∙ (λ i. (
         member.0,
         place_with member.1.pos
-            (sym (outcome_is true (execution_of (basis_of scene)) (root_spot scene).parent (λ call. serving.answer call world) (root_spot scene).object member.1) i)
+            (sym (outcome_is true (execution_of (basis_by how scene)) (root_spot scene).parent (λ call. serving.answer call world) (root_spot scene).object member.1) i)
             (beneath (left_by world (sym same i)) member.1),
       ) ∷ rest (left_by world (sym same i)))
 
-module _ {V W : Type 0} (scene : Scene V) (serving : Serving V W) where
+module _ {V W : Type 0} (how : Grouping) (scene : Scene V) (serving : Serving V W) where
   -- the members of the root are those of the definition
-  pub members_in_turn : (world : W) (os : List (Option Place)) (n : ℕ) → Nests scene n → PlacedInTurn serving world (key_jobs scene) os
-      → members_with (root_spot scene).object (asked_in (basis_of scene) (root_spot scene).object (root_selections scene)) (present os)
-      ≡ serial_members scene serving.answer serving.effect world n
+  pub members_in_turn : (world : W) (os : List (Option Place)) (n : ℕ) → Nests scene n → PlacedInTurn serving world (key_jobs_by how scene) os
+      → members_with (root_spot scene).object (asked_in_as true (basis_by how scene) (root_spot scene).object (root_selections scene)) (present os)
+      ≡ serial_members_by scene serving.answer serving.effect how world n
   members_in_turn world os zero nests placed = cc
   members_in_turn world os (suc n) nests placed =
-      keys_are scene serving n (keys_of scene) world os
-      (merged_all (λ field. IsWithin (setting_by (basis_of scene)) n (own_selections field)) (λ f g h k. both_within (setting_by (basis_of scene)) n f g h k)
-      (setting_by (basis_of scene)) (collected (basis_of scene) (root_spot scene).object (root_selections scene))
-      (nests_within (setting_by (basis_of scene)) n (operation_set scene.env.now.operation) nests (root_spot scene).object)) placed
+      let setting = setting_by (basis_by how scene) in
+      let fields : List (Positioned Field) = collected (basis_by how scene) (root_spot scene).object (root_selections scene) in
+      ap (unite_all join [])
+      (keys_are how scene serving n (keys_of scene) world os
+      (merged_all (λ field. IsWithin setting n (own_selections field)) (λ f g h k. both_within setting n f g h k) setting fields
+      (nests_within setting n (operation_set scene.env.now.operation) nests (root_spot scene).object)) placed)
+      ∙ united_distinct join _ (distinct_in_turn (answering scene serving.answer serving.effect).effect
+      (λ before behind field. (answering scene serving.answer serving.effect).root before (root_spot scene).object (root_spot scene).parent field (beneath how scene serving n behind field))
+      (keys_of scene) world (distinct_united both [] (keyed (reading setting) fields) tt))
 
   -- one root key, and the world behind it
   one_past : (world : W) (field : Positioned Field) (asking : Option (Asking V)) (jobs : List (Job V))
-      → world_past serving job_subject world (job_of (basis_of scene) (root_spot scene) field asking ++ jobs)
-      ≡ world_past serving job_subject (world_of (execution_of (basis_of scene)) serving.effect world asking) jobs
+      → world_past serving job_subject world (job_of (basis_by how scene) (root_spot scene) field asking ++ jobs)
+      ≡ world_past serving job_subject (world_of (execution_of (basis_by how scene)) serving.effect world asking) jobs
   one_past world field None jobs = refl
   one_past world field (Some asking) jobs = refl
 
   keys_past : (fields : List (List ℕ × Positioned Field)) (world : W)
-      → world_past serving job_subject world (jobs_of_as true (basis_of scene) (root_spot scene) fields)
+      → world_past serving job_subject world (jobs_of_as true (basis_by how scene) (root_spot scene) fields)
       ≡ world_behind (answering scene serving.answer serving.effect).effect world fields
   keys_past [] world = refl
   keys_past (member ∷ fields) world =
-      let asking = field_asking true (execution_of (basis_of scene)) (root_spot scene).object (root_spot scene).parent member.1 in
-      one_past world member.1 asking (jobs_of_as true (basis_of scene) (root_spot scene) fields)
-      ∙ keys_past fields (world_of (execution_of (basis_of scene)) serving.effect world asking)
+      let asking = field_asking true (execution_of (basis_by how scene)) (root_spot scene).object (root_spot scene).parent member.1 in
+      one_past world member.1 asking (jobs_of_as true (basis_by how scene) (root_spot scene) fields)
+      ∙ keys_past fields (world_of (execution_of (basis_by how scene)) serving.effect world asking)
 
   -- the world behind the tasks of all root keys is the last one of the definition
-  pub last_past : (world : W) → world_past serving job_subject world (key_jobs scene) ≡ last_world_of scene serving.effect world
+  pub last_past : (world : W) → world_past serving job_subject world (key_jobs_by how scene) ≡ last_world_of scene serving.effect world
   last_past world = keys_past (keys_of scene) world

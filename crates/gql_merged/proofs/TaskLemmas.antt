@@ -14,6 +14,7 @@ use Rattle.gql_resolve.specs.Layers.{layers_of}
 use Rattle.gql_merged.specs.Asks.{asking_at, is_call}
 use Rattle.gql_merged.specs.Groups.{united}
 use Rattle.gql_merged.specs.Jobs.{Job, job_by, jobs_by_as}
+use Rattle.gql_merged.specs.KeyNames.{names_in}
 use Rattle.gql_merged.specs.Levels.{Asked, asked_behind, asked_by, members_of}
 use Rattle.gql_merged.specs.Parents.{jobs_here, rooted, standing_of}
 use Rattle.gql_merged.specs.Steps.{path_of, segment_of}
@@ -52,16 +53,16 @@ pub map_length : {A B : Type 0} (f : A → B) (xs : List A) → length (map f xs
 map_length f [] = refl
 map_length f (x ∷ xs) = ap suc (map_length f xs)
 
-level_long : (level : Level) → length (map asked_behind level.nodes.items) ≡ length (names_of level.keys)
-level_long level = map_length asked_behind level.nodes.items ∙ level.paired ∙ sym (map_length (λ p. p.0) level.keys)
+level_long : (level : Level) → length (map asked_behind level.nodes.items) ≡ length (names_in level.keys)
+level_long level = map_length asked_behind level.nodes.items ∙ level.paired
 
 -- the fields of a level, without their keys
 pub members_values : (level : Level) → values_of (members_of level) ≡ map asked_behind level.nodes.items
-members_values level = zip_values (names_of level.keys) (map asked_behind level.nodes.items) (level_long level)
+members_values level = zip_values (names_in level.keys) (map asked_behind level.nodes.items) (level_long level)
 
 -- the keys of a level
-pub members_names : (level : Level) → names_of (members_of level) ≡ names_of level.keys
-members_names level = zip_names (names_of level.keys) (map asked_behind level.nodes.items) (level_long level)
+pub members_names : (level : Level) → names_of (members_of level) ≡ names_in level.keys
+members_names level = zip_names (names_in level.keys) (map asked_behind level.nodes.items) (level_long level)
 
 module _ {V : Type 0} where
   called : (root : Asked → Bool) (basis : Basis) (spot : Spot V) (field : Positioned Field) (a : Asks) → is_call a ≡ true

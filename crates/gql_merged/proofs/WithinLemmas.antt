@@ -1,4 +1,4 @@
--- Sets that nest within levels, field by field, and what holds of merged fields.
+-- Sets that nest within levels, field by field, and what holds of the fields of groups.
 use Rattle.std.proofs.Common.{◌≡◌, ℕ, zero, suc, Bool, true, false, cond, List, [], ◌∷◌, ◌++◌, Some, None, refl, ap, sym, subst, ◌∙◌, inl, inr, ◌⊎◌}
 use Rattle.std.specs.List.{AllByRecursion, Contains}
 use Rattle.std.specs.Str.{bytes_eq}
@@ -14,7 +14,10 @@ use Rattle.gql_select.proofs.DocumentLemmas.{is_reading, set_of_both}
 use Rattle.gql_select.specs.Collected.{collect_within, own_selections, Setting}
 use Rattle.gql_select.specs.Documents.{both, reading}
 use Rattle.gql_select.specs.Reading.{keyed, merged}
+use Rattle.gql_merged.specs.Grouped.{groups_by}
 use Rattle.gql_merged.specs.Within.{IsWithin}
+use Rattle.gql_merged.specs.declared.basis.Grouping.{Grouping}
+use Rattle.gql_merged.specs.declared.basis.Grouping.TheVariants as grouping
 use Rattle.gql_merged.proofs.NestLemmas.{collected_all, every_both}
 
 pub every_map : {X : Type 0} (P Q : X → Type 0) → ((x : X) → P x → Q x) → (xs : List X) → AllByRecursion P xs → AllByRecursion Q xs
@@ -43,6 +46,20 @@ module _ (P : Positioned Field → Type 0) (closed : (f g : Positioned Field) �
   -- holds of the merged fields too
   pub merged_all : (setting : Setting) (fs : List (Positioned Field)) → AllByRecursion P fs → AllByRecursion P (values_of (merged (reading setting) fs))
   merged_all setting fs h = united_all setting [] fs tt h
+
+  keyed_all : (setting : Setting) (fs : List (Positioned Field)) → AllByRecursion P fs → AllByRecursion P (values_of (keyed (reading setting) fs))
+  keyed_all setting [] h = tt
+  keyed_all setting (f ∷ fs) h = (h.0, keyed_all setting fs h.1)
+
+  -- and of those that stand for groups
+  pub groups_all : (by : Grouping) (setting : Setting) (fs : List (Positioned Field)) → AllByRecursion P fs → AllByRecursion P (values_of (groups_by by setting fs))
+  groups_all grouping.ByKey setting fs h = merged_all setting fs h
+  groups_all grouping.Each setting fs h = keyed_all setting fs h
+
+-- no fields have no groups
+pub groups_none : (by : Grouping) (setting : Setting) → groups_by by setting [] ≡ []
+groups_none grouping.ByKey setting = refl
+groups_none grouping.Each setting = refl
 
 module _ (setting : Setting) where
   collected_none : (levels : ℕ) (object : List ℕ) → collect_within setting levels object [] ≡ []

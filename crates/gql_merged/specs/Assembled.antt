@@ -1,13 +1,14 @@
 -- The members of an object, of the places of those of its fields that ask an answer (GraphQL,
--- October 2021, section 6.3).
+-- October 2021, section 6.3). Places under one key are joined.
 use Rattle.std.specs.Prelude.{ℕ, true, false, List, [], ◌∷◌}
 use Rattle.std.specs.List.{zip}
-use Rattle.gql_base.specs.Pairs.{names_of, values_of}
+use Rattle.gql_base.specs.Pairs.{names_of, unite_all, values_of}
 use Rattle.gql_base.specs.declared.pos.Pos.{Pos}
 use Rattle.gql_base.specs.declared.value.Value.TheVariants as value
 use Rattle.gql_meaning.specs.Completion.{outcome_at}
 use Rattle.gql_meaning.specs.Responses.{Members}
 use Rattle.gql_place.specs.Filled.{place_with}
+use Rattle.gql_place.specs.Join.{join}
 use Rattle.gql_place.specs.declared.place.Place.{Place}
 use Rattle.gql_place.specs.declared.place.Tree.TheVariants as tree
 use Rattle.gql_resolve.specs.Call.{Call}
@@ -70,10 +71,14 @@ places_behind_all [] places = places
 places_behind_all (asked ∷ others) places =
     places_behind_all others (places_behind asked.asks places)
 
+-- places under their keys, those under one key joined
+abbrev pub united_members : List (List ℕ) → List Place → Members
+united_members names places = unite_all join [] (zip names places)
+
 -- the members of an object
 abbrev pub members_with : List ℕ → List (List ℕ × Asked) → List Place → Members
 members_with object members places =
-    zip (names_of members) (places_with object (values_of members) places)
+    united_members (names_of members) (places_with object (values_of members) places)
 
 -- the place of a task with these answers, and with what is beneath the objects of its field
 abbrev pub place_of_job : {V : Type 0} → (Call V → Answer V) → (List ℕ → FieldValue V → Members)

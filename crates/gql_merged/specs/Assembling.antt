@@ -13,7 +13,7 @@ use Rattle.gql_merged.specs.Entries.{Entry}
 use Rattle.gql_merged.specs.Filling.{tree_with}
 use Rattle.gql_merged.specs.Fitting.{IsFilled}
 use Rattle.gql_merged.specs.Jobs.{Job, jobs_beneath}
-use Rattle.gql_merged.specs.Merged.{merged_place}
+use Rattle.gql_merged.specs.Merged.{place_by}
 use Rattle.gql_merged.specs.Parents.{Standing, standing_behind}
 use Rattle.gql_merged.specs.Standing.{IsHeld, Paired}
 use Rattle.gql_merged.specs.Within.{IsWithin}
@@ -63,7 +63,7 @@ module _ {V : Type 0} where
     -- a place is that of merged execution, for all levels within which the field's set nests
     abbrev pub IsRight : Job V → Place → Type 0
     IsRight job place = (n : ℕ) → IsWithin (setting_by job.basis) n (own_selections job.field)
-        → place ≡ merged_place job.basis answer n job
+        → place ≡ place_by job.basis answer n job
 
     -- each place from a number on is there, and is right
     pub record ArePlaced (base : ℕ) (jobs : List (Job V)) (places : List (Option Place)) : Type 0 where

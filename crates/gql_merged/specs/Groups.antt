@@ -1,4 +1,4 @@
--- Occurrences of fields in groups, one for each key.
+-- Occurrences of fields in groups, each of one key.
 use Rattle.std.specs.Prelude.{ℕ, List, [], ◌∷◌, Option, Some, None, map}
 use Rattle.std.specs.List.{zip}
 use Rattle.gql_base.specs.Pairs.{names_of}
@@ -33,5 +33,9 @@ abbrev pub item_of : Group → Option Field
 item_of group = item_among group.first.now (all_behind group.more.items)
 
 -- the fields of groups under their keys
+abbrev pub under_names : List (List ℕ) → List Group → List (List ℕ × Positioned Field)
+under_names names groups = zip names (map united groups)
+
+-- the same, where each key stands once
 abbrev pub under_keys : List (List ℕ × Unit {0}) → List Group → List (List ℕ × Positioned Field)
-under_keys keys groups = zip (names_of keys) (map united groups)
+under_keys keys groups = under_names (names_of keys) groups

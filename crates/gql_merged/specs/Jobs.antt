@@ -1,5 +1,5 @@
--- The tasks of merged execution: one for each key of an object that asks an answer, over the merged
--- sets of all its occurrences (GraphQL, October 2021, sections 6.3 and 6.4).
+-- The tasks of an execution: one for each group of an object's occurrences that asks an answer,
+-- over the merged sets of all in it (GraphQL, October 2021, sections 6.3 and 6.4).
 use Rattle.std.specs.Prelude.{ℕ, Bool, false, List, [], ◌∷◌, ◌++◌, Option, Some, None}
 use Rattle.std.specs.List.{flat_map}
 use Rattle.gql_base.specs.declared.path_segment.PathSegment.{PathSegment}
@@ -13,11 +13,9 @@ use Rattle.gql_resolve.specs.Layers.{layers_of}
 use Rattle.gql_resolve.specs.declared.answer.Answer.{Answer}
 use Rattle.gql_schema.specs.Table.{types_of}
 use Rattle.gql_select.specs.Collected.{own_selections}
-use Rattle.gql_select.specs.Documents.{reading}
-use Rattle.gql_select.specs.Reading.{merged}
 use Rattle.gql_merged.specs.Asks.{asking_by}
-use Rattle.gql_merged.specs.Basis.{execution_of, setting_by}
-use Rattle.gql_merged.specs.FieldsWithin.{collected}
+use Rattle.gql_merged.specs.Basis.{execution_of}
+use Rattle.gql_merged.specs.Grouped.{groups_in}
 use Rattle.gql_merged.specs.Levels.{Asked}
 use Rattle.gql_merged.specs.declared.basis.Basis.{Basis}
 use Rattle.gql_engine.specs.Path.{key_text}
@@ -70,8 +68,7 @@ module _ {V : Type 0} where
   -- the tasks of an object in selections, as roots of a mutation or as others
   abbrev pub jobs_at_as : Bool → Basis → List (Positioned Selection) → Spot V → List (Job V)
   jobs_at_as root basis selections spot =
-      jobs_of_as root basis spot
-      (merged (reading (setting_by basis)) (collected basis spot.object selections))
+      jobs_of_as root basis spot (groups_in root basis spot.object selections)
 
   -- as others
   abbrev pub jobs_at : Basis → List (Positioned Selection) → Spot V → List (Job V)

@@ -1,19 +1,17 @@
--- The fields of an object, one for each key, with what each asks (GraphQL, October 2021, sections
+-- The fields of an object under their keys, with what each asks (GraphQL, October 2021, sections
 -- 6.3.1 and 6.3.2).
-use Rattle.std.specs.Prelude.{ℕ, List, [], ◌∷◌, map}
+use Rattle.std.specs.Prelude.{ℕ, Bool, false, List, [], ◌∷◌, map}
 use Rattle.std.specs.List.{zip}
 use Rattle.std.specs.declared.alloc.Global.{Global}
 use Rattle.std.specs.declared.rc.Rc.{Rc}
-use Rattle.gql_base.specs.Pairs.{names_of}
 use Rattle.gql_doc.specs.declared.document.Field.{Field}
 use Rattle.gql_doc.specs.declared.document.Positioned.{Positioned}
 use Rattle.gql_doc.specs.declared.document.Selection.{Selection}
-use Rattle.gql_select.specs.Documents.{reading}
-use Rattle.gql_select.specs.Reading.{merged}
 use Rattle.gql_merged.specs.Asks.{asks_of}
-use Rattle.gql_merged.specs.Basis.{execution_of, setting_by}
-use Rattle.gql_merged.specs.FieldsWithin.{collected}
+use Rattle.gql_merged.specs.Basis.{execution_of}
+use Rattle.gql_merged.specs.Grouped.{groups_in}
 use Rattle.gql_merged.specs.Groups.{united}
+use Rattle.gql_merged.specs.KeyNames.{names_in}
 use Rattle.gql_merged.specs.declared.asks.Asks.{Asks}
 use Rattle.gql_merged.specs.declared.basis.Basis.{Basis}
 use Rattle.gql_merged.specs.declared.level.Level.{Level}
@@ -35,7 +33,7 @@ asked_behind node = asked_by node.value
 
 -- the fields of a level under their keys
 abbrev pub members_of : Level → List (List ℕ × Asked)
-members_of level = zip (names_of level.keys) (map asked_behind level.nodes.items)
+members_of level = zip (names_in level.keys) (map asked_behind level.nodes.items)
 
 -- a field with what it asks on an object
 abbrev pub asked_of : Basis → List ℕ → Positioned Field → Asked
@@ -48,7 +46,13 @@ asked_on basis object [] = []
 asked_on basis object (member ∷ members) =
     (member.0, asked_of basis object member.1) ∷ asked_on basis object members
 
--- the fields of an object in selections, one for each key, with what each asks
+-- the fields of an object in selections, as root keys of a mutation or as others, with what each
+-- asks
+abbrev pub asked_in_as : (is_root : Bool) → Basis → List ℕ → List (Positioned Selection)
+    → List (List ℕ × Asked)
+asked_in_as is_root basis object selections =
+    asked_on basis object (groups_in is_root basis object selections)
+
+-- as others
 abbrev pub asked_in : Basis → List ℕ → List (Positioned Selection) → List (List ℕ × Asked)
-asked_in basis object selections =
-    asked_on basis object (merged (reading (setting_by basis)) (collected basis object selections))
+asked_in basis object selections = asked_in_as false basis object selections

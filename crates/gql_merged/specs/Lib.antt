@@ -6,12 +6,15 @@ pub mod Basis
 pub mod Behind
 pub mod Beneath
 pub mod Completing
+pub mod Counted
 pub mod Entries
 pub mod FieldsWithin
 pub mod Filling
 pub mod Fitting
+pub mod Grouped
 pub mod Groups
 pub mod Jobs
+pub mod KeyNames
 pub mod Keys
 pub mod Levels
 pub mod Merged

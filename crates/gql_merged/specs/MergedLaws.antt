@@ -1,4 +1,5 @@
--- The laws on how the places of tasks are put together.
+-- The laws on how the places of tasks are put together, and on what merged and apart execution have
+-- in common.
 use Rattle.std.specs.Prelude.{◌≡◌, ℕ, suc, Bool, List, map, None}
 use Rattle.gql_base.specs.Pairs.{values_of}
 use Rattle.gql_base.specs.declared.path_segment.PathSegment.{PathSegment}
@@ -6,6 +7,7 @@ use Rattle.gql_base.specs.declared.pos.Pos.{Pos}
 use Rattle.gql_doc.specs.declared.document.Field.{Field}
 use Rattle.gql_doc.specs.declared.document.Positioned.{Positioned}
 use Rattle.gql_doc.specs.declared.document.Selection.{Selection}
+use Rattle.gql_engine.specs.declared.scene.Scene.{Scene}
 use Rattle.gql_meaning.specs.Completion.{Completed}
 use Rattle.gql_meaning.specs.Execution.{Execution, field_asking}
 use Rattle.gql_place.specs.Filled.{fill}
@@ -22,7 +24,9 @@ use Rattle.gql_merged.specs.Assembled.{members_with}
 use Rattle.gql_merged.specs.Filling.{tree_with}
 use Rattle.gql_merged.specs.Jobs.{jobs_at, jobs_by}
 use Rattle.gql_merged.specs.Levels.{asked_in}
-use Rattle.gql_merged.specs.Merged.{merged_beneath, merged_members, merged_place}
+use Rattle.gql_merged.specs.Merged.{beneath_by, members_by, place_by}
+use Rattle.gql_merged.specs.Run.{AgreesInside, apart_response, merged_response}
+use Rattle.gql_merged.specs.Serial.{serial_apart_response, serial_response}
 use Rattle.gql_merged.specs.Stored.{bare, Spot, spots}
 use Rattle.gql_merged.specs.declared.basis.Basis.{Basis}
 
@@ -39,7 +43,7 @@ module _ {V : Type 0} (basis : Basis) (answer : Call V → Answer V) (n : ℕ) w
   abbrev pub members_of_tasks : List (Positioned Selection) → Spot V → List (List ℕ × Place)
   members_of_tasks selections spot =
       members_with spot.object (asked_in basis spot.object selections)
-      (map (merged_place basis answer n) (jobs_at basis selections spot))
+      (map (place_by basis answer n) (jobs_at basis selections spot))
 
 -- the places of the tasks of an object, with one level of sets less, make its members
 abbrev pub MembersAreMerged : (V : Type 0) → Type 0
@@ -47,7 +51,7 @@ MembersAreMerged V =
     (basis : Basis) (answer : Call V → Answer V) (n : ℕ) (spot : Spot V)
     (selections : List (Positioned Selection))
     → members_of_tasks basis answer n selections spot
-    ≡ merged_members basis answer (suc n) spot.object spot.parent selections
+    ≡ members_by basis answer (suc n) spot.object spot.parent selections
 
 -- a completed answer, taken apart and put together of the places of the tasks beneath it
 abbrev pub TreesAreMerged : (V : Type 0) → Type 0
@@ -57,7 +61,7 @@ TreesAreMerged V =
     (path : List PathSegment)
     → tree_with pos (bare comes)
     (map (members_of_tasks basis answer n (own_selections field)) (spots comes path))
-    ≡ fill pos (merged_beneath basis answer (suc n) field) comes
+    ≡ fill pos (beneath_by basis answer (suc n) field) comes
 
 -- the tasks that a level makes for a value of its object are those of the definition
 abbrev pub TasksAreJobs : (V : Type 0) → Type 0
@@ -65,6 +69,20 @@ TasksAreJobs V =
     (basis : Basis) (spot : Spot V) (selections : List (Positioned Selection))
     → jobs_by spot (values_of (asked_in basis spot.object selections))
     ≡ jobs_at basis selections spot
+
+-- where the operation agrees with itself, apart execution comes to the place of merged execution
+abbrev pub AgreeingApartIsMerged : (V : Type 0) → Type 0
+AgreeingApartIsMerged V =
+    (scene : Scene V) (answer : Call V → Answer V) (n : ℕ) → AgreesInside scene n
+    → apart_response scene answer n ≡ merged_response scene answer n
+
+-- the same of a mutation, whose root keys are merged in both
+abbrev pub AgreeingMutationApartIsMerged : (V W : Type 0) → Type 0
+AgreeingMutationApartIsMerged V W =
+    (scene : Scene V) (answer : Call V → W → Answer V) (effect : Call V → W → W) (world : W) (n : ℕ)
+    → AgreesInside scene n
+    → serial_apart_response scene answer effect world n
+    ≡ serial_response scene answer effect world n
 
 -- the set of each field that is collected in a set nests within the levels of that set
 abbrev pub CollectedNest : Type 0

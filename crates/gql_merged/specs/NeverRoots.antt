@@ -18,10 +18,8 @@ use Rattle.gql_schema.specs.TableReading.{Declared}
 use Rattle.gql_select.specs.Alike.{arguments_of, name_of}
 use Rattle.gql_select.specs.Collected.{own_selections}
 use Rattle.gql_select.specs.Constants.{constants}
-use Rattle.gql_select.specs.Documents.{reading}
-use Rattle.gql_select.specs.Reading.{merged}
-use Rattle.gql_merged.specs.Basis.{execution_of, setting_by}
-use Rattle.gql_merged.specs.FieldsWithin.{collected}
+use Rattle.gql_merged.specs.Basis.{execution_of}
+use Rattle.gql_merged.specs.Grouped.{groups_in}
 use Rattle.gql_merged.specs.Jobs.{asked_by_job, completed_by, Job, job_at, job_of, jobs_at}
 use Rattle.gql_merged.specs.Jobs.{jobs_at_as, jobs_beneath, jobs_of_as}
 use Rattle.gql_merged.specs.Stored.{Spot, spots}
@@ -112,8 +110,7 @@ module _ {V : Type 0} (root : Bool) where
   pub jobs_as : (basis : Basis) (selections : List (Positioned Selection)) (spot : Spot V)
       → AllByRecursion IsJobAs (jobs_at_as root basis selections spot)
   jobs_as basis selections spot =
-      members_as basis spot
-      (merged (reading (setting_by basis)) (collected basis spot.object selections))
+      members_as basis spot (groups_in root basis spot.object selections)
 
 module _ {V : Type 0} where
   -- a task isn't a root of a mutation

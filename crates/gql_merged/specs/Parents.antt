@@ -9,7 +9,7 @@ use Rattle.gql_doc.specs.declared.document.Selection.{Selection}
 use Rattle.gql_resolve.specs.Call.{is_mutation}
 use Rattle.gql_resolve.specs.declared.field_value.FieldValue.{FieldValue}
 use Rattle.gql_merged.specs.Jobs.{Job, jobs_by, jobs_by_as}
-use Rattle.gql_merged.specs.Levels.{Asked, asked_in, members_of}
+use Rattle.gql_merged.specs.Levels.{Asked, asked_in_as, members_of}
 use Rattle.gql_merged.specs.Steps.{path_of}
 use Rattle.gql_merged.specs.Stored.{Spot}
 use Rattle.gql_merged.specs.declared.basis.Basis.{Basis}
@@ -60,10 +60,15 @@ module _ {V : Type 0} where
   abbrev pub standing_behind : Rc (Parent V) Global → Standing V
   standing_behind parent = standing_of parent.value
 
-  -- an object whose fields are asked in selections
+  -- an object whose fields are asked in selections, as root keys of a mutation or as others
+  abbrev pub standing_at_as : (is_root : Bool) → Basis → List (Positioned Selection) → Spot V
+      → Standing V
+  standing_at_as is_root basis selections spot =
+      record { spot = spot; members = asked_in_as is_root basis spot.object selections }
+
+  -- as others
   abbrev pub standing_at : Basis → List (Positioned Selection) → Spot V → Standing V
-  standing_at basis selections spot =
-      record { spot = spot; members = asked_in basis spot.object selections }
+  standing_at basis selections spot = standing_at_as false basis selections spot
 
   -- whether the tasks of an object are roots of a mutation: they stand at the root of one
   abbrev pub rooted : Held V → Asked → Bool

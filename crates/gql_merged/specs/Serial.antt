@@ -1,5 +1,6 @@
--- Merged execution of a mutation: its root keys one after another (GraphQL, October 2021, sections
--- 6.2.2 and 6.3.1).
+-- The execution of a mutation: its root keys one after another, each merged over its occurrences
+-- (GraphQL, October 2021, sections 6.2.2 and 6.3.1). Beneath them each key is answered once by
+-- merged execution, and each occurrence by apart execution.
 use Rattle.std.specs.Prelude.{◌≡◌, ℕ, zero, suc, true, false, List, [], ◌∷◌, Option, Some}
 use Rattle.gql_doc.specs.declared.document.Field.{Field}
 use Rattle.gql_doc.specs.declared.document.Positioned.{Positioned}
@@ -7,37 +8,56 @@ use Rattle.gql_doc.specs.declared.document.Selection.{Selection}
 use Rattle.gql_engine.specs.Arena.{Work}
 use Rattle.gql_engine.specs.Phases.{answer_between, Serving}
 use Rattle.gql_engine.specs.declared.scene.Scene.{Scene}
-use Rattle.gql_meaning.specs.Responses.{Asked, Members, placed, root_place, world_after}
+use Rattle.gql_meaning.specs.Responses.{Asked, Members, placed, world_after}
+use Rattle.gql_place.specs.Join.{join}
 use Rattle.gql_place.specs.declared.place.Place.{Place}
 use Rattle.gql_resolve.specs.Call.{Call}
 use Rattle.gql_resolve.specs.declared.answer.Answer.{Answer}
 use Rattle.gql_resolve.specs.declared.field_value.FieldValue.{FieldValue}
+use Rattle.gql_select.specs.Collected.{own_selections}
 use Rattle.gql_select.specs.Documents.{reading}
-use Rattle.gql_select.specs.Grouped.{Mutating, serial_grouped, world_behind}
+use Rattle.gql_select.specs.Grouped.{in_turn, Mutating, serial_grouped, serial_respond, world_behind}
 use Rattle.gql_select.specs.Reading.{merged}
 use Rattle.gql_merged.specs.Assembling.{IsRight}
 use Rattle.gql_merged.specs.Basis.{execution_of, setting_by}
 use Rattle.gql_merged.specs.FieldsWithin.{collected}
 use Rattle.gql_merged.specs.Jobs.{Job, jobs_at_as}
-use Rattle.gql_merged.specs.Run.{basis_of, job_subject, root_selections, root_spot}
+use Rattle.gql_merged.specs.Merged.{members_by}
+use Rattle.gql_merged.specs.Run.{basis_by, basis_of, job_subject, place_at_root, root_selections}
+use Rattle.gql_merged.specs.Run.{root_spot}
+use Rattle.gql_merged.specs.declared.basis.Grouping.{Grouping}
+use Rattle.gql_merged.specs.declared.basis.Grouping.TheVariants as grouping
 
 -- how many of so many levels of sets stand beneath the root's
 abbrev pub levels_beneath : ℕ → ℕ
 levels_beneath zero = zero
 levels_beneath (suc n) = n
 
-module _ {V : Type 0} (scene : Scene V) where
+module _ {V : Type 0} (by : Grouping) (scene : Scene V) where
   -- the tasks of the root keys that ask an answer, in their order
-  abbrev pub key_jobs : List (Job V)
-  key_jobs = jobs_at_as true (basis_of scene) (root_selections scene) (root_spot scene)
-
-  -- before the first of them no task is made
-  abbrev pub no_jobs : List (Job V)
-  no_jobs = []
+  abbrev pub key_jobs_by : List (Job V)
+  key_jobs_by = jobs_at_as true (basis_by by scene) (root_selections scene) (root_spot scene)
 
   -- what the execution has to do, one of these after another
+  abbrev pub key_work_by : Work V (Job V)
+  key_work_by = record { subject = job_subject; first = key_jobs_by }
+
+module _ {V : Type 0} (scene : Scene V) where
+  -- the tasks of the root keys in merged execution
+  abbrev pub key_jobs : List (Job V)
+  key_jobs = key_jobs_by grouping.ByKey scene
+
+  -- what merged execution has to do
   abbrev pub key_work : Work V (Job V)
-  key_work = record { subject = job_subject; first = key_jobs }
+  key_work = key_work_by grouping.ByKey scene
+
+  -- what apart execution has to do: beneath its roots each occurrence is a task of its own
+  abbrev pub apart_key_work : Work V (Job V)
+  apart_key_work = key_work_by grouping.Each scene
+
+  -- before the first root key no task is made
+  abbrev pub no_jobs : List (Job V)
+  no_jobs = []
 
   -- what the operation asks for
   abbrev pub root_asked : Asked V
@@ -64,15 +84,34 @@ module _ {V : Type 0} (scene : Scene V) where
       place = λ world. placed (execution_of (basis_of scene)) false (λ call. answer call world);
     }
 
-    -- the members of the root, so many levels of sets deep
+    -- the members of the root by merged execution, so many levels of sets deep
     abbrev pub serial_members : W → ℕ → Members
     serial_members world n = serial_grouped answering (levels_beneath n) (root_spot scene).object
         (root_spot scene).parent (root_selections scene) world
 
     -- the place of the whole response
     abbrev pub serial_response : W → ℕ → Place
-    serial_response world n =
-        root_place scene.env.now.operation.pos (serial_members world n)
+    serial_response world n = place_at_root scene (serial_members world n)
+
+    -- the same by apart execution
+    abbrev pub serial_apart_response : W → ℕ → Place
+    serial_apart_response world n =
+        place_at_root scene
+        (serial_respond answering join (levels_beneath n) (root_spot scene).object
+        (root_spot scene).parent (root_selections scene) world)
+
+    -- the members of the root, where occurrences beneath it are grouped so
+    abbrev pub serial_members_by : Grouping → W → ℕ → Members
+    serial_members_by by world n =
+        in_turn answering.effect
+        (λ before behind field. answering.root before (root_spot scene).object
+        (root_spot scene).parent field (λ object parent. members_by (basis_by by scene)
+        (λ call. answer call behind) (levels_beneath n) object parent (own_selections field)))
+        world keys_of
+
+    -- the place of the whole response
+    abbrev pub serial_response_by : Grouping → W → ℕ → Place
+    serial_response_by by world n = place_at_root scene (serial_members_by by world n)
 
   -- the world behind all root keys
   abbrev pub last_world_of : {W : Type 0} → (Call V → W → W) → W → W

@@ -1,9 +1,10 @@
 ghost use Rattle.std.specs.Prelude.{◌≡◌, length};
+ghost use Rattle.gql_merged.specs.KeyNames.{names_in};
 
-use gql_base::Pairs;
+use crate::key_names::Keys;
 use gql_doc::{Field, Positioned};
 
-/// The occurrences of one key. The first of them counts, with the sets of all.
+/// Occurrences of one key. The first of them counts, with the sets of all.
 #[derive(Drop)]
 pub struct Group<'a> {
     pub first: &'a Positioned<Field>,
@@ -13,7 +14,7 @@ pub struct Group<'a> {
 /// Groups under their keys, in the order of first occurrences.
 #[derive(Drop)]
 pub struct Groups<'a> {
-    pub keys: Pairs<()>,
+    pub keys: Keys,
     pub groups: Vec<Group<'a>>,
-    pub ghost paired: { length groups.items ≡ length keys },
+    pub ghost paired: { length groups.items ≡ length (names_in keys) },
 }

@@ -1,6 +1,8 @@
-//! Laws on how the places of tasks are put together. Each is the contract of a function without
-//! parameters.
+//! Laws on how the places of tasks are put together, and on what merged and apart execution have in
+//! common. Each is the contract of a function without parameters.
 
+ghost use Rattle.gql_merged.specs.MergedLaws.{AgreeingApartIsMerged};
+ghost use Rattle.gql_merged.specs.MergedLaws.{AgreeingMutationApartIsMerged};
 ghost use Rattle.gql_merged.specs.MergedLaws.{CollectedNest, FieldsAskTheirCalls, MembersAreMerged};
 ghost use Rattle.gql_merged.specs.MergedLaws.{TasksAreJobs, TreesAreMerged};
 
@@ -30,4 +32,15 @@ pub fn tasks_are_jobs<V>()
 /// The set of each field that an object has in a set nests within the levels of that set.
 pub fn collected_sets_nest()
     ensures { CollectedNest }
+{}
+
+/// Where the fields of one key agree, answering each occurrence apart and joining the places is
+/// merged execution (section 6.3.2).
+pub fn agreeing_apart_is_merged<V>()
+    ensures { AgreeingApartIsMerged V }
+{}
+
+/// The same of a mutation, whose root keys are answered one after another (section 6.2.2).
+pub fn agreeing_mutation_apart_is_merged<V, W>()
+    ensures { AgreeingMutationApartIsMerged V W }
 {}

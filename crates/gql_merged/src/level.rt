@@ -4,11 +4,13 @@ ghost use Rattle.std.proofs.Props.{props};
 ghost use Rattle.gql_doc.specs.Depth.{field_set};
 ghost use Rattle.gql_request.specs.QueryEnv.{NestsIn};
 ghost use Rattle.gql_merged.specs.Groups.{item_of, united};
+ghost use Rattle.gql_merged.specs.KeyNames.{names_in};
 
 use crate::asks::Asks;
 use crate::basis::Basis;
 use crate::group::Group;
-use gql_base::{Name, Pairs};
+use crate::key_names::Keys;
+use gql_base::Name;
 use gql_doc::Field;
 use std::rc::Rc;
 
@@ -28,7 +30,7 @@ pub struct Node<'a> {
 #[derive(Drop)]
 pub struct Level<'a> {
     pub object: Name,
-    pub keys: Pairs<()>,
+    pub keys: Keys,
     pub nodes: Vec<Rc<Node<'a>>>,
-    pub ghost paired: { length nodes.items ≡ length keys },
+    pub ghost paired: { length nodes.items ≡ length (names_in keys) },
 }

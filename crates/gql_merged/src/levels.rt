@@ -4,20 +4,20 @@ ghost use Rattle.std.specs.Prelude.{◌≡◌, ◌++◌, map, IfOk, OnOk};
 ghost use Rattle.gql_doc.specs.Depth.{field_set};
 ghost use Rattle.gql_request.specs.QueryEnv.{NestsIn};
 ghost use Rattle.gql_select.specs.Collected.{own_selections};
-ghost use Rattle.gql_select.specs.Documents.{reading};
-ghost use Rattle.gql_select.specs.Reading.{merged};
 ghost use Rattle.gql_merged.specs.Basis.{setting_by};
 ghost use Rattle.gql_merged.specs.Behind.{all_behind};
 ghost use Rattle.gql_merged.specs.FieldsWithin.{collected};
+ghost use Rattle.gql_merged.specs.Grouped.{groups_by};
 ghost use Rattle.gql_merged.specs.Groups.{united};
 ghost use Rattle.gql_merged.specs.Levels.{asked_behind, asked_by, asked_of, asked_on, members_of};
 ghost use Rattle.gql_merged.specs.Within.{AllNest};
 
 use crate::asking::asks_for;
-use crate::basis::Basis;
+use crate::basis::{Basis, Grouping};
 use crate::fields_within::{add_fields, collect_fields};
 use crate::group::{Group, Groups};
 use crate::grouping::group_fields;
+use crate::key_names::Keys;
 use crate::level::{Level, Node};
 use crate::uniting::item_for;
 use gql_base::{Made, Name};
@@ -59,11 +59,13 @@ fn add_occurrence_fields<'a>(
     add_fields(basis, basis.env.levels(), object, selections, fields)
 }
 
-/// The level of an object with these fields, whose sets nest within the levels of the request.
+/// The level of an object with these fields, grouped so, whose sets nest within the levels of the
+/// request.
 #[tactic(auto, using(crate::proofs::LevelLemmas::asked_zipped))]
 pub fn level_of<'a>(
     alloc: Global,
     basis: &Basis<'a>,
+    grouping: Grouping,
     object: &str,
     fields: Vec<&'a Positioned<Field>>,
 ) -> Made<Level<'a>>
@@ -71,15 +73,25 @@ pub fn level_of<'a>(
     ensures object { IfOk result (λ level. level.object ≡ object.now) }
     ensures members { IfOk result (λ level. members_of level
         ≡ asked_on basis.entry.now object.now
-        (merged (reading (setting_by basis.entry.now)) (all_behind fields.entry.items))) }
+        (groups_by grouping (setting_by basis.entry.now) (all_behind fields.entry.items))) }
 {
-    let Groups { keys, groups } = group_fields(alloc, fields)?;
+    let Groups { keys, groups } = group_fields(alloc, grouping, fields)?;
     let nodes = nodes_of(alloc, basis, object, groups)?;
     Ok(Level {
         object: Name::new(alloc, object)?,
-        keys: keys.shared(alloc)?,
+        keys: shared(alloc, keys)?,
         nodes,
     })
+}
+
+/// The same keys; where each stands once, copies share them from here on.
+fn shared(alloc: Global, keys: Keys) -> Made<Keys>
+    ensures { IfOk result (λ made. made ≡ keys) }
+{
+    match keys {
+        Keys::Once(pairs) => Ok(Keys::Once(pairs.shared(alloc)?)),
+        Keys::Each(names) => Ok(Keys::Each(names)),
+    }
 }
 
 /// Groups with what each asks on an object.

@@ -1,9 +1,11 @@
-//! Merged execution, part by part (GraphQL, October 2021, sections 6.3 and 6.4): the fields that an
-//! object has in a set, collected and merged under their keys, with what each asks; what an answer
-//! comes to by its type; and places that are put together of those beneath; the plan that runs the
-//! parts as tasks; and `run_merged`, the whole execution of a query.
+//! Execution, part by part (GraphQL, October 2021, sections 6.3 and 6.4): the fields that an object
+//! has in a set, collected and put into groups under their keys, with what each asks; what an
+//! answer comes to by its type; and places that are put together of those beneath; the plan that
+//! runs the parts as tasks; and the whole execution of a query or a mutation: merged, where each
+//! key of a set is one task, or apart, where each occurrence of a field is one.
 #![tactic(auto)]
 
+mod apart;
 mod argument_values;
 mod asking;
 mod asks;
@@ -15,12 +17,15 @@ mod filling;
 mod giving;
 mod group;
 mod grouping;
+mod joining;
 mod kept;
+mod key_names;
 mod keys;
 pub mod laws;
 mod level;
 mod levels;
 mod members;
+mod merged;
 mod mutation;
 mod naming;
 mod parent;
@@ -34,12 +39,15 @@ mod task_making;
 mod tree_plan;
 mod uniting;
 
+pub use apart::{run_apart, run_apart_counted};
 pub use asks::Asks;
-pub use basis::Basis;
+pub use basis::{Basis, Grouping};
 pub use completing::complete_result;
 pub use filling::fill;
 pub use group::{Group, Groups};
+pub use key_names::Keys;
 pub use level::{Level, Node};
 pub use levels::{fields_beneath, level_of};
-pub use mutation::run_mutation_counted;
-pub use run::{run_merged, run_merged_counted};
+pub use merged::{run_merged, run_merged_counted};
+pub use mutation::{run_mutation_apart_counted, run_mutation_counted, run_mutation_grouped};
+pub use run::run_grouped;

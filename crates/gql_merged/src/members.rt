@@ -1,15 +1,15 @@
 //! The members of an object, of the places of its fields (GraphQL, October 2021, section 6.3).
 ghost use Rattle.std.specs.Prelude.{◌≡◌, [], ◌∷◌, map, IfOk, MatchOption, OnOk};
-ghost use Rattle.std.specs.List.{zip};
-ghost use Rattle.gql_base.specs.Pairs.{names_of};
 ghost use Rattle.gql_merged.specs.Assembled.{absent_place, first_place, other_places, place_of};
 ghost use Rattle.gql_merged.specs.Assembled.{places_behind, places_behind_all, places_with};
-ghost use Rattle.gql_merged.specs.Assembled.{typename_place};
+ghost use Rattle.gql_merged.specs.Assembled.{typename_place, united_members};
 ghost use Rattle.gql_merged.specs.Groups.{united};
+ghost use Rattle.gql_merged.specs.KeyNames.{names_in};
 ghost use Rattle.gql_merged.specs.Levels.{asked_behind};
 ghost use Rattle.gql_merged.specs.Standing.{present};
 
 use crate::asks::Asks;
+use crate::joining::members_under;
 use crate::level::{Level, Node};
 use gql_base::{Items, Made, Pairs, Pos, Text, Value};
 use gql_place::{Place, Tree};
@@ -17,21 +17,21 @@ use std::alloc::Global;
 use std::collections::VecDeque;
 use std::rc::Rc;
 
-/// The members of an object: each of its fields under its key, where those that ask an answer take
-/// the places that are there from the front, one after another.
+/// The members of an object: its fields under their keys, where those that ask an answer take the
+/// places that are there from the front, one after another, and places of one key are joined.
 pub(crate) fn members_at(
     alloc: Global,
     level: &Level<'_>,
     places: &mut VecDeque<Option<Place>>,
 ) -> Made<Pairs<Place>>
-    ensures members { IfOk result (λ members. members ≡ zip (names_of level.now.keys)
+    ensures members { IfOk result (λ members. members ≡ united_members (names_in level.now.keys)
         (places_with level.now.object (map asked_behind level.now.nodes.items)
         (present places.old.items))) }
     ensures left { OnOk result (present places.new.items
         ≡ places_behind_all (map asked_behind level.now.nodes.items) (present places.old.items)) }
 {
     let own = places_of(alloc, level.object.as_str(), level.nodes.as_slice(), places)?;
-    level.keys.with_values(alloc, own)
+    members_under(alloc, &level.keys, own)
 }
 
 /// The places of an object's fields.

@@ -1,6 +1,6 @@
-//! Merged execution of an operation that is no mutation (GraphQL, October 2021, section 6.2.1).
-ghost use Rattle.std.specs.Prelude.{ℕ, ◌≡◌, ◌<◌, ◌+◌, [], false, length, take, IfOk, IfErr, OnOk};
-ghost use Rattle.std.specs.Prelude.{OnErr};
+//! The execution of an operation that is no mutation (GraphQL, October 2021, section 6.2.1),
+//! whatever its occurrences are grouped by.
+ghost use Rattle.std.specs.Prelude.{ℕ, ◌≡◌, ◌+◌, false, take, IfOk, IfErr, OnErr, OnOk};
 ghost use Rattle.gql_engine.specs.Parts.{due_by};
 ghost use Rattle.gql_engine.specs.Progress.{RunsWhole, RunStopped, seen};
 ghost use Rattle.gql_engine.specs.Rounds.{RoundsWhole, RoundsStopped};
@@ -9,16 +9,18 @@ ghost use Rattle.gql_meaning.specs.Responses.{root_place};
 ghost use Rattle.gql_resolve.specs.Call.{Call, is_mutation};
 ghost use Rattle.gql_resolve.specs.declared.answer.Answer.{Answer};
 ghost use Rattle.gql_merged.specs.Assembling.{AllHeld, IsAssembled};
+ghost use Rattle.gql_merged.specs.Counted.{count_by};
 ghost use Rattle.gql_merged.specs.Fitting.{entries_in};
+ghost use Rattle.gql_merged.specs.Grouped.{grouping_at};
 ghost use Rattle.gql_merged.specs.Jobs.{asked_by_job};
-ghost use Rattle.gql_merged.specs.Levels.{asked_in, members_of};
-ghost use Rattle.gql_merged.specs.Parents.{jobs_here, standing_at, standing_behind};
-ghost use Rattle.gql_merged.specs.Run.{basis_of, merged_response, merged_work, Nests, own_jobs};
-ghost use Rattle.gql_merged.specs.Run.{root_jobs, root_selections, root_spot};
+ghost use Rattle.gql_merged.specs.Levels.{asked_in_as, members_of};
+ghost use Rattle.gql_merged.specs.Parents.{jobs_here, standing_at_as, standing_behind};
+ghost use Rattle.gql_merged.specs.Run.{basis_by, Nests, own_jobs_by, response_by, root_jobs_by};
+ghost use Rattle.gql_merged.specs.Run.{root_selections, root_spot, work_by};
 ghost use Rattle.gql_merged.specs.Tasks.{jobs_in};
 
 use crate::assembling::{add_open, assemble};
-use crate::basis::Basis;
+use crate::basis::{Basis, Grouping};
 use crate::fields_within::collect_fields;
 use crate::level::Level;
 use crate::levels::level_of;
@@ -27,80 +29,22 @@ use crate::parent::{Held, Parent};
 use crate::task_making::make_tasks;
 use crate::tree_plan::TreePlan;
 use gql_base::{Items, Made, NoMemory, Pairs, Pos, Steps};
+use gql_doc::OperationType;
 use gql_engine::{Rounds, Scene, finish, fresh_arena};
 use gql_place::{Place, Tree};
-use gql_request::Hooks;
 use gql_resolve::{ResolverSet, Turns};
 use std::alloc::Global;
 use std::collections::VecDeque;
-use std::marker::Brand;
 use std::rc::Rc;
-use std::sync::ledger::{Blank, Ledger};
+use std::sync::ledger::Ledger;
 
-/// The place of the whole response of a query: each key of a set is one task, and the tasks take
-/// the turns that are chosen for them.
-pub fn run_merged<R: ResolverSet, P: Turns>(
+/// The place of the whole response of a query: each group of occurrences is one task, and the tasks
+/// take the turns that are chosen for them. Each start of a resolver that answered is a step, so
+/// that as many steps are taken as answers are asked. The hooks of each task are entered once,
+/// before its resolver is started.
+pub fn run_grouped<R: ResolverSet, H: Rounds, P: Turns, S: Ledger>(
     alloc: Global,
-    scene: &Scene<'_, R::Own>,
-    resolvers: &mut R,
-    hooks: &mut Hooks,
-    turns: &mut P,
-) -> Result<Place, NoMemory>
-    requires { is_mutation scene.now.env.now.operation.node.ty ≡ false }
-    ensures places { R.is_lawful resolvers.old → (n : ℕ) → Nests scene.now n
-        → IfOk result (λ place. place
-        ≡ merged_response scene.now (due_by R.ResolverSet resolvers.old) n) }
-    ensures rules { R.rules resolvers.new ≡ R.rules resolvers.old }
-    ensures lawful { R.is_lawful resolvers.old → R.is_lawful resolvers.new }
-    ensures paced { R.is_paced resolvers.old → R.is_paced resolvers.new }
-    ensures world { R.is_lawful resolvers.old → R.world resolvers.new ≡ R.world resolvers.old }
-    ensures record { R.is_lawful resolvers.old → OnOk result
-        (RunsWhole R.ResolverSet P.Turns (merged_work scene.now)
-        (seen resolvers.old turns.old) (seen resolvers.new turns.new)) }
-    ensures stopped { R.is_lawful resolvers.old → OnErr result
-        (RunStopped R.ResolverSet P.Turns (merged_work scene.now)
-        (seen resolvers.old turns.old) (seen resolvers.new turns.new)) }
-    ensures roots { IfErr result (λ want. want.roots ≡ 0) }
-{
-    run_on_blank::<R, P, Brand>(alloc, scene, resolvers, hooks, turns, Blank::new(1))
-}
-
-/// The same with steps that nobody looks at.
-fn run_on_blank<R: ResolverSet, P: Turns, S: Ledger>(
-    alloc: Global,
-    scene: &Scene<'_, R::Own>,
-    resolvers: &mut R,
-    hooks: &mut Hooks,
-    turns: &mut P,
-    blank: Blank,
-) -> Result<Place, NoMemory>
-    requires query { is_mutation scene.now.env.now.operation.node.ty ≡ false }
-    requires name { blank.name ≡ S.name }
-    requires parts { blank.parts ≡ S.parts }
-    requires some { 0 < blank.parts }
-    ensures places { R.is_lawful resolvers.old → (n : ℕ) → Nests scene.now n
-        → IfOk result (λ place. place
-        ≡ merged_response scene.now (due_by R.ResolverSet resolvers.old) n) }
-    ensures rules { R.rules resolvers.new ≡ R.rules resolvers.old }
-    ensures lawful { R.is_lawful resolvers.old → R.is_lawful resolvers.new }
-    ensures paced { R.is_paced resolvers.old → R.is_paced resolvers.new }
-    ensures world { R.is_lawful resolvers.old → R.world resolvers.new ≡ R.world resolvers.old }
-    ensures record { R.is_lawful resolvers.old → OnOk result
-        (RunsWhole R.ResolverSet P.Turns (merged_work scene.now)
-        (seen resolvers.old turns.old) (seen resolvers.new turns.new)) }
-    ensures stopped { R.is_lawful resolvers.old → OnErr result
-        (RunStopped R.ResolverSet P.Turns (merged_work scene.now)
-        (seen resolvers.old turns.old) (seen resolvers.new turns.new)) }
-    ensures roots { IfErr result (λ want. want.roots ≡ 0) }
-{
-    let mut steps: Steps<S> = Steps::new(blank);
-    run_merged_counted(alloc, scene, resolvers, hooks, turns, &mut steps)
-}
-
-/// The same with the rounds of any hooks, where each start of a resolver that answered is a step.
-/// The hooks of each task are entered once, before its resolver is started.
-pub fn run_merged_counted<R: ResolverSet, H: Rounds, P: Turns, S: Ledger>(
-    alloc: Global,
+    by: Grouping,
     scene: &Scene<'_, R::Own>,
     resolvers: &mut R,
     hooks: &mut H,
@@ -110,27 +54,30 @@ pub fn run_merged_counted<R: ResolverSet, H: Rounds, P: Turns, S: Ledger>(
     requires { is_mutation scene.now.env.now.operation.node.ty ≡ false }
     ensures places { R.is_lawful resolvers.old → H.are_quiet hooks.old → (n : ℕ)
         → Nests scene.now n → IfOk result (λ place. place
-        ≡ merged_response scene.now (due_by R.ResolverSet resolvers.old) n) }
+        ≡ response_by by scene.now (due_by R.ResolverSet resolvers.old) n) }
     ensures rules { R.rules resolvers.new ≡ R.rules resolvers.old }
     ensures lawful { R.is_lawful resolvers.old → R.is_lawful resolvers.new }
     ensures paced { R.is_paced resolvers.old → R.is_paced resolvers.new }
     ensures world { R.is_lawful resolvers.old → R.world resolvers.new ≡ R.world resolvers.old }
     ensures quiet { H.are_quiet hooks.old → H.are_quiet hooks.new }
     ensures record { R.is_lawful resolvers.old → H.are_quiet hooks.old → OnOk result
-        (RunsWhole R.ResolverSet P.Turns (merged_work scene.now)
+        (RunsWhole R.ResolverSet P.Turns (work_by by scene.now)
         (seen resolvers.old turns.old) (seen resolvers.new turns.new)) }
     ensures stopped { R.is_lawful resolvers.old → H.are_quiet hooks.old → OnErr result
-        (RunStopped R.ResolverSet P.Turns (merged_work scene.now)
+        (RunStopped R.ResolverSet P.Turns (work_by by scene.now)
         (seen resolvers.old turns.old) (seen resolvers.new turns.new)) }
     ensures roots { IfErr result (λ want. want.roots ≡ 0) }
     ensures rounds { OnOk result (RoundsWhole asked_by_job H.Rounds
-        (root_jobs scene.now) hooks.old hooks.new) }
+        (root_jobs_by by scene.now) hooks.old hooks.new) }
     ensures unfinished { OnErr result (RoundsStopped asked_by_job H.Rounds
-        (root_jobs scene.now) hooks.old hooks.new) }
+        (root_jobs_by by scene.now) hooks.old hooks.new) }
     ensures counted { IsCounted (R.begun resolvers.old) (R.begun resolvers.new)
         steps.old steps.new }
+    ensures asked { R.is_lawful resolvers.old → H.are_quiet hooks.old → (n : ℕ)
+        → Nests scene.now n → OnOk result (steps.new ≡ steps.old
+        + count_by scene.now (due_by R.ResolverSet resolvers.old) n by) }
 {
-    let root = root_of(alloc, scene)?;
+    let root = root_of(alloc, by, scene)?;
     let mut plan = plan_of(alloc, &root)?;
     let mut arena = fresh_arena(alloc, plan.tasks.len())?;
     finish(alloc, &mut plan, &mut arena, resolvers, hooks, turns, steps)?;
@@ -138,13 +85,18 @@ pub fn run_merged_counted<R: ResolverSet, H: Rounds, P: Turns, S: Ledger>(
 }
 
 /// The object at the root with its fields.
-pub(crate) fn root_of<'a, V: Drop>(alloc: Global, scene: &Scene<'a, V>) -> Made<Rc<Parent<'a, V>>>
+pub(crate) fn root_of<'a, V: Drop>(
+    alloc: Global,
+    by: Grouping,
+    scene: &Scene<'a, V>,
+) -> Made<Rc<Parent<'a, V>>>
     ensures stands { IfOk result (λ root. standing_behind root
-        ≡ standing_at (basis_of scene.entry.now) (root_selections scene.entry.now)
+        ≡ standing_at_as (is_mutation scene.entry.now.env.now.operation.node.ty)
+        (basis_by by scene.entry.now) (root_selections scene.entry.now)
         (root_spot scene.entry.now)) }
-    ensures jobs { IfOk result (λ root. jobs_here root.value ≡ own_jobs scene.entry.now) }
+    ensures jobs { IfOk result (λ root. jobs_here root.value ≡ own_jobs_by by scene.entry.now) }
 {
-    let level = Rc::new(alloc, root_level(alloc, scene)?)?;
+    let level = Rc::new(alloc, root_level(alloc, by, scene)?)?;
     let root = Rc::new(
         alloc,
         Parent {
@@ -156,10 +108,11 @@ pub(crate) fn root_of<'a, V: Drop>(alloc: Global, scene: &Scene<'a, V>) -> Made<
 }
 
 /// The fields of the root.
-fn root_level<'a, V>(alloc: Global, scene: &Scene<'a, V>) -> Made<Level<'a>>
+fn root_level<'a, V>(alloc: Global, by: Grouping, scene: &Scene<'a, V>) -> Made<Level<'a>>
     ensures object { IfOk result (λ level. level.object ≡ (root_spot scene.entry.now).object) }
     ensures members { IfOk result (λ level. members_of level
-        ≡ asked_in (basis_of scene.entry.now) (root_spot scene.entry.now).object
+        ≡ asked_in_as (is_mutation scene.entry.now.env.now.operation.node.ty)
+        (basis_by by scene.entry.now) (root_spot scene.entry.now).object
         (root_selections scene.entry.now)) }
 {
     let basis = Basis {
@@ -168,11 +121,24 @@ fn root_level<'a, V>(alloc: Global, scene: &Scene<'a, V>) -> Made<Level<'a>>
         query: scene.query,
         entities: scene.entities,
         layers: scene.layers,
+        grouping: by,
     };
     let object = scene.object.type_name();
     let selections = scene.env.operation.node.selection_set.node.items.as_slice();
     let fields = collect_fields(alloc, &basis, object, selections)?;
-    level_of(alloc, &basis, object, fields)
+    let own = grouping_for(scene.env.operation.node.ty, by);
+    level_of(alloc, &basis, own, object, fields)
+}
+
+/// How the root's occurrences are grouped: those of a mutation by their keys.
+fn grouping_for(ty: OperationType, by: Grouping) -> Grouping
+    ensures { result ≡ grouping_at (is_mutation ty) by }
+{
+    match ty {
+        OperationType::Query => by,
+        OperationType::Mutation => Grouping::ByKey,
+        OperationType::Subscription => by,
+    }
 }
 
 /// The plan that begins with the tasks of the root.

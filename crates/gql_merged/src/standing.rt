@@ -122,5 +122,5 @@ fn make_level<'a>(alloc: Global, node: &Node<'a>, object: &str) -> Made<Level<'a
     ensures { IfOk result (λ level. IsBeneath node.entry.now object.now level) }
 {
     let fields = fields_beneath(alloc, &node.basis, object, &node.group)?;
-    level_of(alloc, &node.basis, object, fields)
+    level_of(alloc, &node.basis, node.basis.grouping, object, fields)
 }

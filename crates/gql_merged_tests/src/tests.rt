@@ -1,5 +1,5 @@
-//! Responses to queries and mutations, under turns that take the first task that waits and under
-//! such that take the last.
+//! Responses to queries and mutations, by merged and by apart execution, under turns that take the
+//! first task that waits and under such that take the last.
 use crate::answers::Answers;
 use crate::scenes::{LISTS, response_of};
 use gql_base::{Made, NoMemory};
@@ -28,6 +28,33 @@ impl Turns for Ends {
         if self.last { n - 1 } else { 0 }
     }
 }
+
+/// A way to a response: by apart execution or by merged execution, under turns that take the last
+/// task or the first.
+#[derive(Clone, Copy)]
+struct Way {
+    apart: bool,
+    last: bool,
+}
+
+const WAYS: [Way; 4] = [
+    Way {
+        apart: false,
+        last: false,
+    },
+    Way {
+        apart: false,
+        last: true,
+    },
+    Way {
+        apart: true,
+        last: false,
+    },
+    Way {
+        apart: true,
+        last: true,
+    },
+];
 
 /// Objects and lists, with fragments on them, each query with its response.
 const OBJECTS: [(&str, &str); 6] = [
@@ -58,7 +85,7 @@ const OBJECTS: [(&str, &str); 6] = [
 ];
 
 /// Answers with errors beside them, and such that fail beneath lists and objects.
-const ERRORS: [(&str, &str); 3] = [
+const ERRORS: [(&str, &str); 4] = [
     (
         "{ one { id } one { next { id } } }",
         "{\"one\":{\"id\":1,\"next\":{\"id\":2}}}[{\"message\":\"beside\",\"locations\":[{\"line\":1,\"column\":3}],\"path\":[\"one\"]},{\"message\":\"beside\",\"locations\":[{\"line\":1,\"column\":20}],\"path\":[\"one\",\"next\"]}]",
@@ -66,6 +93,10 @@ const ERRORS: [(&str, &str); 3] = [
     (
         "{ rows { kids { fail } } }",
         "{\"rows\":[{\"kids\":[[null,null],[]]},{\"kids\":[[null,null],[]]}]}[{\"message\":\"boom\",\"locations\":[{\"line\":1,\"column\":17}],\"path\":[\"rows\",0,\"kids\",0,0,\"fail\"]},{\"message\":\"boom\",\"locations\":[{\"line\":1,\"column\":17}],\"path\":[\"rows\",0,\"kids\",0,1,\"fail\"]},{\"message\":\"boom\",\"locations\":[{\"line\":1,\"column\":17}],\"path\":[\"rows\",1,\"kids\",0,0,\"fail\"]},{\"message\":\"boom\",\"locations\":[{\"line\":1,\"column\":17}],\"path\":[\"rows\",1,\"kids\",0,1,\"fail\"]}]",
+    ),
+    (
+        "{ rows { fail } rows { fail } }",
+        "null[{\"message\":\"boom\",\"locations\":[{\"line\":1,\"column\":10}],\"path\":[\"rows\",0,\"fail\"]},{\"message\":\"boom\",\"locations\":[{\"line\":1,\"column\":10}],\"path\":[\"rows\",1,\"fail\"]}]",
     ),
     (
         "{ rows { id fail } }",
@@ -118,23 +149,37 @@ const FAULTS: [(&str, &str); 9] = [
     ),
 ];
 
-/// Whether a query has this response, under turns that take the first task or the last.
-fn has_response(alloc: Global, query: &str, wanted: &str, last: bool) -> Result<bool, NoMemory> {
-    let mut turns = Ends { last };
+/// Whether a query has this response by a way.
+fn has_response(alloc: Global, query: &str, wanted: &str, way: Way) -> Result<bool, NoMemory> {
+    let mut turns = Ends { last: way.last };
     let mut set = Answers { asked: 0 };
-    let response = response_of(alloc, query, &mut set, &mut turns)?;
+    let response = response_of(alloc, way.apart, query, &mut set, &mut turns)?;
     Ok(response.as_str() == wanted)
 }
 
-/// The first query whose response is another.
+/// The first query whose response is another by a way.
+fn first_wrong_by(
+    alloc: Global,
+    table: &[(&'static str, &'static str)],
+    way: Way,
+) -> Result<Option<&'static str>, NoMemory> {
+    for (query, wanted) in table {
+        if !has_response(alloc, query, wanted, way)? {
+            return Ok(Some(*query));
+        }
+    }
+    Ok(None)
+}
+
+/// The first query whose response is another by some way.
 fn first_wrong(
     alloc: Global,
     table: &[(&'static str, &'static str)],
-    last: bool,
 ) -> Result<Option<&'static str>, NoMemory> {
-    for (query, wanted) in table {
-        if !has_response(alloc, query, wanted, last)? {
-            return Ok(Some(*query));
+    for way in WAYS {
+        let wrong = first_wrong_by(alloc, table, way)?;
+        if wrong.is_some() {
+            return Ok(wrong);
         }
     }
     Ok(None)
@@ -146,7 +191,7 @@ fn has_fault(alloc: Global, field: &str, message: &str) -> Result<bool, NoMemory
     let mut set = Answers { asked: 0 };
     let query = format!(in alloc; "{{ {field} }}")?;
     let start = format!(in alloc; "[{{\"message\":\"{message}\",\"locations\"")?;
-    let response = response_of(alloc, query.as_str(), &mut set, &mut turns)?;
+    let response = response_of(alloc, false, query.as_str(), &mut set, &mut turns)?;
     Ok(response.as_str().contains(start.as_str()))
 }
 
@@ -176,36 +221,71 @@ fn nested_response(alloc: Global, levels: usize) -> Made<String> {
     Ok(text)
 }
 
-/// How many resolvers a query starts.
-fn starts_of(alloc: Global, query: &str) -> Result<u64, NoMemory> {
+/// How many resolvers a query starts, by merged or by apart execution.
+fn starts_of(alloc: Global, apart: bool, query: &str) -> Result<u64, NoMemory> {
     let mut turns = Ends { last: false };
     let mut set = Answers { asked: 0 };
-    let _response = response_of(alloc, query, &mut set, &mut turns)?;
+    let _response = response_of(alloc, apart, query, &mut set, &mut turns)?;
     Ok(set.asked)
 }
 
 #[test]
 fn objects_and_lists_have_their_members(rt: HostRuntime) -> Result<(), Fail> {
-    assert_eq!(rt; first_wrong(rt.alloc(), &OBJECTS, false)?, None);
-    assert_eq!(rt; first_wrong(rt.alloc(), &OBJECTS, true)?, None);
+    assert_eq!(rt; first_wrong(rt.alloc(), &OBJECTS)?, None);
     Ok(())
 }
 
 #[test]
 fn errors_have_their_paths(rt: HostRuntime) -> Result<(), Fail> {
-    assert_eq!(rt; first_wrong(rt.alloc(), &ERRORS, false)?, None);
-    assert_eq!(rt; first_wrong(rt.alloc(), &ERRORS, true)?, None);
+    assert_eq!(rt; first_wrong(rt.alloc(), &ERRORS)?, None);
     Ok(())
 }
 
 #[test]
 fn mutations_have_their_root_keys(rt: HostRuntime) -> Result<(), Fail> {
-    assert_eq!(rt; first_wrong(rt.alloc(), &MUTATIONS, false)?, None);
-    assert_eq!(rt; first_wrong(rt.alloc(), &MUTATIONS, true)?, None);
+    assert_eq!(rt; first_wrong(rt.alloc(), &MUTATIONS)?, None);
     assert_eq!(rt;
-        starts_of(rt.alloc(), "mutation { one { id } red one { id name } }")?,
+        starts_of(
+            rt.alloc(),
+            false,
+            "mutation { one { id } red one { id name } }"
+        )?,
         4
     );
+    Ok(())
+}
+
+#[test]
+fn apart_each_occurrence_is_asked(rt: HostRuntime) -> Result<(), Fail> {
+    assert_eq!(rt;
+        starts_of(rt.alloc(), true, "{ one { id } one { id name } }")?,
+        5
+    );
+    assert_eq!(rt;
+        starts_of(rt.alloc(), true, "{ rows { id } rows { id name } }")?,
+        8
+    );
+    assert_eq!(rt;
+        starts_of(
+            rt.alloc(),
+            true,
+            "mutation { one { id } red one { id name } }"
+        )?,
+        5
+    );
+    Ok(())
+}
+
+#[test]
+fn apart_the_first_tree_stays(rt: HostRuntime) -> Result<(), Fail> {
+    let way = Way {
+        apart: true,
+        last: true,
+    };
+    let query = "{ x: one { v: id } x: one { v: name w: name } x: red }";
+    let wanted =
+        "{\"x\":{\"v\":1,\"w\":\"n\"}}[{\"message\":\"beside\",\"locations\":[{\"line\":1,\"column\":3}],\"path\":[\"x\"]}]";
+    assert!(rt; has_response(rt.alloc(), query, wanted, way)?);
     Ok(())
 }
 
@@ -217,14 +297,24 @@ fn answers_of_other_types_are_faults(rt: HostRuntime) -> Result<(), Fail> {
 
 #[test]
 fn a_doubled_key_is_asked_once(rt: HostRuntime) -> Result<(), Fail> {
-    assert_eq!(rt; starts_of(rt.alloc(), "{ one { id } one { id name } }")?, 3);
-    assert_eq!(rt; starts_of(rt.alloc(), "{ rows { id } x: rows { id } }")?, 6);
+    assert_eq!(rt;
+        starts_of(rt.alloc(), false, "{ one { id } one { id name } }")?,
+        3
+    );
+    assert_eq!(rt;
+        starts_of(rt.alloc(), false, "{ rows { id } x: rows { id } }")?,
+        6
+    );
     Ok(())
 }
 
 #[test]
 fn lists_nest_as_deep_as_they_are(rt: HostRuntime) -> Result<(), Fail> {
     let wanted = nested_response(rt.alloc(), LISTS)?;
-    assert!(rt; has_response(rt.alloc(), "{ nested }", wanted.as_str(), true)?);
+    let way = Way {
+        apart: false,
+        last: true,
+    };
+    assert!(rt; has_response(rt.alloc(), "{ nested }", wanted.as_str(), way)?);
     Ok(())
 }

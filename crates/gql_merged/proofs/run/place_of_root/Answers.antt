@@ -1,10 +1,9 @@
 use Rattle.std.proofs.Common.{◌≡◌, ◌≤◌, ◌∙◌, Some, length, take, ap, map, subst, sym}
 use Rattle.std.proofs.lemmas.List.{length-map}
-use Rattle.std.specs.List.{zip}
-use Rattle.gql_base.specs.Pairs.{names_of}
-use Rattle.gql_merged.specs.Assembled.{places_with}
+use Rattle.gql_merged.specs.Assembled.{places_with, united_members}
 use Rattle.gql_merged.specs.Assembling.{IsRight}
 use Rattle.gql_merged.specs.Fitting.{entries_in}
+use Rattle.gql_merged.specs.KeyNames.{names_in}
 use Rattle.gql_merged.specs.Levels.{asked_behind}
 use Rattle.gql_merged.specs.Standing.{Paired, present}
 use Rattle.gql_merged.specs.Tasks.{job_of_task, jobs_in}
@@ -33,6 +32,6 @@ returns g c = λ answer held.
     (subst (λ os. Paired (IsRight answer) (take c.args.plan.roots jobs) (present os)) (sym c.from_vec-own.ensures.items)
     (placed_paired answer c.args.plan.roots jobs c.assemble.new.places.items c.in_ok-assemble.ensures.length
     (subst (λ n. c.args.plan.roots ≤ n) (sym same) (laid_grows c.args.plan.roots (length c.args.plan.tasks.items) (entries_in c.args.plan.kept.items) c.args.plan.laid)) placed))
-    (subst (λ (l : Level). c.in_ok-members.members ≡ zip (names_of l.keys) (places_with l.object (map asked_behind l.nodes.items) own)) level
+    (subst (λ (l : Level). c.in_ok-members.members ≡ united_members (names_in l.keys) (places_with l.object (map asked_behind l.nodes.items) own)) level
     c.in_ok-members.ensures.members)
     c.root_with.ensures

@@ -1,6 +1,6 @@
 use Rattle.std.proofs.Common.{ap, ◌∙◌}
 use Rattle.gql_merged.specs.FieldsWithin.{collected}
-use Rattle.gql_merged.specs.Run.{basis_of}
+use Rattle.gql_merged.specs.Run.{basis_by}
 use Rattle.gql_merged.proofs.RunLemmas.{root_nest}
 use Rattle.gql_merged.proofs.run.root_level.Goals as goal
 
@@ -8,6 +8,6 @@ pub level_of-requires : goal.level_of-requires
 level_of-requires g c =
     let object = c.type_name-object.result.now in
     record {
-      nest = root_nest c.args.scene.now object _
-          (c.in_ok-fields.ensures ∙ ap (collected (basis_of c.args.scene.now) object) c.as_slice-selections.ensures);
+      nest = root_nest c.args.by c.args.scene.now object _
+          (c.in_ok-fields.ensures ∙ ap (collected (basis_by c.args.by c.args.scene.now) object) c.as_slice-selections.ensures);
     }

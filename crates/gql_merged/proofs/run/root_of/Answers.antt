@@ -7,4 +7,4 @@ use Rattle.gql_merged.proofs.run.root_of.Goals as goal
 pub returns-clause-jobs : goal.returns-clause-jobs
 returns-clause-jobs g c =
     ap (λ (p : Parent g.row.V.Denot). jobs_here p) c.in_ok-root.ensures.ok
-    ∙ root_here c.args.scene.now c.in_ok-level.level c.in_ok-root_level.field-0 c.in_ok-level.ensures.ok c.in_ok-root_level.ensures.object c.in_ok-root_level.ensures.members
+    ∙ root_here c.args.by c.args.scene.now c.in_ok-level.level c.in_ok-root_level.field-0 c.in_ok-level.ensures.ok c.in_ok-root_level.ensures.object c.in_ok-root_level.ensures.members

@@ -6,7 +6,7 @@ use Rattle.gql_select.specs.Documents.{both, reading}
 use Rattle.gql_select.specs.Reading.{keyed, merged}
 use Rattle.gql_merged.specs.Behind.{all_behind}
 use Rattle.gql_merged.specs.Groups.{under_keys}
-use Rattle.gql_merged.proofs.grouping.group_fields.Given as goal
+use Rattle.gql_merged.proofs.grouping.group_by_key.Given as goal
 
 abbrev pub invariant-loop-field : goal.invariant-loop-field
 invariant-loop-field l = record {

@@ -1,0 +1,77 @@
+//! Places under their keys, those under one key joined.
+ghost use Rattle.std.specs.Prelude.{◌≡◌, [], length, IfOk, OnOk};
+ghost use Rattle.std.specs.List.{zip};
+ghost use Rattle.gql_base.specs.Pairs.{names_of, unite};
+ghost use Rattle.gql_place.specs.Join.{join as joined};
+ghost use Rattle.gql_merged.specs.Assembled.{united_members};
+ghost use Rattle.gql_merged.specs.KeyNames.{names_in};
+
+use crate::key_names::Keys;
+use gql_base::{Items, Made, Name, Pairs};
+use gql_place::{Place, Tree, join};
+use std::alloc::Global;
+use std::collections::VecDeque;
+use std::mem;
+
+/// Places under keys: those under one key are joined, the first with each one behind it.
+pub(crate) fn members_under(alloc: Global, keys: &Keys, own: Vec<Place>) -> Made<Pairs<Place>>
+    requires { length own.items ≡ length (names_in keys.now) }
+    ensures { IfOk result (λ members. members ≡ united_members (names_in keys.now) own.items) }
+{
+    match keys {
+        Keys::Once(keys) => members_once(alloc, keys, own),
+        Keys::Each(names) => members_joined(alloc, names.as_slice(), VecDeque::from_vec(own)),
+    }
+}
+
+/// The same under keys that stand once each, so that nothing is to be joined.
+#[tactic(auto, using(crate::proofs::GroupingLemmas::once_united, crate::proofs::GroupLemmas::names_long))]
+fn members_once(alloc: Global, keys: &Pairs<()>, own: Vec<Place>) -> Made<Pairs<Place>>
+    requires { length own.items ≡ length (names_of keys.now) }
+    ensures { IfOk result (λ members. members ≡ united_members (names_of keys.now) own.items) }
+{
+    let _count = keys.len();
+    keys.with_values(alloc, own)
+}
+
+/// The same under the keys of all occurrences.
+#[tactic(auto, using(crate::proofs::GroupingLemmas::joined_more, crate::proofs::GroupingLemmas::joined_none))]
+fn members_joined(alloc: Global, names: &[Name], own: VecDeque<Place>) -> Made<Pairs<Place>>
+    ensures { IfOk result (λ members. members ≡ united_members names.now own.items) }
+{
+    let mut own = own;
+    let mut members = Pairs::new(alloc);
+    for name in names {
+        if let Some(place) = own.pop_front() {
+            unite_place(alloc, &mut members, name.as_str(), place)?;
+        }
+    }
+    Ok(members)
+}
+
+/// Adds a place under its key, joined to the one that stands there, if any does.
+#[tactic(auto, using(gql_place::proofs::JoinStepLemmas::joined_alone))]
+fn unite_place(alloc: Global, members: &mut Pairs<Place>, key: &str, place: Place) -> Made<()>
+    ensures { OnOk result (members.new ≡ unite joined members.old key.now place) }
+{
+    match members.get_mut(key) {
+        Some(member) => join_onto(alloc, member, place),
+        None => members.add_fresh(Name::new(alloc, key)?, place),
+    }
+}
+
+/// Joins a second place onto the first.
+fn join_onto(alloc: Global, first: &mut Place, second: Place) -> Made<()>
+    ensures { OnOk result (first.new ≡ joined first.old second) }
+{
+    let nothing = Place {
+        pos: first.pos,
+        non_null: false,
+        added: Items::new(alloc),
+        headers: Items::new(alloc),
+        tree: Tree::Absent,
+    };
+    let whole = mem::replace(first, nothing);
+    *first = join(alloc, whole, second)?;
+    Ok(())
+}
