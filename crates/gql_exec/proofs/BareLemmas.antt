@@ -22,10 +22,12 @@ use Rattle.gql_meaning.specs.Execution.{Asking, Execution, field_asking, setting
 use Rattle.gql_meaning.specs.Responses.{Asked, placed, root_place, world_after}
 use Rattle.gql_merged.specs.Basis.{execution_of}
 use Rattle.gql_merged.specs.Jobs.{Job, completed_by, job_at, job_of, jobs_at, jobs_at_as, jobs_beneath}
-use Rattle.gql_merged.specs.Run.{basis_of, merged_response, merged_work, root_jobs, root_selections, root_spot}
-use Rattle.gql_merged.specs.Serial.{key_jobs, last_world_of, levels_beneath, root_asked, serial_response}
+use Rattle.gql_merged.specs.Grouped.{grouping_at, groups_by}
+use Rattle.gql_merged.specs.Run.{basis_by, basis_of, merged_response, root_jobs_by, root_selections, root_spot, work_by}
+use Rattle.gql_merged.specs.Serial.{key_jobs_by, last_world_of, levels_beneath, root_asked, serial_response}
 use Rattle.gql_merged.specs.Stored.{Spot, spots}
 use Rattle.gql_merged.specs.declared.basis.Basis.{Basis}
+use Rattle.gql_merged.specs.declared.basis.Grouping.{Grouping}
 use Rattle.gql_place.specs.declared.place.Place.{Place}
 use Rattle.gql_resolve.specs.Call.{Call}
 use Rattle.gql_resolve.specs.Layers.{layers_of}
@@ -52,7 +54,7 @@ layers-bare layers = ap (λ first. first ++ layers.query.now ∷ layers.session.
 abbrev with_layers : Execution → List (List (ℕ × Value)) → Execution
 with_layers execution layers = record execution { layers = layers }
 
-execution-bare : (basis : Basis) → execution_of (bare_basis basis) ≡ execution_of basis
+pub execution-bare : (basis : Basis) → execution_of (bare_basis basis) ≡ execution_of basis
 execution-bare basis = ap (with_layers (execution_of basis)) (layers-bare basis.layers)
 
 module _ {A B : Type 0} (f : A → B) where
@@ -81,7 +83,7 @@ module _ {V : Type 0} where
   abbrev jobs_knowing : Bool → Basis → List (Positioned Selection) → Spot V → Execution → List (Job V)
   jobs_knowing root basis selections spot execution =
       flat_map (λ (member : List ℕ × Positioned Field). job_of basis spot member.1 (field_asking root execution spot.object spot.parent member.1))
-      (merged (reading (setting_in execution)) (collect (setting_in execution) spot.object selections))
+      (groups_by (grouping_at root basis.grouping) (setting_in execution) (collect (setting_in execution) spot.object selections))
 
   pub jobs-bare : (root : Bool) (basis : Basis) (selections : List (Positioned Selection)) (spot : Spot V)
       → jobs_at_as root (bare_basis basis) selections spot ≡ map bare_job (jobs_at_as root basis selections spot)
@@ -92,7 +94,7 @@ module _ {V : Type 0} where
       (λ (member : List ℕ × Positioned Field). job_of basis spot member.1 (field_asking root execution spot.object spot.parent member.1))
       (λ (member : List ℕ × Positioned Field). job_of (bare_basis basis) spot member.1 (field_asking root execution spot.object spot.parent member.1))
       (λ member. job-bare basis spot member.1 (field_asking root execution spot.object spot.parent member.1))
-      (merged (reading (setting_in execution)) (collect (setting_in execution) spot.object selections))
+      (groups_by (grouping_at root basis.grouping) (setting_in execution) (collect (setting_in execution) spot.object selections))
 
   pub beneath-bare : (job : Job V) (answer : Answer V) → jobs_beneath (bare_job job) answer ≡ map bare_job (jobs_beneath job answer)
   beneath-bare job answer =
@@ -109,11 +111,11 @@ module _ {V : Type 0} where
   pub response-bare : (scene : Scene V) (answer : Call V → Answer V) (n : ℕ) → merged_response (bare_scene scene) answer n ≡ merged_response scene answer n
   response-bare scene answer n = ap (response_knowing scene answer n) (execution-bare (basis_of scene))
 
-  roots-bare : (scene : Scene V) → root_jobs (bare_scene scene) ≡ map bare_job (root_jobs scene)
-  roots-bare scene = jobs-bare false (basis_of scene) (root_selections scene) (root_spot scene)
+  roots-bare : (by : Grouping) (scene : Scene V) → root_jobs_by by (bare_scene scene) ≡ map bare_job (root_jobs_by by scene)
+  roots-bare by scene = jobs-bare false (basis_by by scene) (root_selections scene) (root_spot scene)
 
-  pub keys-bare : (scene : Scene V) → key_jobs (bare_scene scene) ≡ map bare_job (key_jobs scene)
-  keys-bare scene = jobs-bare true (basis_of scene) (root_selections scene) (root_spot scene)
+  pub keys-bare : (by : Grouping) (scene : Scene V) → key_jobs_by by (bare_scene scene) ≡ map bare_job (key_jobs_by by scene)
+  keys-bare by scene = jobs-bare true (basis_by by scene) (root_selections scene) (root_spot scene)
 
   module _ {W : Type 0} (answer : Call V → W → Answer V) (effect : Call V → W → W) (scene : Scene V) where
     -- the whole response of a mutation, by what is known of its execution
@@ -134,9 +136,9 @@ module _ {V : Type 0} where
     pub last-bare : (world : W) → last_world_of (bare_scene scene) effect world ≡ last_world_of scene effect world
     last-bare world = ap (last_knowing world) (execution-bare (basis_of scene))
 
-module _ {R Own World Future P : Type 0} (set : Resolving R Own World Future) (turns : Choosing P) (scene : Scene Own) (old new : Seen R P) where
+module _ {R Own World Future P : Type 0} (set : Resolving R Own World Future) (turns : Choosing P) (by : Grouping) (scene : Scene Own) (old new : Seen R P) where
   abbrev story-of : Scene Own → Story (Job Own)
-  story-of of = story_at set turns (merged_work of).subject old
+  story-of of = story_at set turns (work_by by of).subject old
 
   abbrev story : Story (Job Own)
   story = story-of scene
@@ -144,24 +146,24 @@ module _ {R Own World Future P : Type 0} (set : Resolving R Own World Future) (t
   below : (job : Job Own) → story.beneath (bare_job job) ≡ map bare_job (story.beneath job)
   below job = beneath-bare job (due_by set old.set job.asking.call)
 
-  starts : mapped bare_job (fresh (root_jobs scene)) ≡ fresh (root_jobs (bare_scene scene))
-  starts = fresh-mapped bare_job (root_jobs scene) ∙ ap fresh (sym (roots-bare scene))
+  starts : mapped bare_job (fresh (root_jobs_by by scene)) ≡ fresh (root_jobs_by by (bare_scene scene))
+  starts = fresh-mapped bare_job (root_jobs_by by scene) ∙ ap fresh (sym (roots-bare by scene))
 
   -- a whole execution of a scene is one of what its references show
-  pub whole-bare : RunsWhole set turns (merged_work scene) old new → RunsWhole set turns (merged_work (bare_scene scene)) old new
+  pub whole-bare : RunsWhole set turns (work_by by scene) old new → RunsWhole set turns (work_by by (bare_scene scene)) old new
   whole-bare runs = record {
     made = mapped bare_job runs.made;
-    ran = ran-mapped (choice_by turns) story story bare_job (λ job. refl) (λ job. refl) below (stage_of set turns (fresh (root_jobs scene)) old) _ starts
+    ran = ran-mapped (choice_by turns) story story bare_job (λ job. refl) (λ job. refl) below (stage_of set turns (fresh (root_jobs_by by scene)) old) _ starts
         (stage_of set turns runs.made new) runs.ran;
     whole = runs.whole;
     paces = λ pace before is. paced-mapped bare_job _ _ (λ job. refl) runs.made.tasks runs.ran.entries (runs.paces pace before is);
   }
 
   -- the same of one that ended for want of memory
-  pub stopped-bare : RunStopped set turns (merged_work scene) old new → RunStopped set turns (merged_work (bare_scene scene)) old new
+  pub stopped-bare : RunStopped set turns (work_by by scene) old new → RunStopped set turns (work_by by (bare_scene scene)) old new
   stopped-bare runs = record {
-    stopped = stopped-mapped (choice_by turns) story story bare_job (λ job. refl) (λ job. refl) below (stage_of set turns (fresh (root_jobs scene)) old) _ starts
+    stopped = stopped-mapped (choice_by turns) story story bare_job (λ job. refl) (λ job. refl) below (stage_of set turns (fresh (root_jobs_by by scene)) old) _ starts
         (set.told new.set) (set.begun new.set) runs.stopped;
     paces = λ pace before is. subst (λ jobs. EachPacedSoFar (λ (job : Job Own). set.delay (set.rules old.set) job.asking.call.resolver) jobs runs.stopped.entries)
-        (sym (roots-bare scene)) (so-far-mapped bare_job _ _ (λ job. refl) (root_jobs scene) runs.stopped.entries (runs.paces pace before is));
+        (sym (roots-bare by scene)) (so-far-mapped bare_job _ _ (λ job. refl) (root_jobs_by by scene) runs.stopped.entries (runs.paces pace before is));
   }

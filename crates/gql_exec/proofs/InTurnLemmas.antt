@@ -15,7 +15,8 @@ use Rattle.gql_exec.specs.Bare.{bare_job, bare_scene}
 use Rattle.gql_merged.specs.Jobs.{Job}
 use Rattle.gql_merged.specs.Run.{job_subject}
 use Rattle.gql_merged.proofs.SerialLemmas.{last_past}
-use Rattle.gql_merged.specs.Serial.{key_jobs, key_work, last_world_of}
+use Rattle.gql_merged.specs.Serial.{key_jobs_by, key_work_by, last_world_of}
+use Rattle.gql_merged.specs.declared.basis.Grouping.{Grouping}
 use Rattle.gql_resolve.specs.declared.record_entry.RecordEntry.{RecordEntry}
 use Rattle.gql_resolve.specs.declared.resolver_set.ResolverSet.{Ghosts as Resolving}
 use Rattle.gql_resolve.specs.declared.turns.Turns.{Ghosts as Choosing}
@@ -110,36 +111,36 @@ module _ {V W State : Type 0} (serving : Serving V W) (choice : Choice State) wh
         (sym (past-bare world are.done)) (before-bare (world_past serving job_subject world are.done) are.left are.middle told starts are.cut);
   }
 
-module _ {R Own World Future P : Type 0} (set : Resolving R Own World Future) (turns : Choosing P) (scene : Scene Own) (old new : Seen R P) where
+module _ {R Own World Future P : Type 0} (set : Resolving R Own World Future) (turns : Choosing P) (by : Grouping) (scene : Scene Own) (old new : Seen R P) where
   -- what serves the execution
   abbrev serving : Serving Own World
-  serving = serving_at set turns (key_work scene) old new
+  serving = serving_at set turns (key_work_by by scene) old new
 
-  pub in-turn-bare : RunsInTurn set turns (key_work scene) old new → RunsInTurn set turns (key_work (bare_scene scene)) old new
+  pub in-turn-bare : RunsInTurn set turns (key_work_by by scene) old new → RunsInTurn set turns (key_work_by by (bare_scene scene)) old new
   in-turn-bare runs = record {
     made = mapped bare_job runs.made;
-    phases = subst (λ keys. Phases serving job_subject (choice_by turns) (set.world old.set) keys (none_made set turns (key_work scene) old new)
+    phases = subst (λ keys. Phases serving job_subject (choice_by turns) (set.world old.set) keys (none_made set turns (key_work_by by scene) old new)
         (stage_of set turns (mapped bare_job runs.made) new))
-        (sym (keys-bare scene))
-        (phases-bare serving (choice_by turns) (set.world old.set) (key_jobs scene) (none_made set turns (key_work scene) old new)
+        (sym (keys-bare by scene))
+        (phases-bare serving (choice_by turns) (set.world old.set) (key_jobs_by by scene) (none_made set turns (key_work_by by scene) old new)
         (stage_of set turns runs.made new) runs.phases);
   }
 
-  pub halts-in-turn-bare : HaltsInTurn set turns (key_work scene) old new → HaltsInTurn set turns (key_work (bare_scene scene)) old new
+  pub halts-in-turn-bare : HaltsInTurn set turns (key_work_by by scene) old new → HaltsInTurn set turns (key_work_by by (bare_scene scene)) old new
   halts-in-turn-bare halts =
-      subst (λ keys. AreCut serving job_subject (choice_by turns) (set.world old.set) keys (none_made set turns (key_work scene) old new) (set.told new.set) (set.begun new.set))
-      (sym (keys-bare scene))
-      (cut-bare serving (choice_by turns) (set.world old.set) (key_jobs scene) (none_made set turns (key_work scene) old new) (set.told new.set) (set.begun new.set) halts)
+      subst (λ keys. AreCut serving job_subject (choice_by turns) (set.world old.set) keys (none_made set turns (key_work_by by scene) old new) (set.told new.set) (set.begun new.set))
+      (sym (keys-bare by scene))
+      (cut-bare serving (choice_by turns) (set.world old.set) (key_jobs_by by scene) (none_made set turns (key_work_by by scene) old new) (set.told new.set) (set.begun new.set) halts)
 
-  pub stand-bare : (roots : ℕ) → RootsStand set turns (key_work scene) old new roots → RootsStand set turns (key_work (bare_scene scene)) old new roots
+  pub stand-bare : (roots : ℕ) → RootsStand set turns (key_work_by by scene) old new roots → RootsStand set turns (key_work_by by (bare_scene scene)) old new roots
   stand-bare roots stand =
-      let keys : length (key_jobs (bare_scene scene)) ≡ length (key_jobs scene) = ap length (keys-bare scene) ∙ length-map (key_jobs scene) bare_job in
+      let keys : length (key_jobs_by by (bare_scene scene)) ≡ length (key_jobs_by by scene) = ap length (keys-bare by scene) ∙ length-map (key_jobs_by by scene) bare_job in
       record {
         within = subst (λ n. roots ≤ n) (sym keys) stand.within;
         world = stand.world
-            ∙ sym (ap (λ ks. world_past serving job_subject (set.world old.set) (take roots ks)) (keys-bare scene)
-            ∙ ap (world_past serving job_subject (set.world old.set)) (map-take bare_job roots (key_jobs scene))
-            ∙ past-bare serving (choice_by turns) (set.world old.set) (take roots (key_jobs scene)));
+            ∙ sym (ap (λ ks. world_past serving job_subject (set.world old.set) (take roots ks)) (keys-bare by scene)
+            ∙ ap (world_past serving job_subject (set.world old.set)) (map-take bare_job roots (key_jobs_by by scene))
+            ∙ past-bare serving (choice_by turns) (set.world old.set) (take roots (key_jobs_by by scene)));
       }
 
   take-all : {A : Type 0} (xs : List A) → take (length xs) xs ≡ xs
@@ -147,10 +148,10 @@ module _ {R Own World Future P : Type 0} (set : Resolving R Own World Future) (t
   take-all (x ∷ xs) = ap (λ ys. x ∷ ys) (take-all xs)
 
   -- where all root keys have their effect, as many stand
-  pub all_stand : (roots : ℕ) → roots ≡ length (key_jobs scene) → set.world new.set ≡ last_world_of scene (set.effect (set.rules old.set)) (set.world old.set)
-      → RootsStand set turns (key_work scene) old new roots
+  pub all_stand : (roots : ℕ) → roots ≡ length (key_jobs_by by scene) → set.world new.set ≡ last_world_of scene (set.effect (set.rules old.set)) (set.world old.set)
+      → RootsStand set turns (key_work_by by scene) old new roots
   all_stand roots all world = record {
-    within = let e : roots ≡ length (key_jobs scene) = all in omega arith;
-    world = world ∙ sym (last_past scene serving (set.world old.set))
-        ∙ sym (ap (world_past serving job_subject (set.world old.set)) (ap (λ n. take n (key_jobs scene)) all ∙ take-all (key_jobs scene)));
+    within = let e : roots ≡ length (key_jobs_by by scene) = all in omega arith;
+    world = world ∙ sym (last_past by scene serving (set.world old.set))
+        ∙ sym (ap (world_past serving job_subject (set.world old.set)) (ap (λ n. take n (key_jobs_by by scene)) all ∙ take-all (key_jobs_by by scene)));
   }

@@ -4,7 +4,7 @@ use Rattle.std.proofs.lemmas.List.{map-append}
 use Rattle.std.proofs.lemmas.Option.{slice_get-map}
 use Rattle.std.specs.Option.{ForSome}
 use Rattle.gql_engine.specs.Pace.{EachPaced, EachPacedSoFar, pending_then_ready, told_of}
-use Rattle.gql_engine.specs.Record.{Choice, Mark, Made, NamesTask, Ran, Stage, Stopped, Story, Turned, untold, ready, fresh, untold_marks, beneath_of, after_ready, after_mark, after_entry, begun_at, begins, made_at, state_at, waiting}
+use Rattle.gql_engine.specs.Record.{Choice, EachWaits, Mark, Made, NamesTask, Ran, Stage, Stopped, Story, Turned, untold, ready, fresh, untold_marks, beneath_of, after_ready, after_mark, after_entry, begun_at, begins, made_at, state_at, waiting}
 use Rattle.gql_resolve.specs.Record.{with_more}
 use Rattle.gql_resolve.specs.declared.record_entry.RecordEntry.{RecordEntry}
 
@@ -72,6 +72,11 @@ module _ {Task Other State : Type 0} (choice : Choice State) (one : Story Task) 
         (turned-mapped (choice.after state (length (waiting made))) (after_entry one made e) told turned.2),
   )
 
+  pub waits-mapped : (made : Made Task) (told : List RecordEntry) → EachWaits one made told → EachWaits other (mapped f made) told
+  waits-mapped made [] waits = tt
+  waits-mapped made (e ∷ told) waits =
+      (waits.0, subst (λ m. EachWaits other m told) (sym (mark-mapped made e.task e.ready)) (waits-mapped (after_entry one made e) told waits.1))
+
   pub made-mapped : (made : Made Task) (told : List RecordEntry) → made_at other (mapped f made) told ≡ mapped f (made_at one made told)
   made-mapped made [] = refl
   made-mapped made (e ∷ told) = ap (λ m. made_at other m told) (mark-mapped made e.task e.ready) ∙ made-mapped (after_entry one made e) told
@@ -113,6 +118,7 @@ module _ {Task Other State : Type 0} (choice : Choice State) (one : Story Task) 
     starts_is = ran.starts_is
         ∙ ap (with_more old.starts)
         (begun-mapped choice one other f resolvers paths beneath old.made ran.entries ∙ ap (λ m. begun_at other m ran.entries) begun);
+    waits = subst (λ m. EachWaits other m ran.entries) begun (waits-mapped choice one other f resolvers paths beneath old.made ran.entries ran.waits);
     turned = λ s is. subst (λ m. Turned choice other s m ran.entries) begun
         (turned-mapped choice one other f resolvers paths beneath s old.made ran.entries (ran.turned s is));
     state_is = ran.state_is

@@ -18,7 +18,7 @@ use Rattle.gql_engine.specs.Progress.{RunsWhole, Seen, stage_of, story_at}
 use Rattle.gql_engine.specs.Record.{Choice, Story, Turned, begun_at, fresh}
 use Rattle.gql_engine.specs.declared.scene.Scene.{Scene}
 use Rattle.gql_exec.specs.Admission.{terms_for}
-use Rattle.gql_exec.specs.Execution.{Ask, asked_scene, ComesOf, Executes, GoesOn, mutates, RanBy}
+use Rattle.gql_exec.specs.Execution.{Ask, asked_scene, ComesOfAs, ExecutesAs, GoesOnAs, mutates, RanAs}
 use Rattle.gql_exec.specs.Ready.{IsMadeReady, prepared_under}
 use Rattle.gql_exec.specs.Root.{root_for}
 use Rattle.gql_exec.specs.Schema.{settings_of}
@@ -26,11 +26,12 @@ use Rattle.gql_exec.specs.SchemaOnly.{is_schema_only, StartsNone}
 use Rattle.gql_exec.specs.Settings.{mode_for}
 use Rattle.gql_exec.specs.declared.schema.Schema.{Schema}
 use Rattle.gql_meaning.specs.Execution.{Execution, field_asking, is_typename}
-use Rattle.gql_merged.specs.Basis.{execution_of, is_introspection_only, setting_by}
-use Rattle.gql_merged.specs.FieldsWithin.{collected}
+use Rattle.gql_merged.specs.Basis.{execution_of, is_introspection_only}
+use Rattle.gql_merged.specs.Grouped.{groups_in}
 use Rattle.gql_merged.specs.Jobs.{job_of, jobs_at_as}
-use Rattle.gql_merged.specs.Run.{basis_of, merged_work, root_selections, root_spot}
-use Rattle.gql_merged.specs.Serial.{key_work}
+use Rattle.gql_merged.specs.Run.{basis_by, root_selections, root_spot, work_by}
+use Rattle.gql_merged.specs.Serial.{key_work_by}
+use Rattle.gql_merged.specs.declared.basis.Grouping.{Grouping}
 use Rattle.gql_request.specs.declared.query_env.IntrospectionMode.{IntrospectionMode}
 use Rattle.gql_request.specs.declared.query_env.QueryEnv.{QueryEnv}
 use Rattle.gql_request.specs.declared.request.Request.{Request}
@@ -41,8 +42,6 @@ use Rattle.gql_resolve.specs.declared.resolver_set.ResolverSet.{Ghosts as Resolv
 use Rattle.gql_resolve.specs.declared.turns.Turns.{Ghosts as Choosing}
 use Rattle.gql_schema.specs.declared.object.Object.{Object}
 use Rattle.gql_select.specs.Alike.{name_of}
-use Rattle.gql_select.specs.Documents.{reading}
-use Rattle.gql_select.specs.Reading.{merged}
 
 -- the environment that was prepared, if any, has this mode
 abbrev InMode : IntrospectionMode → Prepared → Type 0
@@ -106,15 +105,15 @@ module _ {V : Type 0} where
       → execution.only_introspection ≡ true → field_asking is_root execution object parent field ≡ None
   none_asked is_root execution object parent field only = none_if execution.only_introspection (is_typename (name_of field)) _ only
 
-  no_roots : (is_root : Bool) (scene : Scene V) → is_introspection_only scene.env.now.introspection_mode ≡ true
-      → jobs_at_as is_root (basis_of scene) (root_selections scene) (root_spot scene) ≡ []
-  no_roots is_root scene only =
-      let basis = basis_of scene in
+  no_roots : (is_root : Bool) (by : Grouping) (scene : Scene V) → is_introspection_only scene.env.now.introspection_mode ≡ true
+      → jobs_at_as is_root (basis_by by scene) (root_selections scene) (root_spot scene) ≡ []
+  no_roots is_root by scene only =
+      let basis = basis_by by scene in
       let spot = root_spot scene in
       flat_map_none
       (λ (member : List ℕ × Positioned Field). job_of basis spot member.1 (field_asking is_root (execution_of basis) spot.object spot.parent member.1))
       (λ member. ap (job_of basis spot member.1) (none_asked is_root (execution_of basis) spot.object spot.parent member.1 only))
-      (merged (reading (setting_by basis)) (collected basis spot.object (root_selections scene)))
+      (groups_in is_root basis spot.object (root_selections scene))
 
 module _ {Task State : Type 0} (choice : Choice State) (story : Story Task) (s : State) where
   -- over no tasks no entry is told
@@ -146,12 +145,12 @@ module _ {R Own World Future P : Type 0} (set : Resolving R Own World Future) (t
       (stage_of set turns runs.made new)) none runs.phases in
       record { told_is = ap (λ s. s.told) same; begun_is = ap (λ s. s.starts) same }
 
-  ran_none : (is_root : Bool) (scene : Scene Own) → is_introspection_only scene.env.now.introspection_mode ≡ true → RanBy set turns old new is_root scene
-      → StartsNone set old.set new.set
-  ran_none true scene only ran = phases_none (key_work scene) (no_roots true scene only) ran
-  ran_none false scene only ran = whole_none (merged_work scene) (no_roots false scene only) ran
+  ran_none : (is_root : Bool) (by : Grouping) (scene : Scene Own) → is_introspection_only scene.env.now.introspection_mode ≡ true
+      → RanAs set turns old new by is_root scene → StartsNone set old.set new.set
+  ran_none true by scene only ran = phases_none (key_work_by by scene) (no_roots true by scene only) ran
+  ran_none false by scene only ran = whole_none (work_by by scene) (no_roots false by scene only) ran
 
-  module _ (ask : Ask Own) (lawful : set.is_lawful old.set) where
+  module _ (by : Grouping) (ask : Ask Own) (lawful : set.is_lawful old.set) where
     same_set : new ≡ old → StartsNone set old.set new.set
     same_set same = record {
       told_is = ap (λ (m : Seen R P). set.told m.set) same;
@@ -159,26 +158,26 @@ module _ {R Own World Future P : Type 0} (set : Resolving R Own World Future) (t
     }
 
     went_none : (response : Response) (env : QueryEnv) (root : Result Object (List ℕ)) → is_introspection_only env.introspection_mode ≡ true
-        → GoesOn set turns old new ask env root response → StartsNone set old.set new.set
+        → GoesOnAs set turns old new ask by env root response → StartsNone set old.set new.set
     went_none response env (Ok object) only went =
         let scene = asked_scene set turns old new ask env object in
-        ran_none (mutates scene) scene only (went lawful).tells
+        ran_none (mutates scene) by scene only (went lawful).tells
     went_none response env (Err text) only went = same_set went.1
 
     came_none : (response : Response) (outcome : Prepared) → InMode (mode_for (settings_of ask.schema) ask.request.inner.introspection_mode) outcome
         → is_schema_only ask.schema ask.request.inner ≡ true
-        → ComesOf set turns old new ask outcome response → StartsNone set old.set new.set
+        → ComesOfAs set turns old new ask by outcome response → StartsNone set old.set new.set
     came_none response (Ok env) mode only comes =
         went_none response env (root_for ask.schema env.operation.node.ty) (ap is_introspection_only mode ∙ only) comes
     came_none response (Err errors) mode only comes = same_set comes.1
 
     -- a request for the schema alone begins no task
-    pub starts_none : (response : Response) → is_schema_only ask.schema ask.request.inner ≡ true → Executes set turns old new ask response → StartsNone set old.set new.set
+    pub starts_none : (response : Response) → is_schema_only ask.schema ask.request.inner ≡ true → ExecutesAs set turns old new ask by response → StartsNone set old.set new.set
     starts_none response only executes =
         came_none response executes.outcome (ready_in_mode ask.schema ask.request.inner executes.outcome executes.ready) only executes.comes
 
     -- the same of what an execution answers
     pub starts_ok : {E : Type 0} → is_schema_only ask.schema ask.request.inner ≡ true → (result : Result Response E)
-        → IfOk result (Executes set turns old new ask) → OnOk result (StartsNone set old.set new.set)
+        → IfOk result (ExecutesAs set turns old new ask by) → OnOk result (StartsNone set old.set new.set)
     starts_ok only (Ok response) executes = starts_none response only executes
     starts_ok only (Err want) executes = tt

@@ -36,6 +36,7 @@ bare_basis basis = record {
   query = shown basis.query.now;
   entities = basis.entities;
   layers = bare_layers basis.layers;
+  grouping = basis.grouping;
 }
 
 -- a task

@@ -15,8 +15,10 @@ use Rattle.gql_exec.specs.Root.{root_for}
 use Rattle.gql_exec.specs.Scene.{scene_for}
 use Rattle.gql_exec.specs.declared.dynamic_request.DynamicRequest.{DynamicRequest}
 use Rattle.gql_exec.specs.declared.schema.Schema.{Schema}
-use Rattle.gql_merged.specs.Run.{merged_response, merged_work}
-use Rattle.gql_merged.specs.Serial.{key_work, last_world_of, serial_response}
+use Rattle.gql_merged.specs.Run.{merged_response, work_by}
+use Rattle.gql_merged.specs.Serial.{key_work_by, last_world_of, serial_response}
+use Rattle.gql_merged.specs.declared.basis.Grouping.{Grouping}
+use Rattle.gql_merged.specs.declared.basis.Grouping.TheVariants as grouping
 use Rattle.gql_place.specs.declared.place.Place.{Place}
 use Rattle.gql_request.specs.QueryEnv.{levels_of}
 use Rattle.gql_request.specs.declared.query_env.QueryEnv.{QueryEnv}
@@ -61,32 +63,39 @@ module _ {R Own World Future P : Type 0} (set : Resolving R Own World Future)
   world_by true scene = last_world_of scene (set.effect (set.rules old.set)) (set.world old.set)
   world_by false scene = set.world old.set
 
-  -- the record of it: of a mutation phase after phase
-  abbrev pub RanBy : Bool → Scene Own → Type 0
-  RanBy true scene = RunsInTurn set turns (key_work scene) old new
-  RanBy false scene = RunsWhole set turns (merged_work scene) old new
+  -- the record of it, where occurrences are grouped so: of a mutation phase after phase
+  abbrev pub RanAs : Grouping → Bool → Scene Own → Type 0
+  RanAs by true scene = RunsInTurn set turns (key_work_by by scene) old new
+  RanAs by false scene = RunsWhole set turns (work_by by scene) old new
 
   -- the record where memory was wanting for a task
-  abbrev pub CutBy : Bool → Scene Own → Type 0
-  CutBy true scene = HaltsInTurn set turns (key_work scene) old new
-  CutBy false scene = RunStopped set turns (merged_work scene) old new
+  abbrev pub CutAs : Grouping → Bool → Scene Own → Type 0
+  CutAs by true scene = HaltsInTurn set turns (key_work_by by scene) old new
+  CutAs by false scene = RunStopped set turns (work_by by scene) old new
 
   -- how many root keys of a mutation have their effect, where memory was wanting
-  abbrev pub StandBy : Bool → Scene Own → ℕ → Type 0
-  StandBy true scene roots = RootsStand set turns (key_work scene) old new roots
-  StandBy false scene roots = (roots ≡ 0) × (set.world new.set ≡ set.world old.set)
+  abbrev pub StandAs : Grouping → Bool → Scene Own → ℕ → Type 0
+  StandAs by true scene roots = RootsStand set turns (key_work_by by scene) old new roots
+  StandAs by false scene roots = (roots ≡ 0) × (set.world new.set ≡ set.world old.set)
 
-  -- merged execution of a scene over a lawful set, to its end: its tasks took the turns that were
-  -- chosen for them, and the response is that of the places
-  pub record Runs (scene : Scene Own) (response : Response) : Type 0 where
+  -- the execution of a scene over a lawful set, to its end: its tasks took the turns that were
+  -- chosen for them, each for a group of occurrences, and the response is that of merged execution
+  pub record RunsAs (by : Grouping) (scene : Scene Own) (response : Response) : Type 0 where
     pub answered : response ≡ response_at (place_by (mutates scene) scene)
     pub world : set.world new.set ≡ world_by (mutates scene) scene
-    pub tells : RanBy (mutates scene) scene
+    pub tells : RanAs by (mutates scene) scene
 
   -- the same until memory was wanting: for a task, or for the response
-  pub record HaltsIn (scene : Scene Own) (roots : ℕ) : Type 0 where
-    pub stands : StandBy (mutates scene) scene roots
-    pub tells : CutBy (mutates scene) scene ⊎ RanBy (mutates scene) scene
+  pub record HaltsAs (by : Grouping) (scene : Scene Own) (roots : ℕ) : Type 0 where
+    pub stands : StandAs by (mutates scene) scene roots
+    pub tells : CutAs by (mutates scene) scene ⊎ RanAs by (mutates scene) scene
+
+  -- merged execution, in which each key of a set is one task: its record, and the whole of it
+  abbrev pub RanBy : Bool → Scene Own → Type 0
+  RanBy mutation scene = RanAs grouping.ByKey mutation scene
+
+  abbrev pub Runs : Scene Own → Response → Type 0
+  Runs scene response = RunsAs grouping.ByKey scene response
 
   module _ (ask : Ask Own) where
     -- the scene of the request with an environment and an object at the root
@@ -95,32 +104,53 @@ module _ {R Own World Future P : Type 0} (set : Resolving R Own World Future)
 
     -- the response of an admitted request: by merged execution, or by its fault, and then no
     -- resolver and no turn was asked
-    abbrev pub GoesOn : QueryEnv → Result Object (List ℕ) → Response → Type 0
-    GoesOn env (Ok object) response =
-        set.is_lawful old.set → Runs (asked_scene env object) response
-    GoesOn env (Err text) response = (response ≡ fault_response text) × (new ≡ old)
+    abbrev pub GoesOnAs : Grouping → QueryEnv → Result Object (List ℕ) → Response → Type 0
+    GoesOnAs by env (Ok object) response =
+        set.is_lawful old.set → RunsAs by (asked_scene env object) response
+    GoesOnAs by env (Err text) response = (response ≡ fault_response text) × (new ≡ old)
 
     -- the response by what was made of the request: one that is refused has exactly the errors of
     -- the first stage that it breaks
-    abbrev pub ComesOf : Prepared → Response → Type 0
-    ComesOf (Ok env) response = GoesOn env (root_for ask.schema env.operation.node.ty) response
-    ComesOf (Err errors) response = (response ≡ error_response errors) × (new ≡ old)
+    abbrev pub ComesOfAs : Grouping → Prepared → Response → Type 0
+    ComesOfAs by (Ok env) response =
+        GoesOnAs by env (root_for ask.schema env.operation.node.ty) response
+    ComesOfAs by (Err errors) response = (response ≡ error_response errors) × (new ≡ old)
 
     -- the execution of a request
-    pub record Executes (response : Response) : Type 0 where
+    pub record ExecutesAs (by : Grouping) (response : Response) : Type 0 where
       pub outcome : Prepared
       pub ready : IsMadeReady ask.schema ask.request.inner outcome
-      pub comes : ComesOf outcome response
+      pub comes : ComesOfAs by outcome response
 
-    -- an execution over a lawful set until memory was wanting, so many root keys of a mutation behind
-    -- their effects
-    pub record Halts (roots : ℕ) : Type 0 where
+    -- an execution over a lawful set until memory was wanting, so many root keys of a mutation
+    -- behind their effects
+    pub record IsHalted (by : Grouping) (roots : ℕ) : Type 0 where
       pub env : QueryEnv
       pub object : Object
       pub ready : IsMadeReady ask.schema ask.request.inner (Ok env)
       pub root : root_for ask.schema env.operation.node.ty ≡ Ok object
-      pub told : set.is_lawful old.set → HaltsIn (asked_scene env object) roots
+      pub told : set.is_lawful old.set → HaltsAs by (asked_scene env object) roots
 
     -- an execution that ended for want of memory: before any resolver was asked, or by then
+    abbrev pub StopsAs : Grouping → ℕ → Type 0
+    StopsAs by roots = ((new ≡ old) × (roots ≡ 0)) ⊎ IsHalted by roots
+
+    -- each key of a set is one task: what comes of a request, and its execution
+    abbrev pub GoesOn : QueryEnv → Result Object (List ℕ) → Response → Type 0
+    GoesOn env root response = GoesOnAs grouping.ByKey env root response
+
+    abbrev pub ComesOf : Prepared → Response → Type 0
+    ComesOf outcome response = ComesOfAs grouping.ByKey outcome response
+
+    abbrev pub Executes : Response → Type 0
+    Executes response = ExecutesAs grouping.ByKey response
+
     abbrev pub Stops : ℕ → Type 0
-    Stops roots = ((new ≡ old) × (roots ≡ 0)) ⊎ Halts roots
+    Stops roots = StopsAs grouping.ByKey roots
+
+    -- each occurrence of a field is one task, and beneath the roots of a mutation alone
+    abbrev pub ExecutesApart : Response → Type 0
+    ExecutesApart response = ExecutesAs grouping.Each response
+
+    abbrev pub StopsApart : ℕ → Type 0
+    StopsApart roots = StopsAs grouping.Each roots

@@ -2,6 +2,7 @@ pub mod Admission
 pub mod Bare
 pub mod Batch
 pub mod Builder
+pub mod Counting
 pub mod DynamicRequest
 pub mod Execution
 pub mod Federation

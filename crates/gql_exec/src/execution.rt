@@ -1,13 +1,17 @@
 //! The execution of requests (GraphQL, October 2021, section 6).
-ghost use Rattle.std.specs.Prelude.{◌≡◌, ◌<◌, [], true, false, IfErr, IfOk, OnOk};
+ghost use Rattle.std.specs.Prelude.{◌≡◌, ◌+◌, ◌<◌, [], true, false, IfErr, IfOk, OnOk};
 ghost use Rattle.std.specs.Option.{ForSome};
 ghost use Rattle.gql_engine.specs.Progress.{seen};
 ghost use Rattle.gql_engine.specs.Steps.{IsCounted};
 ghost use Rattle.gql_exec.specs.Bare.{bare_scene};
-ghost use Rattle.gql_exec.specs.Execution.{asks, Executes, fault_response, HaltsIn, mutates};
-ghost use Rattle.gql_exec.specs.Execution.{Runs, Stops};
+ghost use Rattle.gql_exec.specs.Counting.{CountsAnswers, CountsTasks, tasks_by};
+ghost use Rattle.gql_exec.specs.Execution.{asks, Executes, ExecutesApart, ExecutesAs};
+ghost use Rattle.gql_exec.specs.Execution.{fault_response, HaltsAs, mutates, RunsAs, Stops};
+ghost use Rattle.gql_exec.specs.Execution.{StopsApart, StopsAs};
 ghost use Rattle.gql_exec.specs.Scene.{scene_for};
 ghost use Rattle.gql_exec.specs.SchemaOnly.{is_schema_only, StartsNone};
+ghost use Rattle.gql_merged.specs.Run.{AgreesInside};
+ghost use Rattle.gql_request.specs.QueryEnv.{levels_of};
 
 use crate::dynamic_request::DynamicRequest;
 use crate::place_response::response_at;
@@ -15,7 +19,7 @@ use crate::schema::Schema;
 use gql_base::{Items, Made, NoMemory, ServerError, Steps};
 use gql_doc::OperationType;
 use gql_engine::Scene;
-use gql_merged::{run_merged_counted, run_mutation_counted};
+use gql_merged::{Grouping, run_grouped, run_mutation_grouped};
 use gql_request::{Data, Hooks, QueryEnv, Response};
 use gql_resolve::{Layers, ResolverSet, Turns};
 use gql_schema::Object;
@@ -34,8 +38,9 @@ impl Schema {
         request: &DynamicRequest<R::Own>,
         turns: &mut P,
     ) -> Result<Response, NoMemory>
-        ensures executed { IfOk result (Executes R.ResolverSet P.Turns (seen resolvers.old turns.old)
-            (seen resolvers.new turns.new) (asks self.now request.now)) }
+        ensures executed { IfOk result (Executes R.ResolverSet P.Turns
+            (seen resolvers.old turns.old) (seen resolvers.new turns.new)
+            (asks self.now request.now)) }
         ensures stopped { IfErr result (λ want. Stops R.ResolverSet P.Turns
             (seen resolvers.old turns.old) (seen resolvers.new turns.new)
             (asks self.now request.now) want.roots) }
@@ -46,14 +51,44 @@ impl Schema {
             → R.is_lawful resolvers.old → ForSome (P.state turns.old) (λ s. OnOk result
             (StartsNone R.ResolverSet resolvers.old resolvers.new)) }
     {
+        let by = Grouping::ByKey;
         let blank = Blank::new(1);
-        self.execute_on::<R, P, Brand>(alloc, resolvers, hooks, request, turns, blank)
+        self.execute_on::<R, P, Brand>(alloc, by, resolvers, hooks, request, turns, blank)
     }
 
-    /// The same with steps that nobody looks at.
+    /// The same response by another way: each occurrence of a field is one task, and places of one
+    /// key are joined. The root keys of a mutation are one task each.
+    pub fn execute_apart<R: ResolverSet, P: Turns>(
+        &self,
+        alloc: Global,
+        resolvers: &mut R,
+        hooks: &mut Hooks,
+        request: &DynamicRequest<R::Own>,
+        turns: &mut P,
+    ) -> Result<Response, NoMemory>
+        ensures executed { IfOk result (ExecutesApart R.ResolverSet P.Turns
+            (seen resolvers.old turns.old) (seen resolvers.new turns.new)
+            (asks self.now request.now)) }
+        ensures stopped { IfErr result (λ want. StopsApart R.ResolverSet P.Turns
+            (seen resolvers.old turns.old) (seen resolvers.new turns.new)
+            (asks self.now request.now) want.roots) }
+        ensures rules { R.rules resolvers.new ≡ R.rules resolvers.old }
+        ensures lawful { R.is_lawful resolvers.old → R.is_lawful resolvers.new }
+        ensures paced { R.is_paced resolvers.old → R.is_paced resolvers.new }
+        ensures starts { is_schema_only self.now request.now.inner ≡ true
+            → R.is_lawful resolvers.old → ForSome (P.state turns.old) (λ s. OnOk result
+            (StartsNone R.ResolverSet resolvers.old resolvers.new)) }
+    {
+        let by = Grouping::Each;
+        let blank = Blank::new(1);
+        self.execute_on::<R, P, Brand>(alloc, by, resolvers, hooks, request, turns, blank)
+    }
+
+    /// The same with steps that nobody looks at, where occurrences are grouped so.
     fn execute_on<R: ResolverSet, P: Turns, S: Ledger>(
         &self,
         alloc: Global,
+        by: Grouping,
         resolvers: &mut R,
         hooks: &mut Hooks,
         request: &DynamicRequest<R::Own>,
@@ -63,20 +98,22 @@ impl Schema {
         requires name { blank.name ≡ S.name }
         requires parts { blank.parts ≡ S.parts }
         requires some { 0 < blank.parts }
-        ensures executed { IfOk result (Executes R.ResolverSet P.Turns (seen resolvers.old turns.old)
-            (seen resolvers.new turns.new) (asks self.now request.now)) }
-        ensures stopped { IfErr result (λ want. Stops R.ResolverSet P.Turns
+        ensures executed { IfOk result (ExecutesAs R.ResolverSet P.Turns
             (seen resolvers.old turns.old) (seen resolvers.new turns.new)
-            (asks self.now request.now) want.roots) }
+            (asks self.now request.now) by) }
+        ensures stopped { IfErr result (λ want. StopsAs R.ResolverSet P.Turns
+            (seen resolvers.old turns.old) (seen resolvers.new turns.new)
+            (asks self.now request.now) by want.roots) }
         ensures rules { R.rules resolvers.new ≡ R.rules resolvers.old }
         ensures lawful { R.is_lawful resolvers.old → R.is_lawful resolvers.new }
         ensures paced { R.is_paced resolvers.old → R.is_paced resolvers.new }
     {
         let mut steps: Steps<S> = Steps::new(blank);
-        self.execute_counted(alloc, resolvers, hooks, request, turns, &mut steps)
+        self.execute_grouped(alloc, by, resolvers, hooks, request, turns, &mut steps)
     }
 
-    /// The same, where each start of a resolver that answered is a step.
+    /// What `execute` does, where each start of a resolver that answered is a step: over a lawful
+    /// set, as many steps are taken as the request asks answers.
     pub fn execute_counted<R: ResolverSet, P: Turns, S: Ledger>(
         &self,
         alloc: Global,
@@ -86,8 +123,9 @@ impl Schema {
         turns: &mut P,
         steps: &mut Steps<S>,
     ) -> Result<Response, NoMemory>
-        ensures executed { IfOk result (Executes R.ResolverSet P.Turns (seen resolvers.old turns.old)
-            (seen resolvers.new turns.new) (asks self.now request.now)) }
+        ensures executed { IfOk result (Executes R.ResolverSet P.Turns
+            (seen resolvers.old turns.old) (seen resolvers.new turns.new)
+            (asks self.now request.now)) }
         ensures stopped { IfErr result (λ want. Stops R.ResolverSet P.Turns
             (seen resolvers.old turns.old) (seen resolvers.new turns.new)
             (asks self.now request.now) want.roots) }
@@ -96,13 +134,46 @@ impl Schema {
         ensures paced { R.is_paced resolvers.old → R.is_paced resolvers.new }
         ensures counted { IsCounted (R.begun resolvers.old) (R.begun resolvers.new)
             steps.old steps.new }
+        ensures asked { OnOk result (CountsAnswers R.ResolverSet resolvers.old
+            (asks self.now request.now) steps.old steps.new) }
     {
+        let by = Grouping::ByKey;
+        self.execute_grouped(alloc, by, resolvers, hooks, request, turns, steps)
+    }
+
+    /// The response to a request, where occurrences are grouped so, and each start of a resolver
+    /// that answered is a step.
+    fn execute_grouped<R: ResolverSet, P: Turns, S: Ledger>(
+        &self,
+        alloc: Global,
+        by: Grouping,
+        resolvers: &mut R,
+        hooks: &mut Hooks,
+        request: &DynamicRequest<R::Own>,
+        turns: &mut P,
+        steps: &mut Steps<S>,
+    ) -> Result<Response, NoMemory>
+        ensures executed { IfOk result (ExecutesAs R.ResolverSet P.Turns
+            (seen resolvers.old turns.old) (seen resolvers.new turns.new)
+            (asks self.now request.now) by) }
+        ensures stopped { IfErr result (λ want. StopsAs R.ResolverSet P.Turns
+            (seen resolvers.old turns.old) (seen resolvers.new turns.new)
+            (asks self.now request.now) by want.roots) }
+        ensures rules { R.rules resolvers.new ≡ R.rules resolvers.old }
+        ensures lawful { R.is_lawful resolvers.old → R.is_lawful resolvers.new }
+        ensures paced { R.is_paced resolvers.old → R.is_paced resolvers.new }
+        ensures counted { IsCounted (R.begun resolvers.old) (R.begun resolvers.new)
+            steps.old steps.new }
+        ensures asked { OnOk result (CountsTasks R.ResolverSet resolvers.old by
+            (asks self.now request.now) steps.old steps.new) }
+    {
+        let _count = self.types().len();
         match self.prepared(alloc, &request.inner)? {
             Ok(env) => match self.root_for(env.operation.node.ty) {
                 Ok(object) => {
                     let session = Data::new(alloc);
                     let scene = self.scene(request, &env, object, &session);
-                    respond(alloc, &scene, resolvers, hooks, turns, steps)
+                    respond(alloc, by, &scene, resolvers, hooks, turns, steps)
                 }
                 Err(text) => Ok(fault(alloc, text)?),
             },
@@ -149,56 +220,65 @@ fn fault(alloc: Global, text: &str) -> Made<Response>
     Ok(Response::from_errors(alloc, errors))
 }
 
-/// The response of merged execution of a scene.
+/// The response of a scene whose operation agrees with itself: that of merged execution, however
+/// occurrences are grouped.
 fn respond<R: ResolverSet, P: Turns, S: Ledger>(
     alloc: Global,
+    by: Grouping,
     scene: &Scene<'_, R::Own>,
     resolvers: &mut R,
     hooks: &mut Hooks,
     turns: &mut P,
     steps: &mut Steps<S>,
 ) -> Result<Response, NoMemory>
-    requires { scene.now.serial ≡ mutates scene.now }
-    ensures runs { R.is_lawful resolvers.old → IfOk result (Runs R.ResolverSet P.Turns
-        (seen resolvers.old turns.old) (seen resolvers.new turns.new) (bare_scene scene.now)) }
-    ensures halts { R.is_lawful resolvers.old → IfErr result (λ want. HaltsIn R.ResolverSet P.Turns
-        (seen resolvers.old turns.old) (seen resolvers.new turns.new) (bare_scene scene.now)
+    requires agrees { AgreesInside scene.now (levels_of scene.now.env.now) }
+    requires kind { scene.now.serial ≡ mutates scene.now }
+    ensures runs { R.is_lawful resolvers.old → IfOk result (RunsAs R.ResolverSet P.Turns
+        (seen resolvers.old turns.old) (seen resolvers.new turns.new) by (bare_scene scene.now)) }
+    ensures halts { R.is_lawful resolvers.old → IfErr result (λ want. HaltsAs R.ResolverSet P.Turns
+        (seen resolvers.old turns.old) (seen resolvers.new turns.new) by (bare_scene scene.now)
         want.roots) }
     ensures rules { R.rules resolvers.new ≡ R.rules resolvers.old }
     ensures lawful { R.is_lawful resolvers.old → R.is_lawful resolvers.new }
     ensures paced { R.is_paced resolvers.old → R.is_paced resolvers.new }
     ensures counted { IsCounted (R.begun resolvers.old) (R.begun resolvers.new)
         steps.old steps.new }
+    ensures asked { R.is_lawful resolvers.old → OnOk result (steps.new ≡ steps.old
+        + tasks_by R.ResolverSet resolvers.old by (mutates scene.now) scene.now) }
 {
     if scene.serial {
-        respond_in_turn(alloc, scene, resolvers, hooks, turns, steps)
+        respond_in_turn(alloc, by, scene, resolvers, hooks, turns, steps)
     } else {
-        respond_at_once(alloc, scene, resolvers, hooks, turns, steps)
+        respond_at_once(alloc, by, scene, resolvers, hooks, turns, steps)
     }
 }
 
 /// The same of an operation that is no mutation.
 fn respond_at_once<R: ResolverSet, P: Turns, S: Ledger>(
     alloc: Global,
+    by: Grouping,
     scene: &Scene<'_, R::Own>,
     resolvers: &mut R,
     hooks: &mut Hooks,
     turns: &mut P,
     steps: &mut Steps<S>,
 ) -> Result<Response, NoMemory>
-    requires { mutates scene.now ≡ false }
-    ensures runs { R.is_lawful resolvers.old → IfOk result (Runs R.ResolverSet P.Turns
-        (seen resolvers.old turns.old) (seen resolvers.new turns.new) (bare_scene scene.now)) }
-    ensures halts { R.is_lawful resolvers.old → IfErr result (λ want. HaltsIn R.ResolverSet P.Turns
-        (seen resolvers.old turns.old) (seen resolvers.new turns.new) (bare_scene scene.now)
+    requires agrees { AgreesInside scene.now (levels_of scene.now.env.now) }
+    requires kind { mutates scene.now ≡ false }
+    ensures runs { R.is_lawful resolvers.old → IfOk result (RunsAs R.ResolverSet P.Turns
+        (seen resolvers.old turns.old) (seen resolvers.new turns.new) by (bare_scene scene.now)) }
+    ensures halts { R.is_lawful resolvers.old → IfErr result (λ want. HaltsAs R.ResolverSet P.Turns
+        (seen resolvers.old turns.old) (seen resolvers.new turns.new) by (bare_scene scene.now)
         want.roots) }
     ensures rules { R.rules resolvers.new ≡ R.rules resolvers.old }
     ensures lawful { R.is_lawful resolvers.old → R.is_lawful resolvers.new }
     ensures paced { R.is_paced resolvers.old → R.is_paced resolvers.new }
     ensures counted { IsCounted (R.begun resolvers.old) (R.begun resolvers.new)
         steps.old steps.new }
+    ensures asked { R.is_lawful resolvers.old → OnOk result (steps.new ≡ steps.old
+        + tasks_by R.ResolverSet resolvers.old by (mutates scene.now) scene.now) }
 {
-    let place = run_merged_counted(alloc, scene, resolvers, hooks, turns, steps)?;
+    let place = run_grouped(alloc, by, scene, resolvers, hooks, turns, steps)?;
     match response_at(alloc, place) {
         Ok(response) => Ok(response),
         Err(_) => Err(NoMemory { roots: 0 }),
@@ -208,25 +288,29 @@ fn respond_at_once<R: ResolverSet, P: Turns, S: Ledger>(
 /// The same of a mutation, whose root keys are answered one after another.
 fn respond_in_turn<R: ResolverSet, P: Turns, S: Ledger>(
     alloc: Global,
+    by: Grouping,
     scene: &Scene<'_, R::Own>,
     resolvers: &mut R,
     hooks: &mut Hooks,
     turns: &mut P,
     steps: &mut Steps<S>,
 ) -> Result<Response, NoMemory>
-    requires { mutates scene.now ≡ true }
-    ensures runs { R.is_lawful resolvers.old → IfOk result (Runs R.ResolverSet P.Turns
-        (seen resolvers.old turns.old) (seen resolvers.new turns.new) (bare_scene scene.now)) }
-    ensures halts { R.is_lawful resolvers.old → IfErr result (λ want. HaltsIn R.ResolverSet P.Turns
-        (seen resolvers.old turns.old) (seen resolvers.new turns.new) (bare_scene scene.now)
+    requires agrees { AgreesInside scene.now (levels_of scene.now.env.now) }
+    requires kind { mutates scene.now ≡ true }
+    ensures runs { R.is_lawful resolvers.old → IfOk result (RunsAs R.ResolverSet P.Turns
+        (seen resolvers.old turns.old) (seen resolvers.new turns.new) by (bare_scene scene.now)) }
+    ensures halts { R.is_lawful resolvers.old → IfErr result (λ want. HaltsAs R.ResolverSet P.Turns
+        (seen resolvers.old turns.old) (seen resolvers.new turns.new) by (bare_scene scene.now)
         want.roots) }
     ensures rules { R.rules resolvers.new ≡ R.rules resolvers.old }
     ensures lawful { R.is_lawful resolvers.old → R.is_lawful resolvers.new }
     ensures paced { R.is_paced resolvers.old → R.is_paced resolvers.new }
     ensures counted { IsCounted (R.begun resolvers.old) (R.begun resolvers.new)
         steps.old steps.new }
+    ensures asked { R.is_lawful resolvers.old → OnOk result (steps.new ≡ steps.old
+        + tasks_by R.ResolverSet resolvers.old by (mutates scene.now) scene.now) }
 {
-    let (place, roots) = run_mutation_counted(alloc, scene, resolvers, hooks, turns, steps)?;
+    let (place, roots) = run_mutation_grouped(alloc, by, scene, resolvers, hooks, turns, steps)?;
     match response_at(alloc, place) {
         Ok(response) => Ok(response),
         Err(_) => Err(NoMemory { roots }),

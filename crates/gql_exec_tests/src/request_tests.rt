@@ -21,15 +21,20 @@ fn schema(alloc: Global) -> Made<Option<Schema>> {
     Ok(builder.finish(alloc)?.ok())
 }
 
-/// The JSON of the response to a request over a ballot.
+/// The JSON of the response to a request over a ballot, by merged or by apart execution.
 fn response_json(
     alloc: Global,
+    apart: bool,
     schema: &Schema,
     request: &DynamicRequest<u64>,
     set: &mut Ballot,
 ) -> Result<Text, NoMemory> {
     let mut hooks = Hooks::none(alloc);
-    let response = schema.execute(alloc, set, &mut hooks, request, &mut Last)?;
+    let response = if apart {
+        schema.execute_apart(alloc, set, &mut hooks, request, &mut Last)?
+    } else {
+        schema.execute(alloc, set, &mut hooks, request, &mut Last)?
+    };
     Ok(response.json(alloc)?)
 }
 
@@ -41,24 +46,25 @@ fn ballot(alloc: Global) -> Ballot {
 }
 
 /// The JSON of the response to a query, and how many polls were told.
-fn answer(alloc: Global, request: Request) -> Result<Option<(Text, usize)>, NoMemory> {
+fn answer(alloc: Global, apart: bool, request: Request) -> Result<Option<(Text, usize)>, NoMemory> {
     let Some(schema) = schema(alloc)? else {
         return Ok(None);
     };
     let mut set = ballot(alloc);
     let request = DynamicRequest::from(request);
-    let json = response_json(alloc, &schema, &request, &mut set)?;
+    let json = response_json(alloc, apart, &schema, &request, &mut set)?;
     Ok(Some((json, set.entries.len())))
 }
 
 /// Whether a request is answered by this response, after so many polls.
 fn is_answered(
     alloc: Global,
+    apart: bool,
     request: Request,
     json: &str,
     polls: usize,
 ) -> Result<bool, NoMemory> {
-    match answer(alloc, request)? {
+    match answer(alloc, apart, request)? {
         Some((text, told)) => Ok(text.as_str() == json && told == polls),
         None => Ok(false),
     }
@@ -66,11 +72,12 @@ fn is_answered(
 
 fn query_is_answered(
     alloc: Global,
+    apart: bool,
     query: &str,
     json: &str,
     polls: usize,
 ) -> Result<bool, NoMemory> {
-    is_answered(alloc, Request::new(alloc, query)?, json, polls)
+    is_answered(alloc, apart, Request::new(alloc, query)?, json, polls)
 }
 
 /// Requests that are admitted, and refused ones, whose set is never asked.
@@ -125,7 +132,33 @@ const ANSWERS: [(&str, &str, usize); 9] = [
 fn requests_and_their_responses(rt: HostRuntime) -> Result<(), Fail> {
     for (query, json, polls) in ANSWERS {
         assert!(rt;
-            query_is_answered(rt.alloc(), query, json, polls).map_err(|_| AllocError)?,
+            query_is_answered(rt.alloc(), false, query, json, polls).map_err(|_| AllocError)?,
+            "at {query}"
+        );
+    }
+    Ok(())
+}
+
+/// Requests that are executed apart: each occurrence is asked, and the response is the same.
+const APART: [(&str, &str, usize); 3] = [
+    ("{ value }", "{\"data\":{\"value\":7}}", 2),
+    (
+        "{ a: value a: value ...F } fragment F on Query { a: value }",
+        "{\"data\":{\"a\":7}}",
+        6,
+    ),
+    (
+        "mutation { value }",
+        "{\"data\":null,\"errors\":[{\"message\":\"Mutation root not found\"}]}",
+        0,
+    ),
+];
+
+#[test]
+fn requests_that_are_executed_apart(rt: HostRuntime) -> Result<(), Fail> {
+    for (query, json, polls) in APART {
+        assert!(rt;
+            query_is_answered(rt.alloc(), true, query, json, polls).map_err(|_| AllocError)?,
             "at {query}"
         );
     }
@@ -136,7 +169,7 @@ fn requests_and_their_responses(rt: HostRuntime) -> Result<(), Fail> {
 fn asks_for_the_schema(alloc: Global) -> Result<bool, NoMemory> {
     let request = Request::new(alloc, "{ __typename value }")?.only_introspection();
     let json = "{\"data\":{\"__typename\":\"Query\",\"value\":null}}";
-    is_answered(alloc, request, json, 0)
+    is_answered(alloc, false, request, json, 0)
 }
 
 #[test]

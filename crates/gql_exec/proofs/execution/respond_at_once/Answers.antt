@@ -1,11 +1,13 @@
-use Rattle.std.proofs.Common.{false, inl, inr, ap, refl, sym, ◌∙◌}
+use Rattle.std.proofs.Common.{◌+◌, false, inl, inr, ap, refl, sym, ◌∙◌}
 use Rattle.gql_engine.proofs.RootLemmas.{if_err}
 use Rattle.gql_engine.specs.Parts.{due_by}
 use Rattle.gql_engine.specs.Progress.{seen}
 use Rattle.gql_exec.proofs.BareLemmas.{response-bare, stopped-bare, whole-bare}
 use Rattle.gql_exec.proofs.ExecutionLemmas.{halts_by, runs_by}
+use Rattle.gql_merged.proofs.ApartLemmas.{alike_by}
 use Rattle.gql_exec.specs.Bare.{bare_scene}
-use Rattle.gql_exec.specs.Execution.{HaltsIn}
+use Rattle.gql_exec.specs.Counting.{tasks_by}
+use Rattle.gql_exec.specs.Execution.{HaltsAs}
 use Rattle.gql_exec.specs.PlaceResponse.{response_at}
 use Rattle.gql_request.specs.QueryEnv.{levels_of}
 use Rattle.gql_exec.proofs.execution.respond_at_once.Goals as goal
@@ -13,28 +15,36 @@ use Rattle.gql_exec.proofs.execution.respond_at_once.Goals as goal
 pub returns-in_err-place-clause-halts : goal.returns-in_err-place-clause-halts
 returns-in_err-place-clause-halts g c = λ lawful.
     let old = seen c.args.resolvers.now c.args.turns.now in
-    let new = seen c.run_merged_counted.new.resolvers c.run_merged_counted.new.turns in
+    let new = seen c.run_grouped.new.resolvers c.run_grouped.new.turns in
     let scene = c.args.scene.now in
-    if_err _ (λ want. HaltsIn g.R.ResolverSet g.P.Turns old new (bare_scene scene) want.roots) c.from_residual.result c.from_residual.ensures.1
-    (λ want is. halts_by g.R.ResolverSet g.P.Turns old new (bare_scene scene) false c.requires want.roots
+    if_err _ (λ want. HaltsAs g.R.ResolverSet g.P.Turns old new c.args.by (bare_scene scene) want.roots) c.from_residual.result c.from_residual.ensures.1
+    (λ want is. halts_by g.R.ResolverSet g.P.Turns old new c.args.by (bare_scene scene) false c.requires.kind want.roots
     (ap (λ w. w.roots) is ∙ c.in_err-place.ensures.roots, c.in_err-place.ensures.world lawful)
-    (inl (stopped-bare g.R.ResolverSet g.P.Turns scene old new (c.in_err-place.ensures.stopped lawful tt))))
+    (inl (stopped-bare g.R.ResolverSet g.P.Turns c.args.by scene old new (c.in_err-place.ensures.stopped lawful tt))))
 
 pub returns-in-Err-clause-halts : goal.returns-in-Err-clause-halts
 returns-in-Err-clause-halts g c = λ lawful.
     let old = seen c.args.resolvers.now c.args.turns.now in
-    let new = seen c.run_merged_counted.new.resolvers c.run_merged_counted.new.turns in
+    let new = seen c.run_grouped.new.resolvers c.run_grouped.new.turns in
     let scene = c.args.scene.now in
-    halts_by g.R.ResolverSet g.P.Turns old new (bare_scene scene) false c.requires 0 (refl, c.in_ok-place.ensures.world lawful)
-    (inr (whole-bare g.R.ResolverSet g.P.Turns scene old new (c.in_ok-place.ensures.«record» lawful tt)))
+    halts_by g.R.ResolverSet g.P.Turns old new c.args.by (bare_scene scene) false c.requires.kind 0 (refl, c.in_ok-place.ensures.world lawful)
+    (inr (whole-bare g.R.ResolverSet g.P.Turns c.args.by scene old new (c.in_ok-place.ensures.«record» lawful tt)))
 
 pub returns-in-Ok-clause-runs : goal.returns-in-Ok-clause-runs
 returns-in-Ok-clause-runs g c = λ lawful.
     let old = seen c.args.resolvers.now c.args.turns.now in
-    let new = seen c.run_merged_counted.new.resolvers c.run_merged_counted.new.turns in
+    let new = seen c.run_grouped.new.resolvers c.run_grouped.new.turns in
     let scene = c.args.scene.now in
     let env = scene.env.now in
     let answer = due_by g.R.ResolverSet c.args.resolvers.now in
-    runs_by g.R.ResolverSet g.P.Turns old new (bare_scene scene) false c.requires c.in-Ok.response
-    (c.in-Ok.ensures ∙ ap response_at (c.in_ok-place.ensures.places lawful tt (levels_of env) env.nests ∙ sym (response-bare scene answer (levels_of env))))
-    (c.in_ok-place.ensures.world lawful) (whole-bare g.R.ResolverSet g.P.Turns scene old new (c.in_ok-place.ensures.«record» lawful tt))
+    runs_by g.R.ResolverSet g.P.Turns old new c.args.by (bare_scene scene) false c.requires.kind c.in-Ok.response
+    (c.in-Ok.ensures ∙ ap response_at (c.in_ok-place.ensures.places lawful tt (levels_of env) env.nests
+    ∙ alike_by scene c.args.by answer (levels_of env) c.requires.agrees ∙ sym (response-bare scene answer (levels_of env))))
+    (c.in_ok-place.ensures.world lawful) (whole-bare g.R.ResolverSet g.P.Turns c.args.by scene old new (c.in_ok-place.ensures.«record» lawful tt))
+
+pub returns-in-Ok-clause-asked : goal.returns-in-Ok-clause-asked
+returns-in-Ok-clause-asked g c = λ lawful.
+    let scene = c.args.scene.now in
+    let env = scene.env.now in
+    c.in_ok-place.ensures.asked lawful tt (levels_of env) env.nests
+    ∙ ap (λ m. c.args.steps.now + tasks_by g.R.ResolverSet c.args.resolvers.now c.args.by m scene) (sym c.requires.kind)

@@ -1,0 +1,46 @@
+use Rattle.std.proofs.Common.{subst, sym, ◌∙◌}
+use Rattle.gql_engine.specs.Progress.{seen}
+use Rattle.gql_exec.proofs.AgreeLemmas.{agrees_ready}
+use Rattle.gql_exec.proofs.CountingLemmas.{counts_tasks}
+use Rattle.gql_exec.proofs.ExecutionLemmas.{executes, halts, IsSet}
+use Rattle.gql_exec.specs.Execution.{asks}
+use Rattle.gql_schema.specs.Keyed.{IsKeyed}
+use Rattle.gql_schema.specs.Table.{types_of}
+use Rattle.gql_schema.specs.Types.{type_name}
+use Rattle.gql_schema.specs.declared.types.Types.{Types}
+use Rattle.gql_exec.proofs.schema.Schema.execute_grouped.Goals as goal
+
+pub returns-in-Ok-root_for-clause-executed : goal.returns-in-Ok-root_for-clause-executed
+returns-in-Ok-root_for-clause-executed g c =
+    executes g.R.ResolverSet g.P.Turns (seen c.args.resolvers.now c.args.turns.now) (seen c.respond.new.resolvers c.respond.new.turns)
+    c.args.by (asks c.args.self.now c.args.request.now) c.in-Ok.env c.in-Ok-root_for.object.now c.scene-scene.result
+    record {
+      ready = rw c.in-Ok.is at c.in_ok-env.ensures;
+      root = rw c.in-Ok-root_for.is at c.root_for.ensures;
+      same = c.scene-scene.ensures.shows;
+    }
+    c.respond.result c.respond.ensures.runs
+
+pub returns-in-Ok-root_for-clause-stopped : goal.returns-in-Ok-root_for-clause-stopped
+returns-in-Ok-root_for-clause-stopped g c =
+    halts g.R.ResolverSet g.P.Turns (seen c.args.resolvers.now c.args.turns.now) (seen c.respond.new.resolvers c.respond.new.turns)
+    c.args.by (asks c.args.self.now c.args.request.now) c.in-Ok.env c.in-Ok-root_for.object.now c.scene-scene.result
+    record {
+      ready = rw c.in-Ok.is at c.in_ok-env.ensures;
+      root = rw c.in-Ok-root_for.is at c.root_for.ensures;
+      same = c.scene-scene.ensures.shows;
+    }
+    c.respond.result c.respond.ensures.halts
+
+pub respond-requires-clause-agrees : goal.respond-requires-clause-agrees
+respond-requires-clause-agrees g c =
+    let keyed = subst (λ (types : Types). IsKeyed type_name (types_of types)) c.types.ensures.types c.len-count.ensures.keyed in
+    agrees_ready c.args.self.now c.args.request.now c.in-Ok.env c.in-Ok-root_for.object.now c.scene-scene.result
+    (rw c.in-Ok.is at c.in_ok-env.ensures) keyed (rw c.in-Ok-root_for.is at c.root_for.ensures) c.scene-scene.ensures.shows
+
+pub returns-in-Ok-root_for-clause-asked : goal.returns-in-Ok-root_for-clause-asked
+returns-in-Ok-root_for-clause-asked g c =
+    counts_tasks g.R.ResolverSet c.args.resolvers.now c.args.by (asks c.args.self.now c.args.request.now) c.args.steps.now c.respond.new.steps
+    c.in-Ok.env c.in-Ok-root_for.object.now c.scene-scene.result
+    (rw c.in-Ok.is at c.in_ok-env.ensures) (rw c.in-Ok-root_for.is at c.root_for.ensures) c.scene-scene.ensures.shows
+    c.respond.result c.respond.ensures.asked
