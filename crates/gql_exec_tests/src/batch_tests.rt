@@ -1,7 +1,7 @@
 //! Batches of requests over a ballot.
 use crate::ballot::{Ballot, Last};
 use gql_base::{Items, Made, Text, TypeRef};
-use gql_exec::{BatchNoMemory, DynamicRequest, Schema};
+use gql_exec::{BatchNoMemory, DynamicRequest, Schema, SchemaBuilder};
 use gql_request::{BatchResponse, Hooks, Request};
 use gql_schema::{Field, Object, SchemaType};
 use std::alloc::{AllocError, Global};
@@ -14,14 +14,21 @@ fn type_with(alloc: Global, name: &str, field: &str, resolver: u32) -> Made<Sche
     Ok(SchemaType::Object(object))
 }
 
+/// A builder with the type whose field votes for 3.
+fn with_votes(alloc: Global) -> Made<SchemaBuilder> {
+    let ty = type_with(alloc, "Mutation", "vote", 3)?;
+    Schema::build(alloc, "Query", Some("Mutation"), None)?.register(alloc, ty)
+}
+
+/// The same with the type whose field asks for the last vote.
+fn with_both(alloc: Global) -> Made<SchemaBuilder> {
+    let ty = type_with(alloc, "Query", "last", 0)?;
+    with_votes(alloc)?.register(alloc, ty)
+}
+
 /// A schema whose queries ask for the last vote, and whose mutations vote for 3.
 fn schema(alloc: Global) -> Made<Option<Schema>> {
-    let query = type_with(alloc, "Query", "last", 0)?;
-    let mutation = type_with(alloc, "Mutation", "vote", 3)?;
-    let builder = Schema::build(alloc, "Query", Some("Mutation"), None)?
-        .register(alloc, query)?
-        .register(alloc, mutation)?;
-    Ok(builder.finish(alloc)?.ok())
+    Ok(with_both(alloc)?.finish(alloc)?.ok())
 }
 
 /// Requests without a value for their roots.
