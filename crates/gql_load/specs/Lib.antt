@@ -1,0 +1,5 @@
+pub mod Form
+pub mod Numbers
+pub mod Rows
+pub mod Schema
+pub mod Turns
