@@ -27,6 +27,7 @@ mod type_table;
 pub use bench::Bench;
 pub use found::bench_of;
 pub use list_turns::ListTurns;
+pub use making::bench_over;
 pub use numbers::Numbers;
 pub use record_text::text_behind;
 pub use rule::{Rule, RuleKind};

@@ -29,8 +29,8 @@ struct Contents {
     log: bool,
 }
 
-/// The bench that was read as this form. What was read is moved.
-pub(crate) fn bench_over(alloc: Global, form: BenchForm) -> Made<Bench>
+/// The bench that is read as this form. What was read is moved.
+pub fn bench_over(alloc: Global, form: BenchForm) -> Made<Bench>
     requires { AreBelow (length form.setup.cells) (schema_rules form.setup.schema) }
     ensures { IfOk result (IsBenchOf form) }
 {

@@ -16,7 +16,7 @@ use Rattle.gql_cli.specs.Gives.{BenchGives, errors_in, Gives, HoldsTold, IsAnswe
 use Rattle.gql_cli.specs.Request.{AreAlike, requests_for}
 use Rattle.gql_cli.specs.declared.command.Command.{Command}
 use Rattle.gql_cli.specs.declared.outcome.Outcome.{Outcome}
-use Rattle.gql_cli.specs.declared.outcome.Outcome.TheVariants.{Answered, BadSchema, BadShape, HasErrors, NotBuilt, NotJson, ReadFault, TooLong, Usage}
+use Rattle.gql_cli.specs.declared.outcome.Outcome.TheVariants.{Answered, BadSchema, BadShape, HasErrors, Loaded, NotBuilt, NotJson, ReadFault, TooLong, Usage}
 use Rattle.gql_engine.specs.Progress.{Seen}
 use Rattle.gql_exec.specs.Batch.{ExecutesAll}
 use Rattle.gql_exec.specs.Builder.{IsSchemaOf}
@@ -33,6 +33,14 @@ pub response_to : {S F : Type 0} (set : Resolving S ℤ (List ℤ) F) (bench : B
 response_to set bench start new at schema made response alike executes =
     let (entries, told, is) = all_executed set bench schema (requests_for bench) (responses_of response) [] (first_of bench) start new at executes in
     record { schema = schema; is = made; alike = alike; entries = entries; is_told = told; executed = is }
+
+-- what is shown of the set that is held is what it told
+pub shown-told : {S : Type 0} (told : S → Option (List RecordEntry)) (held : Option S) (set : S) → held ≡ Some set → (shown entries : List RecordEntry)
+    → MatchOption held (shown ≡ []) (λ s. IfSome (told s) (λ es. shown ≡ es)) → told set ≡ Some entries → shown ≡ entries
+shown-told {S} told held set is shown entries shows known =
+    let by_set : IfSome (told set) (λ es. shown ≡ es)
+    = subst (λ (h : Option S). MatchOption h (shown ≡ []) (λ s. IfSome (told s) (λ es. shown ≡ es))) is shows in
+    subst (λ (t : Option (List RecordEntry)). IfSome t (λ es. shown ≡ es)) known by_set
 
 module _ (command : Command) (bench : Bench) where
   -- an answer is given
@@ -52,9 +60,7 @@ module _ (command : Command) (bench : Bench) where
   response_gives told held set is shown shows built response answered (Err want) made = tt
   response_gives {S} told held set is shown shows built response answered (Ok outcome) made =
       let entries = answered.entries in
-      let by_set : IfSome (told set) (λ es. shown ≡ es)
-      = subst (λ (h : Option S). MatchOption h (shown ≡ []) (λ s. IfSome (told s) (λ es. shown ≡ es))) is shows in
-      let same : shown ≡ entries = subst (λ (known : Option (List RecordEntry)). IfSome known (λ es. shown ≡ es)) answered.is_told by_set in
+      let same : shown ≡ entries = shown-told told held set is shown entries shows answered.is_told in
       let made' : outcome ≡ outcome_for (errors_in (responses_of response)) (response_text command entries response)
       = made ∙ ap (λ es. outcome_for (errors_in (responses_of response)) (response_text command es response)) same in
       let gives : IsAnswer command bench outcome entries = record {
@@ -75,6 +81,7 @@ module _ (command : Command) (bench : Bench) where
   json-gives json tables (BadSchema text) entries gives = (bench, tables, gives)
   json-gives json tables (Answered text) entries gives = (bench, tables, gives)
   json-gives json tables (HasErrors text) entries gives = (bench, tables, gives)
+  json-gives json tables (Loaded text) entries gives = absurd gives
   json-gives json tables Usage entries gives = absurd gives
   json-gives json tables ReadFault entries gives = absurd gives
   json-gives json tables TooLong entries gives = absurd gives
@@ -94,6 +101,7 @@ bytes-give command bytes json is NotBuilt entries gives = (json, is, gives)
 bytes-give command bytes json is (BadSchema text) entries gives = (json, is, gives)
 bytes-give command bytes json is (Answered text) entries gives = (json, is, gives)
 bytes-give command bytes json is (HasErrors text) entries gives = (json, is, gives)
+bytes-give command bytes json is (Loaded text) entries gives = (json, is, gives)
 bytes-give command bytes json is Usage entries gives = (json, is, gives)
 bytes-give command bytes json is ReadFault entries gives = (json, is, gives)
 bytes-give command bytes json is TooLong entries gives = (json, is, gives)

@@ -20,7 +20,7 @@ use Rattle.gql_cli.specs.Gives.{BenchGives, errors_in, Gives, IfResponse, IsAnsw
 use Rattle.gql_cli.specs.Request.{AreAlike, requests_for}
 use Rattle.gql_cli.specs.declared.command.Command.{Command}
 use Rattle.gql_cli.specs.declared.outcome.Outcome.{Outcome}
-use Rattle.gql_cli.specs.declared.outcome.Outcome.TheVariants.{Answered, BadSchema, BadShape, HasErrors, NotBuilt, NotJson, ReadFault, TooLong, Usage}
+use Rattle.gql_cli.specs.declared.outcome.Outcome.TheVariants.{Answered, BadSchema, BadShape, HasErrors, Loaded, NotBuilt, NotJson, ReadFault, TooLong, Usage}
 use Rattle.gql_engine.specs.declared.scene.Scene.{Scene}
 use Rattle.gql_cli.proofs.SchemaLemmas.{one_builder, one_schema}
 use Rattle.gql_exec.proofs.ReadyLemmas.{one_ready}
@@ -148,6 +148,7 @@ module _ (bench : Bench) where
 pub if-response : (outcome : Outcome) (P : Type 0) → P → IfResponse outcome P
 if-response (Answered text) P p = p
 if-response (HasErrors text) P p = p
+if-response (Loaded text) P p = p
 if-response Usage P p = tt
 if-response ReadFault P p = tt
 if-response TooLong P p = tt
@@ -177,6 +178,7 @@ module _ (command : Command) (bench : Bench) where
   way (BadSchema text) entries gives = unsound text refl gives
   way (Answered text) entries gives = answer gives
   way (HasErrors text) entries gives = answer gives
+  way (Loaded text) entries gives = absurd gives
   way Usage entries gives = absurd gives
   way ReadFault entries gives = absurd gives
   way TooLong entries gives = absurd gives
@@ -226,7 +228,7 @@ module _ (command : Command) (bench : Bench) where
 
 module _ (form : BenchForm) where
   -- a form is read as one bench
-  bench-same : (one other : Bench) → IsBenchOf form one → IsBenchOf form other → one ≡ other
+  pub bench-same : (one other : Bench) → IsBenchOf form one → IsBenchOf form other → one ≡ other
   bench-same one other a b =
       let table = a.table ∙ sym b.table in
       let settings = a.settings ∙ sym b.settings in
@@ -259,6 +261,7 @@ module _ (command : Command) (json : Data) where
   json-way (BadSchema text) entries (bench, tables, gives) = of_bench bench tables gives
   json-way (Answered text) entries (bench, tables, gives) = of_bench bench tables gives
   json-way (HasErrors text) entries (bench, tables, gives) = of_bench bench tables gives
+  json-way (Loaded text) entries (bench, tables, gives) = absurd gives
   json-way Usage entries (bench, tables, gives) = absurd gives
   json-way ReadFault entries (bench, tables, gives) = absurd gives
   json-way TooLong entries (bench, tables, gives) = absurd gives
@@ -304,6 +307,7 @@ module _ (command : Command) (bytes : List ℕ) where
   bytes-way (BadSchema text) entries (json, is, gives) = of_json json is gives
   bytes-way (Answered text) entries (json, is, gives) = of_json json is gives
   bytes-way (HasErrors text) entries (json, is, gives) = of_json json is gives
+  bytes-way (Loaded text) entries (json, is, gives) = of_json json is gives
   bytes-way Usage entries (json, is, gives) = of_json json is gives
   bytes-way ReadFault entries (json, is, gives) = of_json json is gives
   bytes-way TooLong entries (json, is, gives) = of_json json is gives

@@ -1,15 +1,18 @@
 -- What a run has done, by what was due and by what of it was delivered.
-use Rattle.std.proofs.Common.{◌≡◌, ◌⊎◌, ℕ, ◌+◌, ◌≤◌, ◌<◌, List, length, Option, Some, None, inl, inr, refl, ap, sym, ◌∙◌, subst, arith}
+use Rattle.std.proofs.Common.{◌≡◌, ◌⊎◌, ℕ, ◌+◌, ◌≤◌, ◌<◌, List, [], ◌∷◌, codes, length, Option, Some, None, inl, inr, refl, ap, sym, ◌∙◌, subst, arith}
 use Rattle.std.specs.Prelude.{IfSome}
+use Rattle.std.proofs.lemmas.Fmt.{decimal_injective}
+use Rattle.std.specs.Fmt.{decimal}
 use Rattle.std.specs.Io.KnownBytes.{Keeps}
-use Rattle.gql_cli.specs.Command.{words_for}
+use Rattle.gql_cli.specs.Command.{IsLoad, IsRowCount, words_for}
 use Rattle.gql_cli.specs.Gives.{Gives, IfResponse}
+use Rattle.gql_cli.specs.Load.{IsLoaded}
 use Rattle.gql_cli.specs.Outcome.{due_status, due_text}
-use Rattle.gql_cli.specs.Run.{Ends, HasRun, IsComplete, IsCutOff, IsDue, IsGiven, IsGivenWith, IsListed, IsWritten, ReadFailed, WriteFailed}
+use Rattle.gql_cli.specs.Run.{Ends, HasRun, IsComplete, IsCutOff, IsDue, IsGiven, IsGivenWith, IsListed, IsLoadedWith, IsOfCommand, IsOfLoad, IsWritten, ReadFailed, WriteFailed}
 use Rattle.gql_cli.specs.declared.command.Command.{Command}
 use Rattle.gql_cli.specs.declared.command.Command.TheVariants.{Batch, Execute, Record}
 use Rattle.gql_cli.specs.declared.outcome.Outcome.{Outcome}
-use Rattle.gql_cli.specs.declared.outcome.Outcome.TheVariants.{Answered, BadSchema, BadShape, HasErrors, NotBuilt, NotJson, ReadFault, TooLong, Usage}
+use Rattle.gql_cli.specs.declared.outcome.Outcome.TheVariants.{Answered, BadSchema, BadShape, HasErrors, Loaded, NotBuilt, NotJson, ReadFault, TooLong, Usage}
 use Rattle.gql_io.specs.Counts.{IsFull}
 use Rattle.gql_io.specs.Limits.{input_limit}
 use Rattle.gql_io.specs.Reading.{HasFailed, IsTooLong}
@@ -30,6 +33,23 @@ words-same Record Batch same = cc
 words-same Batch Execute same = cc
 words-same Batch Record same = cc
 
+-- words are those of one load
+counts-same : (n m : ℕ) (one other : List ℕ) → IsRowCount n one → IsRowCount m other → one ≡ other → n ≡ m
+counts-same n m one other (least, most, is) (least', most', is') same =
+    decimal_injective n m (omega arith) (omega arith) (sym is ∙ same ∙ is')
+
+loads-same : (n m : ℕ) (words : List (List ℕ)) → IsLoad n words → IsLoad m words → n ≡ m
+loads-same n m words (one, is, said) (other, is', said') =
+    let both : codes "load" ∷ one ∷ [] ≡ codes "load" ∷ other ∷ [] = sym said ∙ said' in
+    let same : one ≡ other = cc in
+    counts-same n m one other is is' same
+
+-- a command's words are no load's
+never-both : (words : List (List ℕ)) → IsOfCommand words → IsOfLoad words → ⊥
+never-both words (Execute, is) (n, (count, size, said)) = let both = sym is ∙ said in cc
+never-both words (Record, is) (n, (count, size, said)) = let both = sym is ∙ said in cc
+never-both words (Batch, is) (n, (count, size, said)) = let both = sym is ∙ said in cc
+
 some-each : {A : Type 0} (o : Option A) (P : A → Type 0) → ((x : A) → P x) → IfSome o P
 some-each None P each = tt
 some-each (Some x) P each = each x
@@ -42,6 +62,7 @@ some-through (Some x) P Q some through = through x some
 responds : (outcome : Outcome) (P : Type 0) → (due_status outcome ≡ 0) ⊎ (due_status outcome ≡ 1) → IfResponse outcome P → P
 responds (Answered text) P is holds = holds
 responds (HasErrors text) P is holds = holds
+responds (Loaded text) P is holds = holds
 responds Usage P (inl none) holds = absurd (omega arith)
 responds Usage P (inr one) holds = absurd (omega arith)
 responds ReadFault P (inl none) holds = absurd (omega arith)
@@ -67,9 +88,10 @@ module _ {I O : Type 0} (source : Sourcing I) (sink : Sinking O) (Told : List Re
   -- by which way something was due, and with which status
   data Way (outcome : Outcome) : Type 0 where
     unlisted : due_status outcome ≡ 2 → ¬ IsListed words → Way outcome
-    failed : due_status outcome ≡ 4 → IsListed words → HasFailed source.given source.faults old.source new.source → Way outcome
-    long : due_status outcome ≡ 7 → IsListed words → IsTooLong source.left source.given old.source new.source → Way outcome
+    failed : due_status outcome ≡ 4 → IsOfCommand words → HasFailed source.given source.faults old.source new.source → Way outcome
+    long : due_status outcome ≡ 7 → IsOfCommand words → IsTooLong source.left source.given old.source new.source → Way outcome
     given : (due_status outcome ≡ 0) ⊎ (due_status outcome ≡ 1) ⊎ (due_status outcome ≡ 3) → Given outcome → Way outcome
+    loaded : (text : List ℕ) → outcome ≡ Loaded text → IsLoadedWith Told words text → Way outcome
 
   way : (outcome : Outcome) → Due outcome → Way outcome
   way Usage due = unlisted refl due
@@ -81,9 +103,10 @@ module _ {I O : Type 0} (source : Sourcing I) (sink : Sinking O) (Told : List Re
   way (BadSchema text) due = given (inr (inr refl)) due
   way (Answered text) due = given (inl refl) due
   way (HasErrors text) due = given (inr (inl refl)) due
+  way (Loaded text) due = loaded text refl due
 
-  -- the words of what was given are listed
-  given-listed : {outcome : Outcome} → Given outcome → IsListed words
+  -- the words of what was given are a command's
+  given-listed : {outcome : Outcome} → Given outcome → IsOfCommand words
   given-listed (entries, is, told) = (is.command, is.listed)
 
   module _ (status : ℕ) where
@@ -91,10 +114,14 @@ module _ {I O : Type 0} (source : Sourcing I) (sink : Sinking O) (Told : List Re
     pub record Delivered : Type 0 where
       pub due : Outcome
       pub is : Due due
-      pub untouched : ¬ IsListed words → new.source ≡ old.source
+      pub untouched : ¬ IsOfCommand words → new.source ≡ old.source
       pub whole : IsCutOff status ⊎ IsWritten source sink Told words old new status due
       pub start : IsCutOff status → AppendsStart (sink.held old.sink) (sink.held new.sink) (due_text due)
       pub cause : status ≡ 5 → WriteFailed source sink Told words old new
+
+    -- a load comes to 0
+    none-of : (k : ℕ) (outcome : Outcome) (text : List ℕ) → status ≡ due_status outcome → outcome ≡ Loaded text → status ≡ k → 0 < k → ⊥
+    none-of k outcome text same is other some = let nothing : due_status outcome ≡ 0 = ap due_status is in omega arith
 
     module _ (d : Delivered) where
       usage : status ≡ 2 → ¬ IsListed words
@@ -109,6 +136,7 @@ module _ {I O : Type 0} (source : Sourcing I) (sink : Sinking O) (Told : List Re
           by (inr (same, holds)) (given (inl s) g) = absurd (omega arith)
           by (inr (same, holds)) (given (inr (inl s)) g) = absurd (omega arith)
           by (inr (same, holds)) (given (inr (inr s)) g) = absurd (omega arith)
+          by (inr (same, holds)) (loaded text is l) = absurd (none-of 2 d.due text same is two (omega arith))
 
       usage-only : ¬ IsListed words → (status ≡ 2) ⊎ IsCutOff status
       usage-only none = by d.whole (way d.due d.is)
@@ -116,9 +144,10 @@ module _ {I O : Type 0} (source : Sourcing I) (sink : Sinking O) (Told : List Re
           by : IsCutOff status ⊎ IsWritten source sink Told words old new status d.due → Way d.due → (status ≡ 2) ⊎ IsCutOff status
           by (inl cut) w = inr cut
           by (inr (same, holds)) (unlisted s u) = inl (same ∙ s)
-          by (inr (same, holds)) (failed s listed f) = absurd (none listed)
-          by (inr (same, holds)) (long s listed f) = absurd (none listed)
-          by (inr (same, holds)) (given s g) = absurd (none (given-listed g))
+          by (inr (same, holds)) (failed s listed f) = absurd (none (inl listed))
+          by (inr (same, holds)) (long s listed f) = absurd (none (inl listed))
+          by (inr (same, holds)) (given s g) = absurd (none (inl (given-listed g)))
+          by (inr (same, holds)) (loaded text is (n, entries, asked, l, told)) = absurd (none (inr (n, asked)))
 
       read-fault : status ≡ 4 → ReadFailed source sink Told words old new
       read-fault four = by d.whole (way d.due d.is)
@@ -132,6 +161,7 @@ module _ {I O : Type 0} (source : Sourcing I) (sink : Sinking O) (Told : List Re
           by (inr (same, holds)) (given (inl s) g) = absurd (omega arith)
           by (inr (same, holds)) (given (inr (inl s)) g) = absurd (omega arith)
           by (inr (same, holds)) (given (inr (inr s)) g) = absurd (omega arith)
+          by (inr (same, holds)) (loaded text is l) = absurd (none-of 4 d.due text same is four (omega arith))
 
       too-long : status ≡ 7 → IsTooLong source.left source.given old.source new.source
       too-long seven = by d.whole (way d.due d.is)
@@ -145,6 +175,7 @@ module _ {I O : Type 0} (source : Sourcing I) (sink : Sinking O) (Told : List Re
           by (inr (same, holds)) (given (inl s) g) = absurd (omega arith)
           by (inr (same, holds)) (given (inr (inl s)) g) = absurd (omega arith)
           by (inr (same, holds)) (given (inr (inr s)) g) = absurd (omega arith)
+          by (inr (same, holds)) (loaded text is l) = absurd (none-of 7 d.due text same is seven (omega arith))
 
       -- more than the limit was given
       abbrev Past : Type 0
@@ -166,7 +197,8 @@ module _ {I O : Type 0} (source : Sourcing I) (sink : Sinking O) (Told : List Re
 
           by : IsCutOff status ⊎ IsWritten source sink Told words old new status d.due → Way d.due → Past
           by (inl cut) w = inr (inl cut)
-          by (inr (same, holds)) (unlisted s none) = untouched-none (d.untouched none)
+          by (inr (same, holds)) (unlisted s none) = untouched-none (d.untouched (λ listed. none (inl listed)))
+          by (inr (same, holds)) (loaded text is (n, entries, asked, l, told)) = untouched-none (d.untouched (λ listed. never-both words listed (n, asked)))
           by (inr (same, holds)) (failed s listed f) = within-none f.within
           by (inr (same, holds)) (long s listed f) = inl (same ∙ s)
           by (inr (same, holds)) (given s (entries, g, told)) = read-none g.bytes g.input.within g.input.counted
@@ -175,12 +207,13 @@ module _ {I O : Type 0} (source : Sourcing I) (sink : Sinking O) (Told : List Re
       abbrev Longer : List ℕ → Type 0
       Longer input = input_limit < length input → (status ≡ 7) ⊎ (status ≡ 4) ⊎ IsCutOff status
 
-      too-many-left : IsListed words → IfSome (source.left old.source) Longer
+      too-many-left : IsOfCommand words → IfSome (source.left old.source) Longer
       too-many-left listed = by d.whole (way d.due d.is)
         where
           by : IsCutOff status ⊎ IsWritten source sink Told words old new status d.due → Way d.due → IfSome (source.left old.source) Longer
           by (inl cut) w = some-each (source.left old.source) Longer (λ input more. inr (inr cut))
-          by (inr (same, holds)) (unlisted s none) = absurd (none listed)
+          by (inr (same, holds)) (unlisted s none) = absurd (none (inl listed))
+          by (inr (same, holds)) (loaded text is (n, entries, asked, l, told)) = absurd (never-both words listed (n, asked))
           by (inr (same, holds)) (failed s also f) = some-each (source.left old.source) Longer (λ input more. inr (inl (same ∙ s)))
           by (inr (same, holds)) (long s also f) = some-each (source.left old.source) Longer (λ input more. inl (same ∙ s))
           by (inr (same, holds)) (given s (entries, g, told)) =
@@ -213,8 +246,8 @@ module _ {I O : Type 0} (source : Sourcing I) (sink : Sinking O) (Told : List Re
       another k same (inr (inr three)) (inr (inl four)) = omega arith
       another k same (inr (inr three)) (inr (inr seven)) = omega arith
 
-      of-bench : OfBench → Bench
-      of-bench is = by d.whole (way d.due d.is)
+      of-bench : IsOfCommand words → OfBench → Bench
+      of-bench listed is = by d.whole (way d.due d.is)
         where
           by : IsCutOff status ⊎ IsWritten source sink Told words old new status d.due → Way d.due → Bench
           by (inl cut) w = absurd (uncut cut is)
@@ -222,6 +255,30 @@ module _ {I O : Type 0} (source : Sourcing I) (sink : Sinking O) (Told : List Re
           by (inr (same, holds)) (failed s listed f) = absurd (another (due_status d.due) same is (inr (inl s)))
           by (inr (same, holds)) (long s listed f) = absurd (another (due_status d.due) same is (inr (inr s)))
           by (inr (same, holds)) (given s (entries, g, told)) = (d.due, entries, g, (same, holds), told)
+          by (inr (same, holds)) (loaded text l (n, entries, asked, one, told)) = absurd (never-both words listed (n, asked))
+
+      -- a load whose line was written
+      abbrev LoadOf : ℕ → Type 0
+      LoadOf rows = (text : List ℕ) × (entries : List RecordEntry) × IsLoaded rows text entries
+          × IsWritten source sink Told words old new status (Loaded text) × Told entries
+
+      of-load : (rows : ℕ) → IsLoad rows words → IsCutOff status ⊎ LoadOf rows
+      of-load rows asked = by d.whole (way d.due d.is)
+        where
+          by : IsCutOff status ⊎ IsWritten source sink Told words old new status d.due → Way d.due → IsCutOff status ⊎ LoadOf rows
+          by (inl cut) w = inl cut
+          by (inr (same, holds)) (unlisted s none) = absurd (none (inr (rows, asked)))
+          by (inr (same, holds)) (failed s listed f) = absurd (never-both words listed (rows, asked))
+          by (inr (same, holds)) (long s listed f) = absurd (never-both words listed (rows, asked))
+          by (inr (same, holds)) (given s g) = absurd (never-both words (given-listed g) (rows, asked))
+          by (inr written) (loaded text is (n, entries, said, one, told)) =
+              inr (
+                text,
+                entries,
+                subst (λ n. IsLoaded n text entries) (loads-same n rows words said asked) one,
+                subst (IsWritten source sink Told words old new status) is written,
+                told,
+              )
 
       early : (status ≡ 0) ⊎ (status ≡ 1) → OfBench
       early (inl none) = inl none
@@ -237,7 +294,8 @@ module _ {I O : Type 0} (source : Sourcing I) (sink : Sinking O) (Told : List Re
           by : IsCutOff status ⊎ IsWritten source sink Told words old new status d.due → Way d.due → IfSome (source.left old.source) (IsComplete source sink Told words old new status command)
           by (inl (inl five)) w = some-each (source.left old.source) (IsComplete source sink Told words old new status command) (λ input within unread unwritten. absurd (unwritten (d.cause five)))
           by (inl (inr six)) w = some-each (source.left old.source) (IsComplete source sink Told words old new status command) (λ input within unread unwritten. inl six)
-          by (inr (same, holds)) (unlisted s none) = absurd (none (command, listed))
+          by (inr (same, holds)) (unlisted s none) = absurd (none (inl (command, listed)))
+          by (inr (same, holds)) (loaded text is (n, entries, asked, l, told)) = absurd (never-both words (command, listed) (n, asked))
           by (inr (same, holds)) (failed s also f) = some-each (source.left old.source) (IsComplete source sink Told words old new status command) (λ input within unread. absurd (unread f.cause))
           by (inr (same, holds)) (long s also f) =
               some-through (source.left old.source) _ (IsComplete source sink Told words old new status command) f.told (λ input more within. absurd (omega arith))
@@ -263,9 +321,10 @@ module _ {I O : Type 0} (source : Sourcing I) (sink : Sinking O) (Told : List Re
         too_long = too-long;
         too_many_given = too-many-given;
         too_many_left = too-many-left;
-        bench = λ is. let (outcome, entries, gave, wrote, told) = of-bench is in (outcome, entries, gave, wrote);
-        told = λ is. let (outcome, entries, gave, wrote, told) = of-bench (early is) in
+        bench = λ listed is. let (outcome, entries, gave, wrote, told) = of-bench listed is in (outcome, entries, gave, wrote);
+        told = λ listed is. let (outcome, entries, gave, wrote, told) = of-bench listed (early is) in
             (outcome, entries, gave, wrote, responds outcome _ (due-early outcome wrote.0 is) told);
+        load = of-load;
         write_fault = d.cause;
         written = whole d.whole;
         cut_off = λ five. (d.due, d.is, d.start (inl five));
@@ -279,7 +338,7 @@ module _ {I O : Type 0} (source : Sourcing I) (sink : Sinking O) (Told : List Re
           whole (inr written) = inr (d.due, d.is, written)
 
   -- memory was wanting before anything was due
-  pub wanting : (status : ℕ) → status ≡ 6 → (¬ IsListed words → new.source ≡ old.source) → Keeps (sink.held old.sink) (sink.held new.sink)
+  pub wanting : (status : ℕ) → status ≡ 6 → (¬ IsOfCommand words → new.source ≡ old.source) → Keeps (sink.held old.sink) (sink.held new.sink)
       → HasRun source sink Told words old new status
   wanting status six untouched keeps = record {
     usage = λ two. absurd (omega arith);
@@ -289,8 +348,9 @@ module _ {I O : Type 0} (source : Sourcing I) (sink : Sinking O) (Told : List Re
     too_long = λ seven. absurd (omega arith);
     too_many_given = λ more. inr (inl (inr six));
     too_many_left = λ listed. some-each (source.left old.source) _ (λ input more. inr (inr (inr six)));
-    bench = λ is. absurd (never is);
-    told = λ is. absurd (never-early is);
+    bench = λ listed is. absurd (never is);
+    told = λ listed is. absurd (never-early is);
+    load = λ rows asked. inl (inr six);
     write_fault = λ five. absurd (omega arith);
     written = inl (inr six);
     cut_off = λ five. absurd (omega arith);

@@ -19,7 +19,7 @@ use Rattle.gql_cli.specs.declared.command.Command.TheVariants.{Batch, Execute, R
 use Rattle.gql_cli.specs.declared.outcome.Outcome.{Outcome}
 use Rattle.gql_cli.specs.declared.outcome.Outcome.TheVariants.{Answered, BadSchema}
 use Rattle.gql_cli.specs.declared.outcome.Outcome.TheVariants.{BadShape, HasErrors}
-use Rattle.gql_cli.specs.declared.outcome.Outcome.TheVariants.{NotBuilt, NotJson}
+use Rattle.gql_cli.specs.declared.outcome.Outcome.TheVariants.{Loaded, NotBuilt, NotJson}
 use Rattle.gql_request.specs.BatchResponse.{batch_json, responses_of}
 use Rattle.gql_request.specs.declared.batch_response.BatchResponse.{BatchResponse}
 use Rattle.gql_request.specs.declared.response.Response.{Response}
@@ -110,6 +110,7 @@ Gives command bytes outcome entries =
 abbrev pub IfResponse : Outcome → Type 0 → Type 0
 IfResponse (Answered text) P = P
 IfResponse (HasErrors text) P = P
+IfResponse (Loaded line) P = P
 IfResponse outcome P = Unit {0}
 
 -- this is given with some record, and where it is a response, that record was told

@@ -3,7 +3,7 @@ use Rattle.std.specs.Prelude.{ℕ, List, [], ◌∷◌, ◌++◌, codes}
 use Rattle.gql_cli.specs.declared.outcome.Outcome.{Outcome}
 use Rattle.gql_cli.specs.declared.outcome.Outcome.TheVariants.{Answered, BadSchema}
 use Rattle.gql_cli.specs.declared.outcome.Outcome.TheVariants.{BadShape, HasErrors}
-use Rattle.gql_cli.specs.declared.outcome.Outcome.TheVariants.{NotBuilt, NotJson}
+use Rattle.gql_cli.specs.declared.outcome.Outcome.TheVariants.{Loaded, NotBuilt, NotJson}
 use Rattle.gql_cli.specs.declared.outcome.Outcome.TheVariants.{ReadFault, TooLong}
 use Rattle.gql_cli.specs.declared.outcome.Outcome.TheVariants.{Usage}
 
@@ -22,6 +22,7 @@ due_status NotBuilt = 3
 due_status (BadSchema text) = 3
 due_status (Answered text) = 0
 due_status (HasErrors text) = 1
+due_status (Loaded line) = 0
 
 -- the text that is to be written
 abbrev pub due_text : Outcome → List ℕ
@@ -35,3 +36,4 @@ due_text NotBuilt = line (codes "bench: not built yet")
 due_text (BadSchema text) = text
 due_text (Answered text) = text
 due_text (HasErrors text) = text
+due_text (Loaded line) = line

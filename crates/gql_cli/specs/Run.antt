@@ -1,12 +1,13 @@
 -- A run of the program: what is due, and what of it was written.
 use Rattle.std.specs.Prelude.{◌≡◌, ◌⊎◌, ◌+◌, ◌<◌, ◌≤◌, ℕ, List, IfSome, length}
 use Rattle.std.specs.Io.KnownBytes.{Appends, Keeps}
-use Rattle.gql_cli.specs.Command.{words_for}
+use Rattle.gql_cli.specs.Command.{IsLoad, words_for}
 use Rattle.gql_cli.specs.Gives.{Gives, IfResponse}
+use Rattle.gql_cli.specs.Load.{IsLoaded}
 use Rattle.gql_cli.specs.Outcome.{due_status, due_text}
 use Rattle.gql_cli.specs.declared.command.Command.{Command}
 use Rattle.gql_cli.specs.declared.outcome.Outcome.{Outcome}
-use Rattle.gql_cli.specs.declared.outcome.Outcome.TheVariants.{ReadFault, TooLong}
+use Rattle.gql_cli.specs.declared.outcome.Outcome.TheVariants.{Loaded, ReadFault, TooLong}
 use Rattle.gql_cli.specs.declared.outcome.Outcome.TheVariants.{Usage}
 use Rattle.gql_io.specs.Counts.{HasRisen, IsFull}
 use Rattle.gql_io.specs.Limits.{input_limit}
@@ -16,9 +17,17 @@ use Rattle.gql_io.specs.declared.sink.Sink.{Ghosts as Sinking}
 use Rattle.gql_io.specs.declared.source.Source.{Ghosts as Sourcing}
 use Rattle.gql_resolve.specs.declared.record_entry.RecordEntry.{RecordEntry}
 
+-- the words are those of a command, which reads a bench
+abbrev pub IsOfCommand : List (List ℕ) → Type 0
+IsOfCommand words = (command : Command) × (words ≡ words_for command)
+
+-- the words are those of a load, which reads nothing
+abbrev pub IsOfLoad : List (List ℕ) → Type 0
+IsOfLoad words = (rows : ℕ) × IsLoad rows words
+
 -- the words are a form that the program knows
 abbrev pub IsListed : List (List ℕ) → Type 0
-IsListed words = (command : Command) × (words ≡ words_for command)
+IsListed words = IsOfCommand words ⊎ IsOfLoad words
 
 -- the sink failed, or memory was wanting, before the whole text was written
 abbrev pub IsCutOff : ℕ → Type 0
@@ -32,6 +41,19 @@ pub record Ends (I O : Type 0) : Type 0 where
 -- the same, as a contract names them
 abbrev pub ends : {I O : Type 0} → I → O → Ends I O
 ends source sink = record { source = source; sink = sink }
+
+module _ (Told : List RecordEntry → Type 0) (words : List (List ℕ)) where
+  -- the words are those of a load, whose line this is; its record was told
+  abbrev pub IsLoadedWith : List ℕ → Type 0
+  IsLoadedWith text =
+      (rows : ℕ) × (entries : List RecordEntry) × IsLoad rows words × IsLoaded rows text entries
+      × Told entries
+
+  -- what is due where nothing is read
+  abbrev pub IsDueUnread : Outcome → Type 0
+  IsDueUnread Usage = ¬ IsListed words
+  IsDueUnread (Loaded text) = IsLoadedWith text
+  IsDueUnread outcome = ⊥
 
 module _ {I : Type 0} (source : Sourcing I) (Told : List RecordEntry → Type 0)
     (words : List (List ℕ)) (old new : I) where
@@ -49,12 +71,13 @@ module _ {I : Type 0} (source : Sourcing I) (Told : List RecordEntry → Type 0)
   IsGivenWith outcome =
       (entries : List RecordEntry) × IsGiven outcome entries × IfResponse outcome (Told entries)
 
-  -- What is due, in the order in which it is decided: the words first, then how the reading of the
-  -- source went, and then what the input gives as a bench.
+  -- What is due, in the order in which it is decided: the words first, then, for a command, how the
+  -- reading of the source went, and then what the input gives as a bench.
   abbrev pub IsDue : Outcome → Type 0
   IsDue Usage = ¬ IsListed words
-  IsDue ReadFault = IsListed words × HasFailed source.given source.faults old new
-  IsDue TooLong = IsListed words × IsTooLong source.left source.given old new
+  IsDue ReadFault = IsOfCommand words × HasFailed source.given source.faults old new
+  IsDue TooLong = IsOfCommand words × IsTooLong source.left source.given old new
+  IsDue (Loaded text) = IsLoadedWith Told words text
   IsDue outcome = IsGivenWith outcome
 
 module _ {I O : Type 0} (source : Sourcing I) (sink : Sinking O)
@@ -90,28 +113,33 @@ module _ {I O : Type 0} (source : Sourcing I) (sink : Sinking O)
 
     -- what a run has done that ended with a status
     pub record HasRun : Type 0 where
-      -- 2 comes exactly where the words are no listed form, and then nothing is read
+      -- 2 comes exactly where the words are no listed form; nothing is read but for a command
       pub usage : status ≡ 2 → ¬ IsListed words
       pub usage_only : ¬ IsListed words → (status ≡ 2) ⊎ IsCutOff status
-      pub unread : ¬ IsListed words → new.source ≡ old.source
+      pub unread : ¬ IsOfCommand words → new.source ≡ old.source
       -- 4 comes only where a read failed
       pub read_fault : status ≡ 4 → ReadFailed
       -- 7 comes exactly where more than the limit was read
       pub too_long : status ≡ 7 → IsTooLong source.left source.given old.source new.source
       pub too_many_given : source.given old.source + input_limit < source.given new.source
           → (status ≡ 7) ⊎ IsCutOff status ⊎ IsFull (source.given new.source)
-      pub too_many_left : IsListed words → IfSome (source.left old.source) (λ input.
+      pub too_many_left : IsOfCommand words → IfSome (source.left old.source) (λ input.
           input_limit < length input → (status ≡ 7) ⊎ (status ≡ 4) ⊎ IsCutOff status)
-      -- 0, 1 and 3 come after the whole input was read, by what it gives as a bench
-      pub bench : (status ≡ 0) ⊎ (status ≡ 1) ⊎ (status ≡ 3)
+      -- of a command, 0, 1 and 3 come after the whole input was read, by what it gives as a bench
+      pub bench : IsOfCommand words → (status ≡ 0) ⊎ (status ≡ 1) ⊎ (status ≡ 3)
           → (outcome : Outcome) × (entries : List RecordEntry)
           × IsGiven source Told words old.source new.source outcome entries × IsWritten outcome
       -- where there is a response, the set that answered is held, and told the record of the
       -- bench, which is the one that the text tells of, and nothing else
-      pub told : (status ≡ 0) ⊎ (status ≡ 1)
+      pub told : IsOfCommand words → (status ≡ 0) ⊎ (status ≡ 1)
           → (outcome : Outcome) × (entries : List RecordEntry)
           × IsGiven source Told words old.source new.source outcome entries × IsWritten outcome
           × Told entries
+      -- a load comes to 0, once the whole line is written that tells of its response and of the
+      -- record, and the set that answered is held, and told that record, unless it is cut off
+      pub load : (rows : ℕ) → IsLoad rows words → IsCutOff status ⊎ ((text : List ℕ)
+          × (entries : List RecordEntry) × IsLoaded rows text entries × IsWritten (Loaded text)
+          × Told entries)
       -- 5 comes only where a write failed
       pub write_fault : status ≡ 5 → WriteFailed
       -- every other status but 6, of wanting memory, comes once the whole text is written that is

@@ -1,5 +1,5 @@
 //! The answer to a bench's requests.
-ghost use Rattle.std.specs.Prelude.{◌≡◌, IfOk};
+ghost use Rattle.std.specs.Prelude.{◌≡◌, IfOk, Some};
 ghost use Rattle.gql_bench.specs.TableMaker.{IsSetOf};
 ghost use Rattle.gql_cli.specs.Answer.{IsAnswerTo};
 ghost use Rattle.gql_cli.specs.Request.{AreAlike, rooted_with};
@@ -10,7 +10,7 @@ ghost use Rattle.gql_request.specs.BatchRequest.{requests_of};
 ghost use Rattle.gql_request.specs.BatchResponse.{responses_of};
 
 use gql_base::{Copied, Items, Made, Text};
-use gql_bench::{Bench, ListTurns};
+use gql_bench::{Bench, ListTurns, Tables};
 use gql_exec::{DynamicRequest, DynamicRequestExt, Schema};
 use gql_request::{BatchRequest, BatchResponse, Hooks, Request, Response};
 use gql_resolve::{FieldValue, ResolverSet, Turns};
@@ -25,8 +25,20 @@ pub(crate) enum Answer {
     BadSchema(Text),
 }
 
+/// The answer to the requests of a bench, over a set that `tables` makes, and that is given back to
+/// them.
+pub(crate) fn answer_by<M: Tables>(alloc: Global, bench: Bench, tables: &mut M) -> Made<Answer>
+    ensures { IfOk result (λ answer. (set : M.Set) × (M.held tables.new ≡ Some set)
+        × IsAnswerTo bench (M.Set.told set) answer) }
+{
+    let mut set = tables.make(alloc, &bench)?;
+    let answer = answer_to(alloc, bench, &mut set);
+    tables.take_back(set);
+    answer
+}
+
 /// The answer to the requests of a bench, over a set that is made for the bench.
-pub(crate) fn answer_to<S: ResolverSet<Own = i64, World = Items<i64>>>(
+fn answer_to<S: ResolverSet<Own = i64, World = Items<i64>>>(
     alloc: Global,
     bench: Bench,
     set: &mut S,

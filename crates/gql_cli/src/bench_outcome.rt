@@ -4,7 +4,7 @@ ghost use Rattle.gql_cli.specs.Gives.{BenchGives, HoldsTold, WithRecord, errors_
 ghost use Rattle.gql_cli.specs.Gives.{outcome_for, response_text};
 ghost use Rattle.gql_request.specs.BatchResponse.{responses_of};
 
-use crate::answer::{Answer, answer_to};
+use crate::answer::{Answer, answer_by};
 use crate::command::Command;
 use crate::lines::{line_after, line_of};
 use crate::outcome::Outcome;
@@ -28,10 +28,7 @@ pub(crate) fn bench_outcome<M: Tables>(
     if !bench.is_built() {
         return Ok(Outcome::NotBuilt);
     }
-    let mut set = tables.make(alloc, &bench)?;
-    let answer = answer_to(alloc, bench, &mut set);
-    tables.take_back(set);
-    match answer? {
+    match answer_by(alloc, bench, tables)? {
         Answer::Response(response) => { response_outcome(alloc, command, tables.told(), &response) }
         Answer::BadSchema(text) => {
             let line = line_after(alloc, "schema: ", text.as_str())?;

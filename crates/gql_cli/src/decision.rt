@@ -1,19 +1,21 @@
 //! What is due for words and a source.
-ghost use Rattle.std.specs.Prelude.{◌≡◌, [], ◌∷◌, IfOk, MatchOption, map, string_bytes};
-ghost use Rattle.gql_cli.specs.Command.{words_for};
+ghost use Rattle.std.specs.Prelude.{◌≡◌, ◌↔◌, ℕ, ◌<◌, [], ◌∷◌, IfOk, IsTrue, MatchOption, map};
+ghost use Rattle.std.specs.Prelude.{slice_index, string_bytes};
+ghost use Rattle.gql_cli.specs.Command.{IsLoad, IsRowCount, words_for};
 ghost use Rattle.gql_cli.specs.Gives.{HoldsTold};
-ghost use Rattle.gql_cli.specs.Run.{IsDue, IsListed};
+ghost use Rattle.gql_cli.specs.Run.{IsDue, IsDueUnread, IsOfCommand, IsOfLoad};
 
 use crate::bytes::outcome_of;
 use crate::command::Command;
+use crate::load::load_outcome;
 use crate::outcome::Outcome;
 use gql_base::Made;
 use gql_bench::Tables;
 use gql_io::{Reading, Source, read_whole};
 use std::alloc::Global;
 
-/// Finds what is due: the words are looked at first, and where they are listed the source is read
-/// whole. A bench's requests are executed over a set that `tables` makes and holds.
+/// Finds what is due: the words are looked at first, and where they are a command's the source is
+/// read whole. A bench's requests are executed over a set that `tables` makes and holds.
 pub(crate) fn decide<I: Source, M: Tables>(
     alloc: Global,
     words: &[String],
@@ -22,10 +24,10 @@ pub(crate) fn decide<I: Source, M: Tables>(
 ) -> Made<Outcome>
     ensures due { IfOk result (IsDue I.Source (HoldsTold (M.held tables.new) M.Set.told)
         (map string_bytes words.now) source.old source.new) }
-    ensures unread { ¬ IsListed (map string_bytes words.now) → source.new ≡ source.old }
+    ensures unread { ¬ IsOfCommand (map string_bytes words.now) → source.new ≡ source.old }
 {
     let Some(command) = command_of(words) else {
-        return Ok(Outcome::Usage);
+        return unread_outcome(alloc, words, tables);
     };
     match read_whole(alloc, source)? {
         Reading::Whole(bytes) => outcome_of(alloc, command, bytes, tables),
@@ -34,9 +36,21 @@ pub(crate) fn decide<I: Source, M: Tables>(
     }
 }
 
-/// The command of words, where they are a form that the program knows.
+/// What is due for words that aren't a command's: the line of a load, or that on the usage.
+fn unread_outcome<M: Tables>(alloc: Global, words: &[String], tables: &mut M) -> Made<Outcome>
+    requires { ¬ IsOfCommand (map string_bytes words.now) }
+    ensures { IfOk result (IsDueUnread (HoldsTold (M.held tables.new) M.Set.told)
+        (map string_bytes words.now)) }
+{
+    match load_of(words) {
+        Some(rows) => load_outcome(alloc, rows, tables),
+        None => Ok(Outcome::Usage),
+    }
+}
+
+/// The command of words, where they are those of one.
 fn command_of(words: &[String]) -> Option<Command>
-    ensures { MatchOption result (¬ IsListed (map string_bytes words.now))
+    ensures { MatchOption result (¬ IsOfCommand (map string_bytes words.now))
         (λ command. map string_bytes words.now ≡ words_for command) }
 {
     match words {
@@ -46,7 +60,7 @@ fn command_of(words: &[String]) -> Option<Command>
 }
 
 fn command_named(word: &str) -> Option<Command>
-    ensures { MatchOption result (¬ IsListed (word.now ∷ []))
+    ensures { MatchOption result (¬ IsOfCommand (word.now ∷ []))
         (λ command. word.now ∷ [] ≡ words_for command) }
 {
     match word {
@@ -54,5 +68,47 @@ fn command_named(word: &str) -> Option<Command>
         "record" => Some(Command::Record),
         "batch" => Some(Command::Batch),
         _ => None,
+    }
+}
+
+/// How many rows `load` is asked for, where the words are its own.
+fn load_of(words: &[String]) -> Option<usize>
+    ensures { MatchOption result (¬ IsOfLoad (map string_bytes words.now))
+        (λ rows. IsLoad rows (map string_bytes words.now)) }
+{
+    match words {
+        [word, count] => load_named(word.as_str(), count.as_str()),
+        _ => None,
+    }
+}
+
+fn load_named(word: &str, count: &str) -> Option<usize>
+    ensures { MatchOption result (¬ IsOfLoad (word.now ∷ count.now ∷ []))
+        (λ rows. IsLoad rows (word.now ∷ count.now ∷ [])) }
+{
+    match word {
+        "load" => row_count(count),
+        _ => None,
+    }
+}
+
+/// The number that a word is, where it is one of 1 to 10,000, without sign or leading zero.
+fn row_count(word: &str) -> Option<usize>
+    ensures { MatchOption result ((rows : ℕ) → ¬ IsRowCount rows word.now)
+        (λ rows. IsRowCount rows word.now) }
+{
+    match word.parse::<usize>() {
+        Ok(rows) if rows <= 10_000 && begins_above_zero(word) => Some(rows),
+        _ => None,
+    }
+}
+
+/// Whether the first character of a word comes behind `0`: neither that nor a sign does.
+fn begins_above_zero(word: &str) -> bool
+    ensures { IsTrue result ↔ (48 < slice_index word.now 0) }
+{
+    match word.as_bytes().first() {
+        Some(first) => *first > b'0',
+        None => false,
     }
 }

@@ -3,6 +3,7 @@ ghost use Rattle.std.specs.Prelude.{◌≡◌, ℕ, ℤ, List};
 ghost use Rattle.gql_bench.specs.declared.bench.Bench.{Bench as OneBench};
 ghost use Rattle.gql_cli.specs.Execution.{Between, IsRecord};
 ghost use Rattle.gql_cli.specs.Gives.{Gives, IfResponse};
+ghost use Rattle.gql_cli.specs.Load.{IsLoaded};
 ghost use Rattle.gql_cli.specs.declared.command.Command.{Command as OneCommand};
 ghost use Rattle.gql_cli.specs.declared.outcome.Outcome.{Outcome as OneOutcome};
 ghost use Rattle.gql_engine.specs.declared.scene.Scene.{Scene as OneScene};
@@ -38,4 +39,11 @@ pub fn one_result_of_a_bench()
         (entries others : List OneEntry)
         → Gives command bytes one entries → Gives command bytes other others
         → IfResponse one (entries ≡ others) }
+{}
+
+/// A load of so many rows gives one line, with one record.
+pub fn one_result_of_a_load()
+    ensures { (rows : ℕ) (one other : List ℕ) (entries others : List OneEntry)
+        → IsLoaded rows one entries → IsLoaded rows other others
+        → (one ≡ other) × (entries ≡ others) }
 {}

@@ -8,6 +8,7 @@ mod command;
 mod decision;
 mod laws;
 mod lines;
+mod load;
 mod outcome;
 mod program;
 mod shared;
@@ -19,7 +20,9 @@ pub use gql_io::{
     Failed, INPUT_LIMIT, MemorySink, MemorySource, Sink, SinkFault, Source, StdSink, StdSource,
     SureSink, SureSource,
 };
-pub use laws::{limit_of_the_input, one_record_of_a_scene, one_result_of_a_bench};
+pub use laws::{
+    limit_of_the_input, one_record_of_a_scene, one_result_of_a_bench, one_result_of_a_load,
+};
 pub use outcome::Outcome;
 pub use program::{run, run_alone};
 pub use status::Status;

@@ -23,6 +23,8 @@ pub enum Outcome {
     Answered(Text),
     /// The text of a response with errors.
     HasErrors(Text),
+    /// The line of a load.
+    Loaded(Text),
 }
 
 impl Outcome {
@@ -38,7 +40,7 @@ impl Outcome {
             Outcome::Usage => Status::Usage,
             Outcome::ReadFault => Status::ReadFault,
             Outcome::TooLong => Status::TooLong,
-            Outcome::Answered(_) => Status::Done,
+            Outcome::Answered(_) | Outcome::Loaded(_) => Status::Done,
             Outcome::HasErrors(_) => Status::HasErrors,
             Outcome::NotJson | Outcome::BadShape(_) | Outcome::NotBuilt | Outcome::BadSchema(_) =>
                 Status::Refused,
@@ -60,7 +62,8 @@ impl Outcome {
             Outcome::BadShape(text)
             | Outcome::BadSchema(text)
             | Outcome::Answered(text)
-            | Outcome::HasErrors(text) => text.as_str(),
+            | Outcome::HasErrors(text)
+            | Outcome::Loaded(text) => text.as_str(),
         }
     }
 }

@@ -23,6 +23,8 @@ mod error_tests;
 #[cfg(test)]
 mod fit_tests;
 #[cfg(test)]
+mod load_tests;
+#[cfg(test)]
 mod many_tests;
 #[cfg(test)]
 mod mutation_tests;
