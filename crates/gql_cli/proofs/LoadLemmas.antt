@@ -35,6 +35,11 @@ load_gives {S} rows bench made told held set is shown shows response answered te
     = subst (λ (h : Option S). HoldsTold h told entries) (sym is) answered.is_told in
     (entries, loaded, holds)
 
+-- words that are neither a command's nor a load's are no listed form
+pub usage_due : (words : List (List ℕ)) → ¬ IsOfCommand words → ¬ IsOfLoad words → ¬ IsListed words
+usage_due words none other (inl listed) = none listed
+usage_due words none other (inr listed) = other listed
+
 module _ (Told : List RecordEntry → Type 0) (words : List (List ℕ)) where
   load-due : (rows : ℕ) → IsLoad rows words → (outcome : Outcome) → WithRecord (LoadGives rows) Told outcome → IsDueUnread Told words outcome
   load-due rows asked (Loaded text) (entries, loaded, told) = (rows, entries, asked, loaded, told)
@@ -53,11 +58,6 @@ module _ (Told : List RecordEntry → Type 0) (words : List (List ℕ)) where
       → IfOk result (IsDueUnread Told words)
   load_due rows asked (Ok outcome) gives = load-due rows asked outcome gives
   load_due rows asked (Err want) gives = tt
-
-  -- and the line on the usage for those that are neither a command's nor a load's
-  pub usage_due : ¬ IsOfCommand words → ¬ IsOfLoad words → ¬ IsListed words
-  usage_due none other (inl listed) = none listed
-  usage_due none other (inr listed) = other listed
 
   module _ {I : Type 0} (source : Sourcing I) (old new : I) where
     unread-due : (outcome : Outcome) → IsDueUnread Told words outcome → IsDue source Told words old new outcome

@@ -271,12 +271,12 @@ module _ {I O : Type 0} (source : Sourcing I) (sink : Sinking O) (Told : List Re
           by (inr (same, holds)) (failed s listed f) = absurd (never-both words listed (rows, asked))
           by (inr (same, holds)) (long s listed f) = absurd (never-both words listed (rows, asked))
           by (inr (same, holds)) (given s g) = absurd (never-both words (given-listed g) (rows, asked))
-          by (inr written) (loaded text is (n, entries, said, one, told)) =
+          by (inr (same, holds)) (loaded text is (n, entries, said, one, told)) =
               inr (
                 text,
                 entries,
                 subst (λ n. IsLoaded n text entries) (loads-same n rows words said asked) one,
-                subst (IsWritten source sink Told words old new status) is written,
+                subst (IsWritten source sink Told words old new status) is (same, holds),
                 told,
               )
 

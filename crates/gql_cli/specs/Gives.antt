@@ -110,7 +110,7 @@ Gives command bytes outcome entries =
 abbrev pub IfResponse : Outcome → Type 0 → Type 0
 IfResponse (Answered text) P = P
 IfResponse (HasErrors text) P = P
-IfResponse (Loaded line) P = P
+IfResponse (Loaded text) P = P
 IfResponse outcome P = Unit {0}
 
 -- this is given with some record, and where it is a response, that record was told

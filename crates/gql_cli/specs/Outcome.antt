@@ -22,7 +22,7 @@ due_status NotBuilt = 3
 due_status (BadSchema text) = 3
 due_status (Answered text) = 0
 due_status (HasErrors text) = 1
-due_status (Loaded line) = 0
+due_status (Loaded text) = 0
 
 -- the text that is to be written
 abbrev pub due_text : Outcome → List ℕ
@@ -36,4 +36,4 @@ due_text NotBuilt = line (codes "bench: not built yet")
 due_text (BadSchema text) = text
 due_text (Answered text) = text
 due_text (HasErrors text) = text
-due_text (Loaded line) = line
+due_text (Loaded text) = text
