@@ -95,6 +95,7 @@ module _ (serving : Serving ℤ (List ℤ)) {State : Type 0} (choice : Choice St
             entries = its;
             told_is = refl;
             starts_is = phase.ran.starts_is;
+            waits = phase.ran.waits;
             turned = phase.ran.turned;
             state_is = phase.ran.state_is;
             made_is = phase.ran.made_is;

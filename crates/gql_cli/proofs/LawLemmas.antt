@@ -133,7 +133,7 @@ module _ (bench : Bench) where
       let settings : schema_settings one ≡ schema_settings other = a.settings ∙ sym b.settings in
       one_schema one other table settings
 
-  response-same : (told said : Option (List RecordEntry)) (r s : BatchResponse) → (a : IsResponseTo bench told r) → (b : IsResponseTo bench said s)
+  pub response-same : (told said : Option (List RecordEntry)) (r s : BatchResponse) → (a : IsResponseTo bench told r) → (b : IsResponseTo bench said s)
       → AreOne r s a.entries b.entries
   response-same told said r s a b =
       let schema = schemas-same a.schema b.schema a.is b.is in

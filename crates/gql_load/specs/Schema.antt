@@ -32,8 +32,11 @@ object_of name fields =
 abbrev pub query_type : ℕ → TypeForm
 query_type rows =
     object_of (codes "Query")
-    ((codes "rows", field_by (NonNull (ListOf (NonNull (Named (codes "Row")))))
-    (rule.Const (answered.Value (value.List (load_rows rows))))) ∷ [])
+    ((
+      codes "rows",
+      field_by (NonNull (ListOf (NonNull (Named (codes "Row")))))
+          (rule.Const (answered.Value (value.List (load_rows rows)))),
+    ) ∷ [])
 
 -- `Row { id: Int!, tag: String }`, whose fields answer their members
 abbrev pub row_type : TypeForm

@@ -36,7 +36,17 @@ fn loads(rt: HostRuntime) -> Result<(), Fail> {
 
 #[test]
 fn other_counts_are_no_form(rt: HostRuntime) -> Result<(), Fail> {
-    for count in ["", "0", "010", "10001", "+1", "-1", "1 ", "one", "18446744073709551617"] {
+    for count in [
+        "",
+        "0",
+        "010",
+        "10001",
+        "+1",
+        "-1",
+        "1 ",
+        "one",
+        "18446744073709551617",
+    ] {
         assert!(rt; load_ends_with(rt.alloc(), count, 2, USAGE)?, "at {count}");
     }
     Ok(())

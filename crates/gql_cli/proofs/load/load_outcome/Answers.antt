@@ -16,8 +16,8 @@ unreachable-requires g c =
     never_refused c.args.rows bench (subst (λ (form : BenchForm). IsBenchOf form bench) c.in_ok-form.ensures c.in_ok-bench.ensures) c.in-BadSchema.field-0
     (subst (IsAnswerTo bench (g.M.Set.ResolverSet.told set)) c.in-BadSchema.is answers)
 
-pub returns-in_ok-line-in-Response : goal.returns-in_ok-line-in-Response
-returns-in_ok-line-in-Response g c =
+pub returns : goal.returns
+returns g c =
     let (set, held, answers) = c.in_ok-response.ensures in
     let bench = c.in_ok-bench.bench in
     load_gives c.args.rows bench (subst (λ (form : BenchForm). IsBenchOf form bench) c.in_ok-form.ensures c.in_ok-bench.ensures) g.M.Set.ResolverSet.told
