@@ -1,5 +1,5 @@
 -- What was executed over a set of a bench is what the bench's rules, cells and turns give.
-use Rattle.std.proofs.Common.{◌≡◌, ℕ, ℤ, Bool, true, false, List, [], ◌∷◌, ◌++◌, Option, Some, Result, Ok, Err, option_map, append-nil, refl, ap, sym, ◌∙◌, subst}
+use Rattle.std.proofs.Common.{◌≡◌, ℕ, ℤ, Bool, true, false, List, [], ◌∷◌, ◌++◌, Some, Result, Ok, Err, option_map, append-nil, refl, ap, sym, ◌∙◌, subst}
 use Rattle.std.proofs.lemmas.List.{append_assoc}
 use Rattle.gql_bench.specs.ListTurns.{list_turns}
 use Rattle.gql_bench.specs.Table.{table_answer, table_delay, table_effect}

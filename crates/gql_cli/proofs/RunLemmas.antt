@@ -2,7 +2,6 @@
 use Rattle.std.proofs.Common.{◌≡◌, ◌⊎◌, ℕ, ◌+◌, ◌≤◌, ◌<◌, List, [], ◌∷◌, codes, length, Option, Some, None, inl, inr, refl, ap, sym, ◌∙◌, subst, arith}
 use Rattle.std.specs.Prelude.{IfSome}
 use Rattle.std.proofs.lemmas.Fmt.{decimal_injective}
-use Rattle.std.specs.Fmt.{decimal}
 use Rattle.std.specs.Io.KnownBytes.{Keeps}
 use Rattle.gql_cli.specs.Command.{IsLoad, IsRowCount, words_for}
 use Rattle.gql_cli.specs.Gives.{Gives, IfResponse}

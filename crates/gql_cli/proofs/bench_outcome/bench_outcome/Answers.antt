@@ -13,13 +13,14 @@ returns-in-Response g c =
 
 pub returns-in_ok-line-in-BadSchema : goal.returns-in_ok-line-in-BadSchema
 returns-in_ok-line-in-BadSchema g c =
+    let line = c.in_ok-line-in-BadSchema.ensures ∙ ap schema_line c.as_str.ensures in
     let (set, held, answers) = c.in_ok-response.ensures in (
       [],
       record {
         built = sym c.if-not-is_built.ensures;
         why = c.in-BadSchema.text;
         refused = subst (IsAnswerTo c.args.bench (g.M.Set.ResolverSet.told set)) c.in-BadSchema.is answers;
-        is = c.in_ok-line-in-BadSchema.ensures ∙ ap schema_line c.as_str.ensures;
+        is = line;
       },
       tt,
     )
