@@ -19,7 +19,7 @@ use std::alloc::Global;
 #[tactic(auto, unfolding(crate::specs::Drafting::arguments_draft))]
 pub fn read_arguments(
     alloc: Global,
-    cursor: &mut Cursor,
+    cursor: &mut Cursor<'_>,
     variables: Variables,
 ) -> Result<Draft<Items<Argument>>, ReadError>
     ensures { Leaves result cursor.new (arguments_draft variables cursor.old) }
@@ -35,7 +35,7 @@ pub fn read_arguments(
 /// Reads an argument and more of them, up to the parenthesis.
 fn read_some_arguments(
     alloc: Global,
-    cursor: &mut Cursor,
+    cursor: &mut Cursor<'_>,
     variables: Variables,
 ) -> Result<Draft<Items<Argument>>, ReadError>
     ensures { Leaves result cursor.new (some_arguments_draft variables cursor.old) }
@@ -53,7 +53,7 @@ fn read_some_arguments(
 #[tactic(auto, unfolding(crate::specs::Drafting::argument_draft))]
 fn read_argument(
     alloc: Global,
-    cursor: &mut Cursor,
+    cursor: &mut Cursor<'_>,
     variables: Variables,
 ) -> Result<Draft<Argument>, ReadError>
     ensures { Leaves result cursor.new (argument_draft variables cursor.old) }
@@ -70,7 +70,7 @@ fn read_argument(
 /// Reads directives, as long as an `@` is next.
 pub fn read_directives(
     alloc: Global,
-    cursor: &mut Cursor,
+    cursor: &mut Cursor<'_>,
     variables: Variables,
 ) -> Result<Draft<Items<Positioned<Directive>>>, ReadError>
     ensures { Leaves result cursor.new (directives_draft variables cursor.old) }
@@ -87,7 +87,7 @@ pub fn read_directives(
 #[tactic(auto, unfolding(crate::specs::Drafting::directive_draft))]
 fn read_directive(
     alloc: Global,
-    cursor: &mut Cursor,
+    cursor: &mut Cursor<'_>,
     variables: Variables,
 ) -> Result<Draft<Positioned<Directive>>, ReadError>
     ensures { Leaves result cursor.new (directive_draft variables cursor.old) }

@@ -1,10 +1,10 @@
 //! The tokens that are left to read.
-ghost use Rattle.std.specs.Prelude.{◌≡◌, ◌∷◌, ◌<◌, true, drop, IfOk, IfSome, OnOk};
+ghost use Rattle.std.specs.Prelude.{◌≡◌, ◌∷◌, ◌<◌, true, IfOk, IfSome, OnOk};
 ghost use Rattle.std.specs.Str.{chars};
 ghost use Rattle.std.specs.Option.{option_copied};
 ghost use Rattle.gql_tokens.specs.Place.{text_start};
 ghost use Rattle.gql_tokens.specs.Lexer.{Lexes, EndFinally};
-ghost use Rattle.gql_tokens.specs.Reaching.{IsReached};
+ghost use Rattle.gql_tokens.specs.Reaching.{IsReached, left};
 ghost use Rattle.gql_tokens.proofs.TokenFronts.{tokens_behind, tokens_left, is_last};
 ghost use Rattle.gql_doc.specs.Readers.{first, behind_first, begins, place_of, Leaves};
 ghost use Rattle.gql_doc.specs.Drafting.{taken_if, open_at, scalar_in, named_value};
@@ -21,7 +21,7 @@ ghost use Rattle.gql_doc.specs.Reading.{take_operation as read_operation, take_e
 use crate::document::{DocValue, OperationType, Positioned};
 use crate::trouble::{ReadError, Trouble};
 use gql_base::{Made, Name, Pos, Text};
-use gql_tokens::{Lexeme, Punctuator, Reached, Token, characters_of, is_final, next_token};
+use gql_tokens::{Lexeme, Punctuator, Reached, Token, is_final, next_token};
 use std::alloc::Global;
 use std::marker::Model;
 use std::mem;
@@ -29,24 +29,25 @@ use std::mem;
 /// The tokens that are left to read. The next one is at hand, and those behind it are read from the
 /// text as they are asked for. Contracts see them all, in their order.
 #[derive(Debug, Drop)]
-pub struct Cursor {
-    characters: Vec<char>,
+pub struct Cursor<'a> {
+    alloc: Global,
+    text: &'a str,
     reached: Reached,
     next: Option<Token>,
 }
 
-impl Model for Cursor {
-    ghost use Rattle.std.specs.Prelude.{List, drop};
+impl<'a> Model for Cursor<'a> {
+    ghost use Rattle.std.specs.Prelude.{List};
     ghost use Rattle.gql_tokens.specs.declared.token.Token.{Token};
-    ghost use Rattle.gql_tokens.specs.Reaching.{IsReached};
+    ghost use Rattle.gql_tokens.specs.Reaching.{IsReached, left};
     ghost use Rattle.gql_tokens.proofs.TokenFronts.{tokens_left};
 
     ghost Value = { List Token };
 
     ghost view = { λ cursor. tokens_left cursor.next cursor.reached.place
-        (drop cursor.reached.at cursor.characters.items) };
+        (left cursor.text.now cursor.reached.at) };
 
-    ghost invariant = { λ cursor. IsReached cursor.characters.items cursor.reached };
+    ghost invariant = { λ cursor. IsReached cursor.text.now cursor.reached };
 }
 
 /// A bracket that was opened: its place, and the levels that may still open within.
@@ -67,44 +68,31 @@ fn is_last(next: &Option<Token>) -> bool
 }
 
 /// The token that follows, unless the last one was read.
-fn following(
-    alloc: Global,
-    characters: &[char],
-    reached: &mut Reached,
-    last: bool,
-) -> Made<Option<Token>>
-    requires { IsReached characters.now reached.old }
-    ensures reached { IsReached characters.now reached.new }
+fn following(alloc: Global, text: &str, reached: &mut Reached, last: bool) -> Made<Option<Token>>
+    requires { IsReached text.now reached.old }
+    ensures reached { IsReached text.now reached.new }
     ensures next { IfOk result (λ next.
-        tokens_behind last reached.old.place (drop reached.old.at characters.now)
-        ≡ tokens_left next reached.new.place (drop reached.new.at characters.now)) }
+        tokens_behind last reached.old.place (left text.now reached.old.at)
+        ≡ tokens_left next reached.new.place (left text.now reached.new.at)) }
 {
     if last {
         return Ok(None);
     }
-    let next = next_token(alloc, characters, reached)?;
+    let next = next_token(alloc, text, reached)?;
     Ok(Some(next))
 }
 
-impl Cursor {
+impl<'a> Cursor<'a> {
     /// The tokens of a text.
-    pub fn of(alloc: Global, text: &str) -> Made<Cursor>
+    pub fn of(alloc: Global, text: &'a str) -> Made<Cursor<'a>>
         ensures exact { IfOk result (λ tokens. Lexes text_start (chars text.now) tokens) }
         ensures ends { IfOk result EndFinally }
     {
-        let characters = characters_of(alloc, text)?;
-        let tokens = Cursor::from_characters(alloc, characters)?;
-        Ok(tokens)
-    }
-
-    /// The tokens of a list of characters.
-    fn from_characters(alloc: Global, characters: Vec<char>) -> Made<Cursor>
-        ensures { IfOk result (λ tokens. Lexes text_start characters.items tokens) }
-    {
         let mut reached = Reached::start();
-        let next = next_token(alloc, &characters, &mut reached)?;
+        let next = next_token(alloc, text, &mut reached)?;
         Ok(Cursor {
-            characters,
+            alloc,
+            text,
             reached,
             next: Some(next),
         })
@@ -126,9 +114,8 @@ impl Cursor {
         requires { begins (λ _. true) self.old ≡ true }
         ensures { IfOk result (λ token. self.old ≡ token ∷ self.new) }
     {
-        let alloc = *self.characters.allocator();
         let last = is_last(&self.next);
-        let next = following(alloc, &self.characters, &mut self.reached, last)?;
+        let next = following(self.alloc, self.text, &mut self.reached, last)?;
         match mem::replace(&mut self.next, next) {
             Some(token) => Ok(token),
             None => unreachable!(),
@@ -140,7 +127,8 @@ impl Cursor {
         requires { begins (λ _. true) self.old ≡ true }
         ensures { OnOk result (self.new ≡ behind_first self.old) }
     {
-        drop(self.pop()?);
+        let last = is_last(&self.next);
+        self.next = following(self.alloc, self.text, &mut self.reached, last)?;
         Ok(())
     }
 

@@ -21,7 +21,7 @@ use std::alloc::Global;
 
 /// Reads the definitions of a document, and the end of the text.
 #[tactic(auto, unfolding(crate::specs::Drafting::document_draft))]
-pub fn read_document(alloc: Global, cursor: &mut Cursor) -> Result<Gathering, ReadError>
+pub fn read_document(alloc: Global, cursor: &mut Cursor<'_>) -> Result<Gathering, ReadError>
     ensures { Leaves result cursor.new (document_draft cursor.old) }
 {
     let definitions = read_definitions(alloc, cursor)?;
@@ -31,7 +31,7 @@ pub fn read_document(alloc: Global, cursor: &mut Cursor) -> Result<Gathering, Re
 
 /// Reads one type, and the end of the text.
 #[tactic(auto, unfolding(crate::specs::Reading::type_text))]
-pub fn read_type_text(alloc: Global, cursor: &mut Cursor) -> Result<TypeRef, ReadError>
+pub fn read_type_text(alloc: Global, cursor: &mut Cursor<'_>) -> Result<TypeRef, ReadError>
     ensures { Leaves result cursor.new (type_text cursor.old) }
 {
     let ty = read_type(alloc, cursor, MAX_LEVELS)?;
@@ -40,7 +40,7 @@ pub fn read_type_text(alloc: Global, cursor: &mut Cursor) -> Result<TypeRef, Rea
 }
 
 /// Reads a definition and more of them, up to the end.
-fn read_definitions(alloc: Global, cursor: &mut Cursor) -> Result<Gathering, ReadError>
+fn read_definitions(alloc: Global, cursor: &mut Cursor<'_>) -> Result<Gathering, ReadError>
     ensures { Leaves result cursor.new (definitions_draft cursor.old) }
 {
     let first = read_definition(alloc, cursor)?;
@@ -55,7 +55,7 @@ fn read_definitions(alloc: Global, cursor: &mut Cursor) -> Result<Gathering, Rea
 
 /// Reads a definition.
 #[tactic(auto, unfolding(crate::specs::Drafting::definition_draft))]
-fn read_definition(alloc: Global, cursor: &mut Cursor) -> Result<DefinitionDraft, ReadError>
+fn read_definition(alloc: Global, cursor: &mut Cursor<'_>) -> Result<DefinitionDraft, ReadError>
     ensures { Leaves result cursor.new (definition_draft cursor.old) }
 {
     if cursor.is_at(Punctuator::OpenBrace) {
@@ -69,7 +69,7 @@ fn read_definition(alloc: Global, cursor: &mut Cursor) -> Result<DefinitionDraft
 
 /// Reads a query that is written as its set alone.
 #[tactic(auto, unfolding(crate::specs::Drafting::shorthand_draft))]
-fn read_shorthand(alloc: Global, cursor: &mut Cursor) -> Result<DefinitionDraft, ReadError>
+fn read_shorthand(alloc: Global, cursor: &mut Cursor<'_>) -> Result<DefinitionDraft, ReadError>
     ensures { Leaves result cursor.new (shorthand_draft cursor.old) }
 {
     let pos = cursor.pos();
@@ -89,7 +89,7 @@ fn read_shorthand(alloc: Global, cursor: &mut Cursor) -> Result<DefinitionDraft,
 
 /// Reads an operation with its keyword.
 #[tactic(auto, unfolding(crate::specs::Drafting::operation_draft))]
-fn read_operation(alloc: Global, cursor: &mut Cursor) -> Result<DefinitionDraft, ReadError>
+fn read_operation(alloc: Global, cursor: &mut Cursor<'_>) -> Result<DefinitionDraft, ReadError>
     ensures { Leaves result cursor.new (operation_draft cursor.old) }
 {
     let (pos, ty) = cursor.take_operation()?;
@@ -112,7 +112,7 @@ fn read_operation(alloc: Global, cursor: &mut Cursor) -> Result<DefinitionDraft,
 }
 
 /// Reads a name, if one is next.
-fn read_name_if_any(cursor: &mut Cursor) -> Result<Option<Positioned<Name>>, ReadError>
+fn read_name_if_any(cursor: &mut Cursor<'_>) -> Result<Option<Positioned<Name>>, ReadError>
     ensures { Leaves result cursor.new (optional is_name take_name cursor.old) }
 {
     if !cursor.is_at_name() {
@@ -124,7 +124,7 @@ fn read_name_if_any(cursor: &mut Cursor) -> Result<Option<Positioned<Name>>, Rea
 
 /// Reads the definition of a fragment.
 #[tactic(auto, unfolding(crate::specs::Drafting::fragment_draft))]
-fn read_fragment(alloc: Global, cursor: &mut Cursor) -> Result<DefinitionDraft, ReadError>
+fn read_fragment(alloc: Global, cursor: &mut Cursor<'_>) -> Result<DefinitionDraft, ReadError>
     ensures { Leaves result cursor.new (fragment_draft cursor.old) }
 {
     let pos = cursor.take_word("fragment")?;

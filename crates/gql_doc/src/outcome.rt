@@ -17,7 +17,7 @@ use std::alloc::{AllocError, Global};
 #[tactic(auto, using(crate::proofs::DefinitionDrafts::text_read, crate::proofs::DefinitionDrafts::text_stopped))]
 pub fn document_of_tokens(
     alloc: Global,
-    cursor: &mut Cursor,
+    cursor: &mut Cursor<'_>,
 ) -> Made<Result<ExecutableDocument, ParseFault>>
     ensures { IfOk result (λ outcome. outcome ≡ query_of cursor.old) }
 {
@@ -28,7 +28,7 @@ pub fn document_of_tokens(
 }
 
 /// The type of the tokens that are left, or the first fault.
-pub fn type_of_tokens(alloc: Global, cursor: &mut Cursor) -> Made<Result<TypeRef, ParseFault>>
+pub fn type_of_tokens(alloc: Global, cursor: &mut Cursor<'_>) -> Made<Result<TypeRef, ParseFault>>
     ensures { IfOk result (λ outcome. outcome ≡ parsed_by type_text cursor.old) }
 {
     match read_type_text(alloc, cursor) {

@@ -25,7 +25,7 @@ use std::alloc::Global;
 #[tactic(auto, using(crate::proofs::LevelLaws::set_step))]
 pub fn read_set(
     alloc: Global,
-    cursor: &mut Cursor,
+    cursor: &mut Cursor<'_>,
     levels: usize,
 ) -> Result<Draft<Positioned<SelectionSet>>, ReadError>
     ensures { Leaves result cursor.new (set_draft levels cursor.old) }
@@ -41,7 +41,7 @@ pub fn read_set(
 #[tactic(auto, unfolding(crate::specs::Drafting::set_behind))]
 fn read_set_behind(
     alloc: Global,
-    cursor: &mut Cursor,
+    cursor: &mut Cursor<'_>,
     pos: Pos,
     levels: usize,
 ) -> Result<Draft<Positioned<SelectionSet>>, ReadError>
@@ -60,7 +60,7 @@ fn read_set_behind(
 #[cycle(set)]
 fn read_selections(
     alloc: Global,
-    cursor: &mut Cursor,
+    cursor: &mut Cursor<'_>,
     levels: usize,
 ) -> Result<Draft<Items<Positioned<Selection>>>, ReadError>
     ensures { Leaves result cursor.new (selections_draft levels cursor.old) }
@@ -79,7 +79,7 @@ fn read_selections(
 #[tactic(auto, unfolding(crate::specs::Drafting::selection_draft))]
 fn read_selection(
     alloc: Global,
-    cursor: &mut Cursor,
+    cursor: &mut Cursor<'_>,
     levels: usize,
 ) -> Result<Draft<Positioned<Selection>>, ReadError>
     ensures { Leaves result cursor.new (selection_draft levels cursor.old) }
@@ -97,7 +97,7 @@ fn read_selection(
 #[tactic(auto, unfolding(crate::specs::Drafting::field_draft))]
 fn read_field(
     alloc: Global,
-    cursor: &mut Cursor,
+    cursor: &mut Cursor<'_>,
     levels: usize,
 ) -> Result<Draft<Positioned<Selection>>, ReadError>
     ensures { Leaves result cursor.new (field_draft levels cursor.old) }
@@ -138,7 +138,9 @@ fn field_of(
 
 /// Reads an alias, if one is there, and a name.
 #[tactic(auto, using(crate::proofs::LevelLaws::head_step))]
-fn read_head(cursor: &mut Cursor) -> Result<(Option<Positioned<Name>>, Positioned<Name>), ReadError>
+fn read_head(
+    cursor: &mut Cursor<'_>,
+) -> Result<(Option<Positioned<Name>>, Positioned<Name>), ReadError>
     ensures { Leaves result cursor.new (head_at cursor.old) }
 {
     let first = cursor.take_name()?;
@@ -164,7 +166,7 @@ fn pos_of(alias: &Option<Positioned<Name>>, name: &Positioned<Name>) -> Pos
 #[tactic(auto, using(crate::proofs::LevelLaws::set_or_none_step))]
 fn read_set_or_none(
     alloc: Global,
-    cursor: &mut Cursor,
+    cursor: &mut Cursor<'_>,
     field: Pos,
     levels: usize,
 ) -> Result<Draft<Positioned<SelectionSet>>, ReadError>
@@ -185,7 +187,7 @@ fn read_set_or_none(
 #[tactic(auto, unfolding(crate::specs::Drafting::spread_draft))]
 fn read_spread(
     alloc: Global,
-    cursor: &mut Cursor,
+    cursor: &mut Cursor<'_>,
     pos: Pos,
     levels: usize,
 ) -> Result<Draft<Positioned<Selection>>, ReadError>
@@ -202,7 +204,7 @@ fn read_spread(
 #[tactic(auto, unfolding(crate::specs::Drafting::spread_behind))]
 fn read_spread_behind(
     alloc: Global,
-    cursor: &mut Cursor,
+    cursor: &mut Cursor<'_>,
     pos: Pos,
 ) -> Result<Draft<Positioned<Selection>>, ReadError>
     ensures { Leaves result cursor.new (spread_behind pos cursor.old) }
@@ -225,7 +227,7 @@ fn read_spread_behind(
 #[tactic(auto, unfolding(crate::specs::Drafting::inline_behind))]
 fn read_inline_behind(
     alloc: Global,
-    cursor: &mut Cursor,
+    cursor: &mut Cursor<'_>,
     pos: Pos,
     levels: usize,
 ) -> Result<Draft<Positioned<Selection>>, ReadError>
@@ -248,7 +250,7 @@ fn read_inline_behind(
 
 /// Reads a condition, if `on` is next.
 #[tactic(auto, using(crate::proofs::LevelLaws::condition_step))]
-fn read_condition_if_any(cursor: &mut Cursor) -> Result<Option<Positioned<Name>>, ReadError>
+fn read_condition_if_any(cursor: &mut Cursor<'_>) -> Result<Option<Positioned<Name>>, ReadError>
     ensures { Leaves result cursor.new (optional (is_word (codes "on")) condition cursor.old) }
 {
     if !cursor.take_if_word("on")? {
@@ -260,7 +262,7 @@ fn read_condition_if_any(cursor: &mut Cursor) -> Result<Option<Positioned<Name>>
 
 /// Reads the condition of a fragment: `on`, and a name.
 #[tactic(auto, unfolding(crate::specs::Reading::condition))]
-pub fn read_condition(cursor: &mut Cursor) -> Result<Positioned<Name>, ReadError>
+pub fn read_condition(cursor: &mut Cursor<'_>) -> Result<Positioned<Name>, ReadError>
     ensures { Leaves result cursor.new (condition cursor.old) }
 {
     cursor.take_word("on")?;

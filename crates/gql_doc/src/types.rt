@@ -16,7 +16,7 @@ use std::alloc::Global;
 #[tactic(auto, unfolding(crate::specs::Reading::placed_type))]
 pub fn read_placed_type(
     alloc: Global,
-    cursor: &mut Cursor,
+    cursor: &mut Cursor<'_>,
 ) -> Result<Positioned<TypeRef>, ReadError>
     ensures { Leaves result cursor.new (placed_type cursor.old) }
 {
@@ -28,7 +28,11 @@ pub fn read_placed_type(
 /// Reads a type. So many levels of lists may still open.
 #[cycle(ty)]
 #[tactic(auto, using(crate::proofs::LevelLaws::type_step))]
-pub fn read_type(alloc: Global, cursor: &mut Cursor, levels: usize) -> Result<TypeRef, ReadError>
+pub fn read_type(
+    alloc: Global,
+    cursor: &mut Cursor<'_>,
+    levels: usize,
+) -> Result<TypeRef, ReadError>
     ensures { Leaves result cursor.new (type_at levels cursor.old) }
 {
     let bare = read_bare_type(alloc, cursor, levels)?;
@@ -37,7 +41,7 @@ pub fn read_type(alloc: Global, cursor: &mut Cursor, levels: usize) -> Result<Ty
 
 /// Reads the `!` behind a type, if one is there.
 #[tactic(auto, using(crate::proofs::LevelLaws::bang_step))]
-fn read_bang(alloc: Global, cursor: &mut Cursor, bare: TypeRef) -> Result<TypeRef, ReadError>
+fn read_bang(alloc: Global, cursor: &mut Cursor<'_>, bare: TypeRef) -> Result<TypeRef, ReadError>
     ensures { Leaves result cursor.new (null_or_not bare cursor.old) }
 {
     if !cursor.take_if(Punctuator::Bang)? {
@@ -49,7 +53,11 @@ fn read_bang(alloc: Global, cursor: &mut Cursor, bare: TypeRef) -> Result<TypeRe
 /// Reads a type without a `!` at its end.
 #[cycle(ty)]
 #[tactic(auto, using(crate::proofs::LevelLaws::bare_type_step))]
-fn read_bare_type(alloc: Global, cursor: &mut Cursor, levels: usize) -> Result<TypeRef, ReadError>
+fn read_bare_type(
+    alloc: Global,
+    cursor: &mut Cursor<'_>,
+    levels: usize,
+) -> Result<TypeRef, ReadError>
     ensures { Leaves result cursor.new (bare_type_by (list_type_at levels) cursor.old) }
 {
     if let Some(list) = cursor.open_bracket(Punctuator::OpenBracket, levels)? {
@@ -61,7 +69,11 @@ fn read_bare_type(alloc: Global, cursor: &mut Cursor, levels: usize) -> Result<T
 
 /// Reads a list type behind its bracket. So many levels may open within.
 #[cycle(ty)]
-fn read_list_type(alloc: Global, cursor: &mut Cursor, levels: usize) -> Result<TypeRef, ReadError>
+fn read_list_type(
+    alloc: Global,
+    cursor: &mut Cursor<'_>,
+    levels: usize,
+) -> Result<TypeRef, ReadError>
     ensures { Leaves result cursor.new (list_type_behind (type_at levels) cursor.old) }
 {
     let inner = read_type(alloc, cursor, levels)?;

@@ -26,7 +26,7 @@ type Member = (Positioned<Name>, Draft<DocValue>);
 #[tactic(auto, unfolding(crate::specs::Drafting::placed_draft))]
 pub fn read_placed_value(
     alloc: Global,
-    cursor: &mut Cursor,
+    cursor: &mut Cursor<'_>,
     variables: Variables,
 ) -> Result<Draft<Positioned<DocValue>>, ReadError>
     ensures { Leaves result cursor.new (placed_draft variables cursor.old) }
@@ -44,7 +44,7 @@ pub fn read_placed_value(
 #[tactic(auto, using(crate::proofs::LevelLaws::value_step))]
 fn read_value(
     alloc: Global,
-    cursor: &mut Cursor,
+    cursor: &mut Cursor<'_>,
     variables: Variables,
     levels: usize,
 ) -> Result<Draft<DocValue>, ReadError>
@@ -61,7 +61,7 @@ fn read_value(
 }
 
 /// Reads a value that is no list and no object.
-fn read_plain_value(cursor: &mut Cursor, variables: Variables) -> Result<DocValue, ReadError>
+fn read_plain_value(cursor: &mut Cursor<'_>, variables: Variables) -> Result<DocValue, ReadError>
     ensures { Leaves result cursor.new (plain_at variables cursor.old) }
 {
     match variables {
@@ -72,7 +72,7 @@ fn read_plain_value(cursor: &mut Cursor, variables: Variables) -> Result<DocValu
 
 /// Reads a variable or a value of one token.
 #[tactic(auto, unfolding(crate::specs::Drafting::variable_or_scalar))]
-fn read_variable_or_scalar(cursor: &mut Cursor) -> Result<DocValue, ReadError>
+fn read_variable_or_scalar(cursor: &mut Cursor<'_>) -> Result<DocValue, ReadError>
     ensures { Leaves result cursor.new (variable_or_scalar cursor.old) }
 {
     if !cursor.take_if(Punctuator::Dollar)? {
@@ -87,7 +87,7 @@ fn read_variable_or_scalar(cursor: &mut Cursor) -> Result<DocValue, ReadError>
 #[tactic(auto, unfolding(crate::specs::Drafting::list_draft))]
 fn read_list(
     alloc: Global,
-    cursor: &mut Cursor,
+    cursor: &mut Cursor<'_>,
     variables: Variables,
     levels: usize,
 ) -> Result<Draft<DocValue>, ReadError>
@@ -105,7 +105,7 @@ fn read_list(
 #[cycle(value)]
 fn read_values(
     alloc: Global,
-    cursor: &mut Cursor,
+    cursor: &mut Cursor<'_>,
     variables: Variables,
     levels: usize,
 ) -> Result<Draft<Items<DocValue>>, ReadError>
@@ -124,7 +124,7 @@ fn read_values(
 #[tactic(auto, unfolding(crate::specs::Drafting::object_draft))]
 fn read_object(
     alloc: Global,
-    cursor: &mut Cursor,
+    cursor: &mut Cursor<'_>,
     variables: Variables,
     levels: usize,
 ) -> Result<Draft<DocValue>, ReadError>
@@ -142,7 +142,7 @@ fn read_object(
 #[cycle(value)]
 fn read_members(
     alloc: Global,
-    cursor: &mut Cursor,
+    cursor: &mut Cursor<'_>,
     variables: Variables,
     levels: usize,
 ) -> Result<Draft<Pairs<DocValue>>, ReadError>
@@ -175,7 +175,7 @@ fn add_member(members: &mut Draft<Pairs<DocValue>>, member: Member) -> Made<()>
 #[tactic(auto, unfolding(crate::specs::Drafting::member_draft))]
 fn read_member(
     alloc: Global,
-    cursor: &mut Cursor,
+    cursor: &mut Cursor<'_>,
     variables: Variables,
     levels: usize,
 ) -> Result<Member, ReadError>

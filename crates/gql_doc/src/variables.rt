@@ -21,7 +21,7 @@ use std::alloc::Global;
 #[tactic(auto, unfolding(crate::specs::Drafting::variables_draft))]
 pub fn read_variables(
     alloc: Global,
-    cursor: &mut Cursor,
+    cursor: &mut Cursor<'_>,
 ) -> Result<Draft<Items<Positioned<VariableDefinition>>>, ReadError>
     ensures { Leaves result cursor.new (variables_draft cursor.old) }
 {
@@ -36,7 +36,7 @@ pub fn read_variables(
 /// Reads the definition of a variable and more of them, up to the parenthesis.
 fn read_some_variables(
     alloc: Global,
-    cursor: &mut Cursor,
+    cursor: &mut Cursor<'_>,
 ) -> Result<Draft<Items<Positioned<VariableDefinition>>>, ReadError>
     ensures { Leaves result cursor.new (some_variables_draft cursor.old) }
 {
@@ -53,7 +53,7 @@ fn read_some_variables(
 #[tactic(auto, unfolding(crate::specs::Drafting::variable_draft))]
 fn read_variable(
     alloc: Global,
-    cursor: &mut Cursor,
+    cursor: &mut Cursor<'_>,
 ) -> Result<Draft<Positioned<VariableDefinition>>, ReadError>
     ensures { Leaves result cursor.new (variable_draft cursor.old) }
 {
@@ -79,7 +79,7 @@ fn read_variable(
 #[tactic(auto, unfolding(crate::specs::Drafting::default_draft))]
 fn read_default(
     alloc: Global,
-    cursor: &mut Cursor,
+    cursor: &mut Cursor<'_>,
 ) -> Result<Draft<Option<Positioned<Value>>>, ReadError>
     ensures { Leaves result cursor.new (default_draft cursor.old) }
 {

@@ -1,14 +1,16 @@
 -- Block strings: each is read in one way.
-use Rattle.std.proofs.Common.{◌≡◌, ℕ, ◌+◌, ◌≤◌, Bool, true, false, List, [], ◌∷◌, ◌++◌, nat_eq, length, take, refl, sym, ap, ◌∙◌, arith, append_assoc, length-append, ◌==◌, drop, drop-drop, take-append-drop, subst, ap₂, eqb-true, take_at, length-drop, ◌-◌}
+use Rattle.std.proofs.Common.{◌≡◌, ℕ, ◌+◌, ◌≤◌, Bool, true, false, List, [], ◌∷◌, ◌++◌, nat_eq, length, take, refl, sym, ap, ◌∙◌, arith, append_assoc, length-append, ◌==◌, drop, drop-drop, take-append-drop, subst, ap₂, eqb-true, take_at, length-drop, append-nil}
 use Rattle.std.specs.Cmp.Lexicographic.{bytes_decides}
 use Rattle.std.specs.List.{starts_with}
 use lib.Pointwise.{pointwise}
-use Rattle.std.proofs.lemmas.List.{take-append-le, take_rest}
+use Rattle.std.proofs.lemmas.Bool.{eq-eqb}
+use Rattle.std.proofs.lemmas.Bool.Decides.{nat_tests}
+use Rattle.std.proofs.lemmas.List.{take-append-le}
 use Rattle.gql_tokens.specs.Characters.{quote, backslash, is_source, begins}
 use Rattle.gql_tokens.specs.Block.{three_quotes, escaped_quotes, Piece, written, raw_of, ArePieces, IsBlockString}
 use Rattle.gql_tokens.specs.Block.Piece.{itself, quotes}
-use Rattle.gql_tokens.specs.Parts.{IsUnended, IsBodyAt}
-use Rattle.gql_tokens.proofs.Lists.{head_is, tail_is, begins_so}
+use Rattle.gql_tokens.specs.Parts.{is_bare, IsUnended, IsBodyAt}
+use Rattle.gql_tokens.proofs.Lists.{head_is, tail_is, begins_so, Each}
 
 -- pieces are read in one way, up to the quotes that end them
 pub pieces_unique : (ps qs : List Piece) (x y : List ℕ) → ArePieces ps (three_quotes ++ x) → ArePieces qs (three_quotes ++ y)
@@ -169,6 +171,40 @@ within_itself text raw at c h first source p q =
       tt,
     )
 
+-- such a character is no quote and no backslash
+bare_source : (c : ℕ) → is_bare c ≡ true → is_source c ≡ true
+bare_source c h = grind (arith, nat_tests)
+
+bare_not_quote : (c : ℕ) → is_bare c ≡ true → c ≡ quote → ⊥
+bare_not_quote c h e = grind (arith, nat_tests)
+
+bare_not_backslash : (c : ℕ) → is_bare c ≡ true → c ≡ backslash → ⊥
+bare_not_backslash c h e = grind (arith, nat_tests)
+
+-- a word that begins with another character doesn't begin the text
+other_start : (c : ℕ) (cs : List ℕ) (d : ℕ) (ds : List ℕ) → (c ≡ d → ⊥) → starts_with nat_eq (c ∷ cs) (d ∷ ds) ≡ false
+other_start c cs d ds h = go (starts_with nat_eq (c ∷ cs) (d ∷ ds)) refl
+  where
+    go : (b : Bool) → starts_with nat_eq (c ∷ cs) (d ∷ ds) ≡ b → starts_with nat_eq (c ∷ cs) (d ∷ ds) ≡ false
+    go true e = absurd (h (head_is (starts_gives (c ∷ cs) (d ∷ ds) e)))
+    go false e = e
+
+-- characters that stand for themselves, whatever follows them
+pub within_bare : (text raw : List ℕ) (at : ℕ) (cs rest : List ℕ) → IsWithin text raw at → drop at text ≡ cs ++ rest → Each is_bare cs
+    → IsWithin text (raw ++ cs) (at + length cs)
+within_bare text raw at [] rest h e bare =
+    let none : at ≡ at + 0 = omega arith in
+    subst (λ l. IsWithin text l (at + 0)) (sym (append-nil raw)) (subst (IsWithin text raw) none h)
+within_bare text raw at (c ∷ cs) rest h e bare =
+    let behind : drop (at + 1) text ≡ cs ++ rest = sym (drop-drop 1 at text) ∙ ap (drop 1) e in
+    let more = within_bare text (raw ++ c ∷ []) (at + 1) cs rest
+    (within_itself text raw at c h (ap (begins (λ d. d == c)) e ∙ eq-eqb c c refl) (bare_source c bare.0)
+    (ap (λ l. starts_with nat_eq l three_quotes) e ∙ other_start c (cs ++ rest) quote (quote ∷ quote ∷ []) (bare_not_quote c bare.0))
+    (ap (λ l. starts_with nat_eq l escaped_quotes) e ∙ other_start c (cs ++ rest) backslash three_quotes (bare_not_backslash c bare.0)))
+    behind bare.1 in
+    let size : at + 1 + length cs ≡ at + length (c ∷ cs) = omega arith in
+    subst (λ l. IsWithin text l (at + length (c ∷ cs))) (append_assoc raw (c ∷ []) cs) (subst (IsWithin text ((raw ++ c ∷ []) ++ cs)) size more)
+
 pub within_body : (text raw : List ℕ) (at : ℕ) → at ≤ length text → IsWithin text raw at → starts_with nat_eq (drop at text) three_quotes ≡ true
     → IsBodyAt text raw (at + 3)
 within_body text raw at short h k =
@@ -193,13 +229,6 @@ within_body text raw at short h k =
 
 pub within_unended : (text raw : List ℕ) (at : ℕ) → IsWithin text raw at → begins is_source (drop at text) ≡ false → IsUnended (drop 3 text)
 within_unended text raw at h ends = unended_behind (drop 3 text) (drop at text) h.pieces (ap (drop 3) h.text_is) h.are_pieces ends
-
--- the slice behind a place begins as the text there does
-pub starts_behind : (text word : List ℕ) (at : ℕ) (b : Bool) → starts_with nat_eq (take (length text - at) (drop at text)) word ≡ b → starts_with nat_eq (drop at text) word ≡ b
-starts_behind text word at b h = sym (ap (λ l. starts_with nat_eq l word) (take_rest text at)) ∙ h
-
-pub begins_behind : (test : ℕ → Bool) (text : List ℕ) (at : ℕ) (b : Bool) → begins test (take (length text - at) (drop at text)) ≡ b → begins test (drop at text) ≡ b
-begins_behind test text at b h = sym (ap (begins test) (take_rest text at)) ∙ h
 
 pub escaped_fits : (text : List ℕ) (at : ℕ) → starts_with nat_eq (drop at text) escaped_quotes ≡ true → at + 4 ≤ length text
 escaped_fits text at h = omega (arith, ap length (starts_gives (drop at text) escaped_quotes h), length-drop at text)

@@ -1,9 +1,17 @@
+pub mod Ascii
 pub mod LinesLaws
 pub mod Lists
+pub mod BlockCuts
 pub mod BlockEnds
 pub mod BlockLaws
+pub mod BytePlaces
+pub mod CutLemmas
+pub mod CutStands
+pub mod CutSteps
 pub mod GapLaws
+pub mod IgnoredLaws
 pub mod LexerLaws
+pub mod LinesCuts
 pub mod NameLaws
 pub mod NumberFronts
 pub mod NumberLaws
@@ -12,6 +20,7 @@ pub mod PlaceLaws
 pub mod SourceLaws
 pub mod StandsLaws
 pub mod StepLaws
+pub mod StringCuts
 pub mod StringFronts
 pub mod StringLaws
 pub mod TokenFronts

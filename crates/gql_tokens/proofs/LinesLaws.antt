@@ -1,15 +1,18 @@
 -- The lines of a text, and those that a block string keeps.
-use Rattle.std.proofs.Common.{◌≡◌, ℕ, ◌+◌, ◌-◌, ◌<◌, ◌≤◌, Bool, true, false, cond, ◌==◌, ◌⊎◌, List, [], ◌∷◌, ◌++◌, length, take, drop, reverse, Some, None, refl, sym, ap, ◌∙◌, inl, inr, arith, append_assoc, length-append, length-drop, take-append-drop, drop-drop, take_all, subst, le_refl, map}
+use Rattle.std.proofs.Common.{◌≡◌, ℕ, ◌+◌, ◌-◌, ◌<◌, ◌≤◌, Bool, true, false, cond, ◌==◌, ◌⊎◌, List, [], ◌∷◌, ◌++◌, length, take, drop, reverse, Some, None, refl, sym, ap, ◌∙◌, inl, inr, arith, append_assoc, length-append, length-drop, take-append-drop, drop-drop, take_all, subst, le_refl, map, get_or}
 use Rattle.std.specs.List.{prefix_len, join_with_byte}
 use Rattle.std.proofs.lemmas.Bool.Decides.{nat_tests}
-use Rattle.std.proofs.lemmas.List.{reverse-append, reverse-reverse, take-append-le, take_rest}
+use Rattle.std.proofs.lemmas.Bool.{cases_lt}
+use Rattle.std.proofs.lemmas.List.{reverse-append, reverse-reverse, take-append-le, take_rest, get_or_append_left, get_or-append_right}
+use Rattle.std.proofs.lemmas.Str.{IsCharBoundary-end}
+use Rattle.std.specs.Str.{IsCharBoundary}
 use Rattle.gql_tokens.specs.Characters.{line_feed, carriage_return, is_line_character, begins}
 use Rattle.gql_tokens.specs.Lines.{with_first, lines_of, is_blank_line, without_first_blank, without_last_blank}
 use Rattle.gql_tokens.specs.Parts.{IsFirstLine, IsKept}
 use Rattle.gql_tokens.proofs.Lists.{head_is, Each, each_same, run_passes, run_stops}
 
 -- a character within a line
-plain_character : (c : ℕ) (rest : List ℕ) → is_line_character c ≡ true → lines_of (c ∷ rest) ≡ with_first c (lines_of rest)
+pub plain_character : (c : ℕ) (rest : List ℕ) → is_line_character c ≡ true → lines_of (c ∷ rest) ≡ with_first c (lines_of rest)
 plain_character c rest h =
     let no_feed : c == line_feed ≡ false = grind (arith, nat_tests) in
     let no_return : c == carriage_return ≡ false = grind (arith, nat_tests) in
@@ -113,6 +116,26 @@ kept_lines lines = go (without_first_blank lines) refl
     go [] e = inl e
     go (first ∷ kept) e = inr (first, kept, e)
 
+-- a text that may be cut at a place may be, whatever lines follow it
+boundary_more : (text : List ℕ) (n : ℕ) (line : List ℕ) → IsCharBoundary text n → IsCharBoundary (text ++ line_feed ∷ line) n
+boundary_more text n line h = (
+  omega (arith, h.0, length-append text (line_feed ∷ line)),
+  λ within wide. elim (cases_lt n (length text)) [
+    | inl less ↦ (
+        let same = get_or_append_left text (line_feed ∷ line) 0 n less in
+        let old : 128 ≤ get_or text n 0 = omega (arith, same, wide) in
+        omega (arith, same, h.1 less old)
+        )
+    | inr more ↦ (
+        let last : length text ≡ n = omega (arith, h.0, more) in
+        absurd (omega (arith, wide, get_or-append_right text (line_feed ∷ line) n n 0 last (le_refl n), ap (λ k. get_or (line_feed ∷ line) k 0) (nothing_more n)))
+        )
+  ],
+)
+  where
+    nothing_more : (k : ℕ) → k - k ≡ 0
+    nothing_more k = omega arith
+
 module _ (text : List ℕ) (n : ℕ) (lines : List (List ℕ)) (line : List ℕ) (h : IsKept text n lines) where
   none_kept : text ≡ [] → without_first_blank lines ≡ []
   none_kept e = elim (kept_lines lines) [
@@ -136,6 +159,7 @@ module _ (text : List ℕ) (n : ℕ) (lines : List (List ℕ)) (line : List ℕ)
         text_is = h.text_is ∙ ap (join_with_byte line_feed) (sym same);
         within = h.within;
         front_is = h.front_is ∙ ap (λ ls. join_with_byte line_feed (without_last_blank ls)) (sym same);
+        boundary = h.boundary;
       }
 
   -- the first line that isn't blank
@@ -149,6 +173,7 @@ module _ (text : List ℕ) (n : ℕ) (lines : List (List ℕ)) (line : List ℕ)
         front_is =
             take_all (length line) line (le_refl (length line)) ∙ ap (join_with_byte line_feed) (sym (last_kept-more [] line some))
             ∙ ap (λ ls. join_with_byte line_feed (without_last_blank ls)) (sym one);
+        boundary = IsCharBoundary-end line;
       }
 
   longer : (text ≡ [] → ⊥) → text ++ line_feed ∷ line ≡ join_with_byte line_feed (without_first_blank (lines ++ line ∷ []))
@@ -170,6 +195,7 @@ module _ (text : List ℕ) (n : ℕ) (lines : List (List ℕ)) (line : List ℕ)
     front_is =
         take-append-le n text (line_feed ∷ line) h.within ∙ h.front_is
         ∙ ap (join_with_byte line_feed) (sym (last_blank-more (without_first_blank lines) line blank) ∙ ap without_last_blank (sym (more_kept some)));
+    boundary = boundary_more text n line h.boundary;
   }
 
   -- a line that isn't blank behind others
@@ -180,29 +206,23 @@ module _ (text : List ℕ) (n : ℕ) (lines : List (List ℕ)) (line : List ℕ)
     front_is =
         take_all m (text ++ line_feed ∷ line) (omega arith) ∙ longer some
         ∙ ap (join_with_byte line_feed) (more_kept some ∙ sym (last_kept-more (without_first_blank lines) line full) ∙ ap without_last_blank (sym (more_kept some)));
+    boundary = subst (IsCharBoundary (text ++ line_feed ∷ line)) (sym e) (IsCharBoundary-end (text ++ line_feed ∷ line));
   }
 
--- a front of the lines without the indent
-pub lines_step : (n start next : ℕ) (text line : List ℕ) (done : List (List ℕ)) → lines_of (drop start text) ≡ line ∷ lines_of (drop next text)
-    → done ++ map (drop n) (lines_of (drop start text)) ≡ map (drop n) (lines_of text)
-    → (done ++ drop n line ∷ []) ++ map (drop n) (lines_of (drop next text)) ≡ map (drop n) (lines_of text)
-lines_step n start next text line done e h =
-    append_assoc done (drop n line ∷ []) (map (drop n) (lines_of (drop next text))) ∙ ap (λ ls. done ++ map (drop n) ls) (sym e) ∙ h
-
 -- behind the first line that is left, the others are
-pub others_step : (n start line next : ℕ) (text : List ℕ) (done : List (List ℕ)) → start ≤ length text
-    → IsFirstLine (take (length text - start) (drop start text)) line (Some next)
+pub others_step : (n start line next : ℕ) (text : List ℕ) (done : List (List ℕ)) → IsFirstLine (drop start text) line (Some next)
     → done ++ map (drop n) (lines_of (drop start text)) ≡ map (drop n) (lines_of text)
-    → (start + next ≤ length text)
-    × ((done ++ drop n (take (start + line - start) (drop start text)) ∷ []) ++ map (drop n) (lines_of (drop (start + next) text)) ≡ map (drop n) (lines_of text))
-others_step n start line next text done within first h =
-    let behind = subst (λ l. IsFirstLine l line (Some next)) (take_rest text start) first in
-    let lines = behind.1.2 ∙ ap (λ l. take line (drop start text) ∷ lines_of l) (drop-drop next start text) in
-    let same : start + line - start ≡ line = omega arith in (
-      omega (arith, behind.1.1, length-drop start text),
-      ap (λ k. (done ++ drop n (take k (drop start text)) ∷ []) ++ map (drop n) (lines_of (drop (start + next) text))) same
-          ∙ lines_step n start (start + next) text (take line (drop start text)) done lines h,
-    )
+    → (done ++ drop n (take line (drop start text)) ∷ []) ++ map (drop n) (lines_of (drop (start + next) text)) ≡ map (drop n) (lines_of text)
+others_step n start line next text done first h =
+    let piece = take line (drop start text) in
+    let lines = first.1.2 ∙ ap (λ l. piece ∷ lines_of l) (drop-drop next start text) in
+    append_assoc done (drop n piece ∷ []) (map (drop n) (lines_of (drop (start + next) text))) ∙ ap (λ ls. done ++ map (drop n) ls) (sym lines) ∙ h
+
+-- where it is the last, no other is
+pub others_end : (n start line : ℕ) (text : List ℕ) (done : List (List ℕ)) → IsFirstLine (drop start text) line None
+    → done ++ map (drop n) (lines_of (drop start text)) ≡ map (drop n) (lines_of text)
+    → done ++ drop n (take line (drop start text)) ∷ [] ≡ map (drop n) (lines_of text)
+others_end n start line text done first h = ap (λ ls. done ++ map (drop n) ls) (sym first.1) ∙ h
 
 pub nothing_kept : (text : List ℕ) → text ≡ [] → IsKept text 0 []
-nothing_kept text e = record { text_is = e; within = omega arith; front_is = refl }
+nothing_kept text e = record { text_is = e; within = omega arith; front_is = refl; boundary = (omega arith, λ within wide. absurd (omega (arith, ap length e))) }

@@ -1,6 +1,6 @@
 -- Lists that are cut in two ways, and the runs that they begin with.
-use Rattle.std.proofs.Common.{◌≡◌, ℕ, Bool, true, false, cond, ◌⊎◌, List, [], ◌∷◌, ◌++◌, refl, sym, ap, ◌∙◌, inl, inr, arith, subst, ◌+◌, ◌<◌, length, take, drop, get_or, one-add, suc, zero}
-use Rattle.std.proofs.lemmas.List.{drop_more, take_more}
+use Rattle.std.proofs.Common.{◌≡◌, ℕ, Bool, true, false, cond, ◌⊎◌, List, [], ◌∷◌, ◌++◌, refl, sym, ap, ◌∙◌, inl, inr, arith, subst, ◌+◌, ◌-◌, ◌<◌, length, take, drop, drop-drop, get_or, one-add, suc, zero}
+use Rattle.std.proofs.lemmas.List.{drop_more, take_more, take_rest}
 use Rattle.std.specs.List.{AllByRecursion, prefix_len}
 use Rattle.gql_tokens.specs.Characters.{begins}
 
@@ -87,6 +87,15 @@ run_stops test (c ∷ cs) =
       | true ↦ λ e. rw one-add (run_stops test cs)
       | false ↦ λ e. e
     ] refl
+
+-- behind a run no character passes
+pub run_stops_behind : (test : ℕ → Bool) (text : List ℕ) (at k : ℕ) → k ≡ prefix_len test (drop at text) → begins test (drop (at + k) text) ≡ false
+run_stops_behind test text at k e =
+    ap (begins test) (sym (drop-drop k at text) ∙ ap (λ n. drop n (drop at text)) e) ∙ run_stops test (drop at text)
+
+-- the slice behind a place, of a list that equals another
+pub rest_is : (text bytes : List ℕ) (at : ℕ) → bytes ≡ text → take (length bytes - at) (drop at bytes) ≡ drop at text
+rest_is text bytes at same = take_rest bytes at ∙ ap (drop at) same
 
 -- what a list begins with behind its first elements
 pub drop_at_item : (text : List ℕ) (i c : ℕ) → i < length text → c ≡ get_or text i c → drop i text ≡ c ∷ drop (i + 1) text

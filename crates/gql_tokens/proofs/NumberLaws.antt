@@ -1,7 +1,7 @@
 -- Numbers.
 use Rattle.std.proofs.Common.{◌≡◌, ℕ, ◌+◌, ◌<◌, ◌≤◌, Bool, true, false, ◌||◌, ◌==◌, ◌⊎◌, List, [], ◌∷◌, ◌++◌, refl, sym, ap, ◌∙◌, inl, inr, arith, append_assoc, Some, None, take, drop, length, take-add, drop_at, length-drop, length-append, subst, one-add, suc, get_or, ◌-◌, ◌*◌, fold, le_refl, take-append-drop, Option}
 use Rattle.std.proofs.lemmas.List.Sums.{fold-append}
-use Rattle.std.proofs.lemmas.List.{take_rest}
+use Rattle.std.proofs.lemmas.List.{take_rest, drop_more}
 use Rattle.std.specs.Char.{is_ascii_digit}
 use Rattle.std.specs.List.{prefix_len}
 use Rattle.std.proofs.lemmas.List.Sums.{prefix_len-le-length}
@@ -10,10 +10,10 @@ use Rattle.std.proofs.lemmas.Bool.{false_from_ne_true}
 use Rattle.gql_tokens.specs.Characters.{minus, full_stop, begins}
 use Rattle.gql_tokens.specs.Number.{IsDigits, IsWhole, IsInteger, IsFraction, IsPower, IsExponent, IsFloatPart, IsFloat, Optional, begins_exponent, is_bad_after_number, natural_of}
 use Rattle.gql_tokens.specs.Parts.{OnlyFront, is_bad_after_fraction, IsNumeral, IsNumeralAt}
-use Rattle.gql_tokens.proofs.Lists.{tail_is, drop_at_item, Each, each_same, each_back, each_weaker, run_begins, run_passes, run_length}
+use Rattle.gql_tokens.proofs.Lists.{tail_is, Each, each_same, each_back, each_weaker, run_begins, run_passes, run_length}
 
 -- what an integer is written with
-of_integer : ℕ → Bool
+unfoldable pub of_integer : ℕ → Bool
 of_integer c = is_ascii_digit c || c == minus
 
 -- what a float has beyond its integer
@@ -33,7 +33,7 @@ unfolding of_integer
 whole_of_integer cs (inl e) = each_same _ (sym e) (refl, tt)
 whole_of_integer cs (inr h) = each_weaker _ _ cs digit_of_integer h.0.1
 
-integer_of_integer : (cs : List ℕ) → IsInteger cs → Each of_integer cs
+pub integer_of_integer : (cs : List ℕ) → IsInteger cs → Each of_integer cs
 unfolding of_integer
 integer_of_integer cs (inl h) = whole_of_integer cs h
 integer_of_integer cs (inr h) = each_same _ (sym h.1) (refl, whole_of_integer h.0 h.2)
@@ -131,11 +131,10 @@ exponent_some e power n h k = rw one-add (
     go cs rest is (inr w) ends =
         ap length w.2 ∙ ap suc (k.2 w.1 rest (tail_is (is ∙ ap (λ l. l ++ rest) w.2)) w.4 (fewer is_ascii_digit is_bad_after_number digit_bad rest ends))
 
-pub exponent_at : (text : List ℕ) (n e : ℕ) → 1 ≤ length text → e ≡ get_or text 0 e → begins_exponent e ≡ true
+pub exponent_at : (text : List ℕ) (n : ℕ) → 1 ≤ length text → begins_exponent (get_or text 0 0) ≡ true
     → OnlyFront IsPower is_ascii_digit (take (length text - 1) (drop 1 text)) (Some n) → OnlyFront (Optional IsExponent) is_bad_after_number text (Some (1 + n))
-exponent_at [] n e some is h k = absurd (omega arith)
-exponent_at (c ∷ power) n e some is h k =
-    exponent_some c power n (ap begins_exponent (sym is) ∙ h) (subst (λ l. OnlyFront IsPower is_ascii_digit l (Some n)) (take_rest (c ∷ power) 1) k)
+exponent_at [] n some h k = absurd (omega arith)
+exponent_at (c ∷ power) n some h k = exponent_some c power n h (subst (λ l. OnlyFront IsPower is_ascii_digit l (Some n)) (take_rest (c ∷ power) 1) k)
 
 fraction_bad : (c : ℕ) → is_bad_after_fraction c ≡ true → is_bad_after_number c ≡ true
 fraction_bad c h = grind (arith, nat_tests)
@@ -165,11 +164,11 @@ natural-le-fold n [] = le_refl n
 natural-le-fold n (c ∷ digits) = let h = natural-le-fold (10 * n + (c - 48)) digits in omega arith
 
 -- the number that a front and one more digit write is at most the whole one
-pub natural_more : (digits : List ℕ) (i c : ℕ) → i < length digits → c ≡ get_or digits i c → 10 * natural_of (take i digits) + (c - 48) ≤ natural_of digits
-natural_more digits i c h e =
+pub natural_more : (digits : List ℕ) (i : ℕ) → i < length digits → 10 * natural_of (take i digits) + (get_or digits i 0 - 48) ≤ natural_of digits
+natural_more digits i h =
     let step = λ (n d : ℕ). 10 * n + (d - 48) in
-    let whole = sym (ap (fold step 0) (take-append-drop i digits ∙ refl)) ∙ fold-append step 0 (take i digits) (drop i digits) ∙ ap (fold step (natural_of (take i digits))) (drop_at_item digits i c h e) in
-    let grows = natural-le-fold (10 * natural_of (take i digits) + (c - 48)) (drop (i + 1) digits) in
+    let whole = sym (ap (fold step 0) (take-append-drop i digits ∙ refl)) ∙ fold-append step 0 (take i digits) (drop i digits) ∙ ap (fold step (natural_of (take i digits))) (drop_more digits i 0 h) in
+    let grows = natural-le-fold (10 * natural_of (take i digits) + (get_or digits i 0 - 48)) (drop (i + 1) digits) in
     omega arith
 
 -- the slice behind the first characters

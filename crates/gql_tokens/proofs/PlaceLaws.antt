@@ -1,5 +1,5 @@
 -- Places behind one piece of text after another.
-use Rattle.std.proofs.Common.{◌≡◌, ℕ, ◌+◌, ◌<◌, true, false, if◌then◌else◌, ◌⊎◌, List, [], ◌∷◌, ◌++◌, refl, sym, ap, subst, ◌∙◌, inl, inr, arith, append_assoc, take, drop, length, get_or}
+use Rattle.std.proofs.Common.{◌≡◌, ℕ, ℤ, ◌+◌, ◌≤◌, Bool, true, false, if◌then◌else◌, ◌⊎◌, List, [], ◌∷◌, ◌++◌, refl, sym, ap, subst, ◌∙◌, inl, inr, arith, append_assoc, length}
 use Rattle.std.proofs.lemmas.Bool.Decides.{nat_tests}
 use Rattle.gql_base.specs.declared.pos.Pos.{Pos}
 use Rattle.gql_tokens.specs.declared.token.Punctuator.{Punctuator}
@@ -11,7 +11,8 @@ use Rattle.gql_tokens.specs.Characters.{is_line_character}
 use Rattle.gql_tokens.specs.Place.{ends_line, next_place, place_after}
 use Rattle.gql_tokens.specs.Token.{characters_of, Spells}
 use Rattle.gql_tokens.proofs.NameLaws.{name_parts}
-use Rattle.gql_tokens.proofs.Lists.{Each, each_same, each_weaker, take_at_item, drop_at_item}
+use Rattle.gql_tokens.proofs.NumberLaws.{of_integer, integer_of_integer}
+use Rattle.gql_tokens.proofs.Lists.{Each, each_same, each_weaker}
 
 pub place_after-append : (place : Pos) (a b rest : List ℕ) → place_after place (a ++ b) rest ≡ place_after (place_after place a (b ++ rest)) b rest
 place_after-append place [] b rest = refl
@@ -19,13 +20,26 @@ place_after-append place (c ∷ a) b rest =
     ap (λ l. place_after (next_place place c l) (a ++ b) rest) (append_assoc a b rest)
     ∙ place_after-append (next_place place c (a ++ (b ++ rest))) a b rest
 
--- the place behind one character more
-pub place_after_more : (place : Pos) (text : List ℕ) (i c : ℕ) → i < length text → c ≡ get_or text i c
-    → place_after place (take (i + 1) text) (drop (i + 1) text) ≡ next_place (place_after place (take i text) (drop i text)) c (drop (i + 1) text)
-place_after_more place text i c h e =
-    let next = drop (i + 1) text in
-    ap (λ l. place_after place l next) (take_at_item text i c h e) ∙ place_after-append place (take i text) (c ∷ []) next
-    ∙ ap (λ l. next_place (place_after place (take i text) l) c next) (sym (drop_at_item text i c h e))
+-- behind one character a place has at most one line or column more
+next_place_bound : (place : Pos) (c : ℕ) (rest : List ℕ)
+    → ((next_place place c rest).line ≤ place.line + 1) × ((next_place place c rest).column ≤ place.column + 1)
+next_place_bound place c rest = go (ends_line c rest)
+  where
+    next : Bool → Pos
+    next b = if b then record { line = place.line + 1; column = 1 } else record { line = place.line; column = place.column + 1 }
+
+    go : (b : Bool) → ((next b).line ≤ place.line + 1) × ((next b).column ≤ place.column + 1)
+    go true = (omega arith, omega arith)
+    go false = (omega arith, omega arith)
+
+-- behind so many characters a place has at most as many lines and columns more
+pub place_after_bound : (place : Pos) (cs rest : List ℕ)
+    → ((place_after place cs rest).line ≤ place.line + length cs) × ((place_after place cs rest).column ≤ place.column + length cs)
+place_after_bound place [] rest = (omega arith, omega arith)
+place_after_bound place (c ∷ cs) rest =
+    let step = next_place_bound place c (cs ++ rest) in
+    let more = place_after_bound (next_place place c (cs ++ rest)) cs rest in
+    (omega (arith, step.0, more.0), omega (arith, step.1, more.1))
 
 -- the place at a column of the same line
 abbrev pub at_column : Pos → ℕ → Pos
@@ -61,11 +75,20 @@ punctuator_plain punctuators.OpenBrace = (refl, tt)
 punctuator_plain punctuators.Pipe = (refl, tt)
 punctuator_plain punctuators.CloseBrace = (refl, tt)
 
--- the place behind a punctuator or a name
-pub place_after_unbroken : (place : Pos) (l : Lexeme) (cs rest : List ℕ) → Spells l cs
-    → ((p : Punctuator) × (l ≡ lexemes.Punctuator p)) ⊎ ((name : List ℕ) × (l ≡ lexemes.Name name))
+integer_plain : (c : ℕ) → of_integer c ≡ true → is_line_character c ≡ true
+unfolding of_integer
+integer_plain c h = grind (arith, nat_tests)
+
+-- a punctuator, a name or a number
+abbrev pub IsUnbroken : Lexeme → Type 0
+IsUnbroken l = ((p : Punctuator) × (l ≡ lexemes.Punctuator p)) ⊎ (((name : List ℕ) × (l ≡ lexemes.Name name)) ⊎ ((number : ℤ) × (l ≡ lexemes.Number number)))
+
+-- the place behind a punctuator, a name or a number
+pub place_after_unbroken : (place : Pos) (l : Lexeme) (cs rest : List ℕ) → Spells l cs → IsUnbroken l
     → place_after place cs rest ≡ at_column place (place.column + length cs)
 place_after_unbroken place l cs rest h (inl e) =
     place_after_plain place cs rest (each_same is_line_character (sym (subst (λ k. Spells k cs) e.1 h)) (punctuator_plain e.0))
-place_after_unbroken place l cs rest h (inr e) =
+place_after_unbroken place l cs rest h (inr (inl e)) =
     place_after_plain place cs rest (each_weaker is_name_part is_line_character cs name_plain (name_parts cs (subst (λ k. Spells k cs) e.1 h).0))
+place_after_unbroken place l cs rest h (inr (inr e)) =
+    place_after_plain place cs rest (each_weaker of_integer is_line_character cs integer_plain (integer_of_integer cs (subst (λ k. Spells k cs) e.1 h).0))

@@ -1,7 +1,7 @@
 -- At each quote there is a string, or there is none.
-use Rattle.std.proofs.Common.{◌≡◌, ℕ, ◌+◌, ◌-◌, ◌<◌, ◌≤◌, Bool, true, false, ◌==◌, nat_eq, ◌⊎◌, List, [], ◌∷◌, ◌++◌, length, take, drop, Option, Some, None, suc, zero, refl, sym, ap, ◌∙◌, inl, inr, arith, take-add, length-drop, eqb-true, subst, encode_utf8_all}
+use Rattle.std.proofs.Common.{◌≡◌, ℕ, ◌+◌, ◌-◌, ◌<◌, ◌≤◌, Bool, true, false, ◌==◌, nat_eq, ◌⊎◌, List, [], ◌∷◌, ◌++◌, length, take, drop, Option, Some, None, suc, zero, refl, sym, ap, ◌∙◌, inl, inr, arith, length-drop, eqb-true, subst, encode_utf8_all}
 use Rattle.std.proofs.lemmas.Bool.{cases_lt, eq-eqb}
-use Rattle.std.proofs.lemmas.List.{take_rest, drop_all}
+use Rattle.std.proofs.lemmas.List.{drop_all}
 use Rattle.std.specs.Char.{digit_value, IsScalar}
 use Rattle.std.specs.List.{AllByRecursion, starts_with}
 use Rattle.gql_tokens.specs.declared.token.Lexeme.{Lexeme}
@@ -12,7 +12,7 @@ use Rattle.gql_tokens.specs.Block.{three_quotes, escaped_quotes}
 use Rattle.gql_tokens.specs.Lines.{block_value}
 use Rattle.gql_tokens.specs.Parts.{NoString, IsStringAt, IsUnended, IsBodyAt, StandsAt}
 use Rattle.gql_tokens.proofs.Lists.{head_is, tail_is, begins_so}
-use Rattle.gql_tokens.proofs.StringLaws.{first_written, string_more, no_string_behind, nothing_written}
+use Rattle.gql_tokens.proofs.StringLaws.{first_written, one_written, string_more, string_ends, no_string_behind, nothing_written}
 use Rattle.gql_tokens.proofs.BlockLaws.{IsWithin, within_start, within_quotes, within_itself, within_body, within_unended, escaped_fits}
 use Rattle.gql_tokens.proofs.StandsLaws.{stands_string, no_string, stands_block, stands_empty}
 
@@ -119,29 +119,6 @@ module _ (text : List ℕ) (first : begins (λ c. c == quote) text ≡ true) whe
   abbrev StringFrom : ℕ → Type 0
   StringFrom fuel = (at : ℕ) (vs : List ℕ) → length text ≤ at + fuel → 0 < at → at ≤ length text → WritesCharacters vs (take (at - 1) (drop 1 text)) → StringOrNone
 
-  front_is : (at : ℕ) → 0 < at → take at text ≡ quote ∷ take (at - 1) (drop 1 text)
-  front_is at behind =
-      let (q, more, text_is, test) = begins_so (λ c. c == quote) text first in
-      let split : at ≡ 1 + (at - 1) = omega arith in
-      ap (λ n. take n text) split ∙ take-add 1 (at - 1) text
-      ∙ ap (λ l. l ++ take (at - 1) (drop 1 text)) (ap (take 1) text_is ∙ ap (λ d. d ∷ []) (eqb-true q quote test))
-
-  string_ends : (at : ℕ) (vs : List ℕ) (c : ℕ) (left : List ℕ) → 0 < at → WritesCharacters vs (take (at - 1) (drop 1 text)) → drop at text ≡ c ∷ left
-      → (c == quote) ≡ true → IsStringAt text (encode_utf8_all vs) (at + 1)
-  string_ends at vs c left behind so_far e q = (
-    omega (arith, ap length e, length-drop at text),
-    (
-      vs,
-      (
-        take (at - 1) (drop 1 text),
-        take-add at 1 text ∙ ap (λ l. l ++ take 1 (drop at text)) (front_is at behind)
-            ∙ ap (λ l. (quote ∷ take (at - 1) (drop 1 text)) ++ l) (ap (take 1) e ∙ ap (λ d. d ∷ []) (eqb-true c quote q)),
-        so_far,
-      ),
-      refl,
-    ),
-  )
-
   string_step : (fuel : ℕ) → StringFrom fuel → (at : ℕ) (vs : List ℕ) → length text ≤ at + suc fuel → 0 < at → at ≤ length text
       → WritesCharacters vs (take (at - 1) (drop 1 text)) → (left : List ℕ) → drop at text ≡ left → StringOrNone
   string_step fuel more at vs enough behind within so_far [] e =
@@ -149,10 +126,10 @@ module _ (text : List ℕ) (first : begins (λ c. c == quote) text ≡ true) whe
   string_step fuel more at vs enough behind within so_far (c ∷ left) e = go (c == quote) refl (character_found (drop at text))
     where
       go : (b : Bool) → (c == quote) ≡ b → Written (drop at text) → StringOrNone
-      go true q found = inl (encode_utf8_all vs, at + 1, string_ends at vs c left behind so_far e q)
+      go true q found = inl (encode_utf8_all vs, at + 1, string_ends text at vs first behind so_far (ap (begins (λ c. c == quote)) e ∙ q))
       go false q (inl f) =
           more (at + f.1) (vs ++ f.0 ∷ []) (omega (arith, f.2)) (omega arith) (omega (arith, f.3, length-drop at text, within))
-          (string_more text at f.1 f.0 vs behind so_far (subst (λ l. WritesCharacter f.0 (take f.1 l)) (sym (take_rest text at)) f.4))
+          (string_more text at f.1 vs (f.0 ∷ []) behind so_far (one_written f.0 (take f.1 (drop at text)) f.4))
       go false q (inr none) = inr (no_string_behind text at vs first behind so_far (ap (begins (λ c. c == quote)) e ∙ q) none)
 
   string_from : (fuel : ℕ) → StringFrom fuel

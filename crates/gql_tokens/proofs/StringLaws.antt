@@ -1,12 +1,10 @@
 -- Strings: each is read in one way.
-use Rattle.std.proofs.Common.{◌≡◌, ℕ, ◌<◌, true, false, ◌⊎◌, List, [], ◌∷◌, ◌++◌, Some, None, refl, sym, ap, ◌∙◌, inl, inr, arith, append_assoc, append-nil, ◌+◌, ◌-◌, ◌==◌, length, take, drop, drop-drop, take-add, take-append-drop, subst, encode_utf8, encode_utf8_all}
-use Rattle.std.proofs.lemmas.Str.{encodes-append}
-use Rattle.std.proofs.lemmas.List.{take_rest}
+use Rattle.std.proofs.Common.{◌≡◌, ℕ, ◌<◌, true, false, ◌⊎◌, List, [], ◌∷◌, ◌++◌, Some, None, refl, sym, ap, ◌∙◌, inl, inr, arith, append_assoc, append-nil, ◌+◌, ◌-◌, ◌==◌, length, take, drop, drop-drop, take-add, take-append-drop, length-drop, eqb-true, subst, encode_utf8_all}
 use Rattle.std.proofs.lemmas.Bool.Decides.{nat_tests}
 use Rattle.gql_tokens.specs.Characters.{quote, backslash, begins}
 use Rattle.gql_tokens.specs.String.{is_plain, escaped, hexadecimal_of, WritesCharacter, WritesCharacters, IsString}
-use Rattle.gql_tokens.specs.Parts.{NoString}
-use Rattle.gql_tokens.proofs.Lists.{head_is, tail_is}
+use Rattle.gql_tokens.specs.Parts.{NoString, IsStringAt}
+use Rattle.gql_tokens.proofs.Lists.{head_is, tail_is, begins_so, Each}
 
 plain_not_backslash : (c : ℕ) → is_plain c ≡ true → c ≡ backslash → ⊥
 plain_not_backslash c h e = grind (arith, nat_tests)
@@ -31,10 +29,6 @@ written_not_quote v cs x y h e =
     let (c, more, is, kind) = first_written v cs h in
     let same : c ≡ quote = head_is (ap (λ l. l ++ x) (sym is) ∙ e) in
     elim kind [ inl plain ↦ plain_not_quote c plain same | inr b ↦ (let k : backslash ≡ quote = sym b ∙ same in absurd (omega arith)) ]
-
--- one character and what follows it
-OneCharacter : ℕ → ℕ → List ℕ → List ℕ → List ℕ → List ℕ → Type 0
-OneCharacter v w p q x y = (v ≡ w) × (p ≡ q) × (x ≡ y)
 
 same_front : {p q a b : List ℕ} (x y : List ℕ) → p ++ x ≡ q ++ y → p ≡ a → q ≡ b → a ++ x ≡ b ++ y
 same_front x y e f g = ap (λ l. l ++ x) (sym f) ∙ e ∙ ap (λ l. l ++ y) g
@@ -94,23 +88,58 @@ string_unique v w p q x y h k e =
     ended (u ∷ us) rest a b c d =
         absurd (written_not_quote u d.0 (d.1 ++ quote ∷ y) x d.3 (sym (append_assoc d.0 d.1 (quote ∷ y)) ∙ ap (λ l. l ++ quote ∷ y) (sym d.2) ∙ sym c))
 
--- one character more
-characters_push : (vs : List ℕ) (v : ℕ) (cs p : List ℕ) → WritesCharacters vs cs → WritesCharacter v p → WritesCharacters (vs ++ v ∷ []) (cs ++ p)
-characters_push [] v cs p h k = (p, [], ap (λ l. l ++ p) h ∙ sym (append-nil p), k, refl)
-characters_push (w ∷ vs) v cs p h k =
-    (h.0, h.1 ++ p, ap (λ l. l ++ p) h.2 ∙ append_assoc h.0 h.1 p, h.3, characters_push vs v h.1 p h.4 k)
+-- characters behind others
+characters_append : (vs ws cs ds : List ℕ) → WritesCharacters vs cs → WritesCharacters ws ds → WritesCharacters (vs ++ ws) (cs ++ ds)
+characters_append [] ws cs ds h k = subst (λ l. WritesCharacters ws (l ++ ds)) (sym h) k
+characters_append (v ∷ vs) ws cs ds h k =
+    (h.0, h.1 ++ ds, ap (λ l. l ++ ds) h.2 ∙ append_assoc h.0 h.1 ds, h.3, characters_append vs ws h.1 ds h.4 k)
+
+-- one character alone
+pub one_written : (v : ℕ) (cs : List ℕ) → WritesCharacter v cs → WritesCharacters (v ∷ []) cs
+one_written v cs h = (cs, [], sym (append-nil cs), h, refl)
+
+-- plain characters write themselves
+pub plain_written : (cs : List ℕ) → Each is_plain cs → WritesCharacters cs cs
+plain_written [] h = refl
+plain_written (c ∷ cs) h = (c ∷ [], cs, refl, inl (refl, h.0), plain_written cs h.1)
 
 -- what stands behind the front of a string's body
 behind_body : (text : List ℕ) (at : ℕ) → 0 < at → drop (at - 1) (drop 1 text) ≡ drop at text
 behind_body text at h = let e : 1 + (at - 1) ≡ at = omega arith in drop-drop (at - 1) 1 text ∙ ap (λ n. drop n text) e
 
-pub string_more : (text : List ℕ) (at n v : ℕ) (vs : List ℕ) → 0 < at → WritesCharacters vs (take (at - 1) (drop 1 text))
-    → WritesCharacter v (take n (take (length text - at) (drop at text))) → WritesCharacters (vs ++ v ∷ []) (take (at + n - 1) (drop 1 text))
-string_more text at n v vs h k w =
+-- more characters behind the front of a string's body
+pub string_more : (text : List ℕ) (at n : ℕ) (vs ws : List ℕ) → 0 < at → WritesCharacters vs (take (at - 1) (drop 1 text))
+    → WritesCharacters ws (take n (drop at text)) → WritesCharacters (vs ++ ws) (take (at + n - 1) (drop 1 text))
+string_more text at n vs ws h k w =
     let e : at + n - 1 ≡ (at - 1) + n = omega arith in
     let front = ap (λ m. take m (drop 1 text)) e ∙ take-add (at - 1) n (drop 1 text) ∙ ap (λ l. take (at - 1) (drop 1 text) ++ take n l) (behind_body text at h) in
-    subst (WritesCharacters (vs ++ v ∷ [])) (sym front)
-    (characters_push vs v (take (at - 1) (drop 1 text)) (take n (drop at text)) k (subst (λ l. WritesCharacter v (take n l)) (take_rest text at) w))
+    subst (WritesCharacters (vs ++ ws)) (sym front) (characters_append vs ws (take (at - 1) (drop 1 text)) (take n (drop at text)) k w)
+
+-- a string's front, where it begins with a quote
+body_front : (text : List ℕ) (at : ℕ) → begins (λ c. c == quote) text ≡ true → 0 < at → take at text ≡ quote ∷ take (at - 1) (drop 1 text)
+body_front text at first behind =
+    let (q, more, text_is, test) = begins_so (λ c. c == quote) text first in
+    let split : at ≡ 1 + (at - 1) = omega arith in
+    ap (λ n. take n text) split ∙ take-add 1 (at - 1) text
+    ∙ ap (λ l. l ++ take (at - 1) (drop 1 text)) (ap (take 1) text_is ∙ ap (λ d. d ∷ []) (eqb-true q quote test))
+
+-- where the front of a body was read, and the quote follows, a string begins
+pub string_ends : (text : List ℕ) (at : ℕ) (vs : List ℕ) → begins (λ c. c == quote) text ≡ true → 0 < at → WritesCharacters vs (take (at - 1) (drop 1 text))
+    → begins (λ c. c == quote) (drop at text) ≡ true → IsStringAt text (encode_utf8_all vs) (at + 1)
+string_ends text at vs first behind so_far ends =
+    let (c, left, e, q) = begins_so (λ c. c == quote) (drop at text) ends in (
+      omega (arith, ap length e, length-drop at text),
+      (
+        vs,
+        (
+          take (at - 1) (drop 1 text),
+          take-add at 1 text ∙ ap (λ l. l ++ take 1 (drop at text)) (body_front text at first behind)
+              ∙ ap (λ l. (quote ∷ take (at - 1) (drop 1 text)) ++ l) (ap (take 1) e ∙ ap (λ d. d ∷ []) (eqb-true c quote q)),
+          so_far,
+        ),
+        refl,
+      ),
+    )
 
 -- where the front of a body was read, and neither a character nor the quote follows, no string begins
 pub no_string_behind : (text : List ℕ) (at : ℕ) (vs : List ℕ) → begins (λ c. c == quote) text ≡ true → 0 < at → WritesCharacters vs (take (at - 1) (drop 1 text))
@@ -133,7 +162,3 @@ pub nothing_written : (v : ℕ) (cs rest : List ℕ) → [] ≡ cs ++ rest → W
 nothing_written v cs rest e h =
     let (c, more, is, kind) = first_written v cs h in
     let no_end : [] ≡ c ∷ more ++ rest = e ∙ ap (λ l. l ++ rest) is in cc
-
--- the UTF-8 of one character more
-pub encode_push : (vs : List ℕ) (v : ℕ) → encode_utf8_all (vs ++ v ∷ []) ≡ encode_utf8_all vs ++ encode_utf8 v
-encode_push vs v = encodes-append vs (v ∷ []) ∙ ap (λ l. encode_utf8_all vs ++ l) (append-nil (encode_utf8 v))

@@ -1,7 +1,7 @@
 -- A text has a list of tokens.
 use Rattle.std.proofs.Common.{◌≡◌, ℕ, ◌<◌, ◌≤◌, Bool, true, false, not, ◌&&◌, ◌||◌, ◌==◌, nat_eq, ◌⊎◌, List, [], ◌∷◌, ◌++◌, length, take, drop, suc, zero, refl, sym, ap, ap₂, ◌∙◌, inl, inr, arith, take-append-drop, length-append, length-drop, eqb-true, encode_utf8_all, Option, Some, None, subst, subst₂}
 use Rattle.std.proofs.lemmas.Slice.Eq.{bytes_eq-Decides}
-use Rattle.std.specs.Str.{bytes_eq}
+use Rattle.std.specs.Str.{bytes_eq, chars}
 use Rattle.std.specs.List.{AllByRecursion, prefix_len, starts_with}
 use Rattle.gql_base.specs.declared.pos.Pos.{Pos}
 use Rattle.gql_base.specs.Letters.{is_name_start, is_name_part}
@@ -11,7 +11,7 @@ use Rattle.gql_tokens.specs.declared.token.Lexeme.{Lexeme}
 use Rattle.gql_tokens.specs.declared.token.Lexeme.TheVariants as lexemes
 use Rattle.gql_tokens.specs.declared.token.Token.{Token}
 use Rattle.gql_tokens.specs.declared.reaching.Reached.{Reached}
-use Rattle.gql_tokens.specs.Reaching.{IsNext}
+use Rattle.gql_tokens.specs.Reaching.{IsNext, left}
 use Rattle.gql_tokens.specs.Characters.{quote, full_stop, hash, is_line_end, is_source, is_ignored}
 use Rattle.gql_tokens.specs.Gap.{goes_on, Passes, IsGap}
 use Rattle.gql_tokens.specs.Block.{three_quotes}
@@ -163,26 +163,26 @@ is_last (Some token) = is_final token.lexeme
 
 -- the tokens from a place on are the next one and those behind it
 pub next_is : (text : List ℕ) (here behind : Reached) (token : Token) → IsNext text here token behind
-    → tokens_from here.place (drop here.at text) ≡ tokens_left (Some token) behind.place (drop behind.at text)
+    → tokens_from here.place (left text here.at) ≡ tokens_left (Some token) behind.place (left text behind.at)
 next_is text here behind token next =
-    lexes_unique here.place (drop here.at text) (tokens_from here.place (drop here.at text)) (tokens_left (Some token) behind.place (drop behind.at text))
-    (tokens_from_are here.place (drop here.at text)) (go (is_final token.lexeme) refl)
+    lexes_unique here.place (left text here.at) (tokens_from here.place (left text here.at)) (tokens_left (Some token) behind.place (left text behind.at))
+    (tokens_from_are here.place (left text here.at)) (go (is_final token.lexeme) refl)
   where
-    go : (b : Bool) → is_final token.lexeme ≡ b → Lexes here.place (drop here.at text) (token ∷ tokens_behind b behind.place (drop behind.at text))
+    go : (b : Bool) → is_final token.lexeme ≡ b → Lexes here.place (left text here.at) (token ∷ tokens_behind b behind.place (left text behind.at))
     go true e = next.last e
-    go false e = next.more e (tokens_from behind.place (drop behind.at text)) (tokens_from_are behind.place (drop behind.at text))
+    go false e = next.more e (tokens_from behind.place (left text behind.at)) (tokens_from_are behind.place (left text behind.at))
 
 -- those of a whole text are the first one and those behind it
 pub all_are : (text : List ℕ) (here behind : Reached) (token : Token) → here.at ≡ 0 → here.place ≡ text_start → IsNext text here token behind
-    → Lexes text_start text (tokens_left (Some token) behind.place (drop behind.at text))
+    → Lexes text_start (chars text) (tokens_left (Some token) behind.place (left text behind.at))
 all_are text here behind token at place next =
-    subst₂ (λ p l. Lexes p l (tokens_left (Some token) behind.place (drop behind.at text))) place (ap (λ n. drop n text) at)
-    (subst (Lexes here.place (drop here.at text)) (next_is text here behind token next) (tokens_from_are here.place (drop here.at text)))
+    subst₂ (λ p l. Lexes p l (tokens_left (Some token) behind.place (left text behind.at))) place (ap (left text) at)
+    (subst (Lexes here.place (left text here.at)) (next_is text here behind token next) (tokens_from_are here.place (left text here.at)))
 
 -- those that are left are a token and those behind it
-pub taken_is : (before : Option Token) (token : Token) (last : Bool) (place : Pos) (text : List ℕ) (left : List Token) → before ≡ Some token → last ≡ is_last before
-    → tokens_behind last place text ≡ left → tokens_left before place text ≡ token ∷ left
-taken_is before token last place text left is is_last_is behind =
+pub taken_is : (before : Option Token) (token : Token) (last : Bool) (place : Pos) (text : List ℕ) (others : List Token) → before ≡ Some token → last ≡ is_last before
+    → tokens_behind last place text ≡ others → tokens_left before place text ≡ token ∷ others
+taken_is before token last place text others is is_last_is behind =
     ap (λ o. tokens_left o place text) is
     ∙ ap (λ b. token ∷ tokens_behind b place text) (sym (is_last_is ∙ ap is_last is))
     ∙ ap (λ l. token ∷ l) behind

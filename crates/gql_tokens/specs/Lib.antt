@@ -1,5 +1,7 @@
 pub mod Block
+pub mod BytePlace
 pub mod Characters
+pub mod Cut
 pub mod Gap
 pub mod Lexer
 pub mod Lines

@@ -1,19 +1,21 @@
 -- What the parts of the lexer answer, in the words of the definitions. No definition of tokens
 -- rests on this file.
-use Rattle.std.specs.Prelude.{◌≡◌, ℕ, ◌+◌, ◌<◌, ◌≤◌, Bool, true, false, ◌||◌, ◌⊎◌, List, [], ◌∷◌}
-use Rattle.std.specs.Prelude.{◌++◌, ◌==◌}
+use Rattle.std.specs.Prelude.{◌≡◌, ℕ, ◌+◌, ◌<◌, ◌≤◌, Bool, true, false, not, ◌&&◌, ◌||◌, ◌⊎◌, List}
+use Rattle.std.specs.Prelude.{[], ◌∷◌, ◌++◌, ◌==◌}
 use Rattle.std.specs.Prelude.{nat_eq, Option, Some, None, MatchOption, length, take, drop}
 use Rattle.std.specs.Prelude.{encode_utf8_all}
 use Rattle.std.specs.Char.{is_ascii_digit}
 use Rattle.std.specs.List.{AllByRecursion, starts_with, join_with_byte}
+use Rattle.std.specs.Str.{IsCharBoundary}
 use Rattle.gql_base.specs.declared.pos.Pos.{Pos}
 use Rattle.gql_tokens.specs.declared.block.Found.{Found}
 use Rattle.gql_tokens.specs.declared.block.Found.TheVariants as founds
 use Rattle.gql_tokens.specs.declared.token.Lexeme.{Lexeme}
 use Rattle.gql_tokens.specs.declared.token.Token.{Token}
-use Rattle.gql_tokens.specs.Characters.{line_feed, minus, full_stop, is_source, begins}
+use Rattle.gql_tokens.specs.Characters.{line_feed, quote, minus, full_stop, backslash, is_source}
+use Rattle.gql_tokens.specs.Characters.{begins}
 use Rattle.gql_tokens.specs.Number.{IsInteger, IsFloatPart, is_bad_after_number}
-use Rattle.gql_tokens.specs.String.{IsString}
+use Rattle.gql_tokens.specs.String.{escaped, IsUnicodeEscape, IsString}
 use Rattle.gql_tokens.specs.Block.{Piece, three_quotes, escaped_quotes, written, raw_of, ArePieces}
 use Rattle.gql_tokens.specs.Block.{IsBlockString}
 use Rattle.gql_tokens.specs.Lines.{lines_of, without_first_blank, without_last_blank}
@@ -46,6 +48,11 @@ pub record IsNumeralAt (text : List ℕ) (integer part : ℕ) : Type 0 where
   pub part_is : IsFloatPart (take part (drop integer text))
   pub ends : begins is_bad_after_number (drop (integer + part) text) ≡ false
 
+-- a backslash and what follows it, which write this character
+abbrev pub IsEscape : ℕ → List ℕ → Type 0
+IsEscape v cs =
+    ((c : ℕ) × (cs ≡ backslash ∷ c ∷ []) × (escaped c ≡ Some v)) ⊎ IsUnicodeEscape v cs
+
 -- no string begins the text
 abbrev pub NoString : List ℕ → Type 0
 NoString text = (value cs rest : List ℕ) → text ≡ cs ++ rest → IsString value cs → ⊥
@@ -60,6 +67,10 @@ abbrev pub IsUnended : List ℕ → Type 0
 IsUnended text =
     (pieces : List Piece) (rest : List ℕ) → text ≡ written pieces ++ (three_quotes ++ rest)
     → ArePieces pieces (three_quotes ++ rest) → ⊥
+
+-- a character that stands for itself in a block string, whatever follows it
+abbrev pub is_bare : ℕ → Bool
+is_bare c = is_source c && not (c == quote || c == backslash)
 
 -- what stands at a place in a block string, where `text` begins
 abbrev pub IsPieceAt : List ℕ → Found → Type 0
@@ -108,6 +119,7 @@ pub record IsKept (text : List ℕ) (n : ℕ) (lines : List (List ℕ)) : Type 0
   pub within : n ≤ length text
   pub front_is : take n text
       ≡ join_with_byte line_feed (without_last_blank (without_first_blank lines))
+  pub boundary : IsCharBoundary text n
 
 -- the first character of a number
 abbrev pub begins_number : ℕ → Bool

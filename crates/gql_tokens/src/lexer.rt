@@ -1,7 +1,7 @@
 ghost use Rattle.std.specs.Prelude.{◌≡◌, ◌==◌, ◌+◌, ◌<◌, ◌≤◌, ◌^◌, ◌∷◌, [], List, ℕ, drop, true};
 ghost use Rattle.std.specs.Prelude.{false, length, take, nat_eq, IfOk, OnOk, MatchOption};
 ghost use Rattle.std.specs.List.{starts_with};
-ghost use Rattle.std.specs.Str.{chars};
+ghost use Rattle.std.specs.Str.{chars, IsUtf8};
 ghost use Rattle.std.specs.Char.{is_ascii_digit};
 ghost use Rattle.gql_tokens.specs.declared.token.Punctuator.{Punctuator as Mark};
 ghost use Rattle.gql_tokens.specs.declared.token.Token.{Token as OneToken};
@@ -11,11 +11,12 @@ ghost use Rattle.gql_tokens.specs.Block.{three_quotes};
 ghost use Rattle.gql_tokens.specs.Token.{characters_of, Spells, is_final};
 ghost use Rattle.gql_tokens.specs.Lexer.{Lexes, EndFinally};
 ghost use Rattle.gql_tokens.specs.Place.{place_after, text_start};
-ghost use Rattle.gql_tokens.specs.Parts.{IsUnended, NoBlockEnds, begins_number, StandsAt, IsStep};
+ghost use Rattle.gql_tokens.specs.Parts.{IsUnended, NoBlockEnds, begins_number};
+ghost use Rattle.gql_tokens.specs.Cut.{IsCut, StandsIn, IsStepIn};
 
 use crate::block::block_at;
-use crate::characters::{characters_of, is_name_start, text_of};
-use crate::gap::gap_length;
+use crate::characters::is_name_start;
+use crate::gap::{Gap, gap_at};
 use crate::name::name_length;
 use crate::number::{number_of, numeral_at};
 use crate::place::place_after;
@@ -24,28 +25,29 @@ use crate::token::{Lexeme, Punctuator, Token};
 use gql_base::{Items, Made, Pos, Text};
 use std::alloc::Global;
 
-/// What stands at a place: a token and how many characters spell it, or how the tokens end.
+/// What stands at a place: a token and how many bytes spell it, or how the tokens end.
 #[derive(Drop)]
 struct Reading {
     lexeme: Lexeme,
     length: usize,
 }
 
-fn name_at(alloc: Global, text: &[char]) -> Made<Reading>
+fn name_at(alloc: Global, text: &str) -> Made<Reading>
     requires { begins is_name_start text.now ≡ true }
-    ensures { IfOk result (λ reading. StandsAt reading.lexeme reading.length text.now) }
+    ensures { IfOk result (λ reading. StandsIn reading.lexeme reading.length text.now) }
 {
-    let length = name_length(text);
-    let name = text_of(alloc, &text[..length])?;
+    let length = name_length(text.as_bytes());
+    let name = Text::new(alloc, &text[..length])?;
     Ok(Reading {
         lexeme: Lexeme::Name(name),
         length,
     })
 }
 
-fn number_at(text: &[char]) -> Reading
-    requires { begins begins_number text.now ≡ true }
-    ensures { StandsAt result.lexeme result.length text.now }
+fn number_at(text: &[u8]) -> Reading
+    requires utf8 { IsUtf8 text.now }
+    requires first { begins begins_number text.now ≡ true }
+    ensures { StandsIn result.lexeme result.length text.now }
 {
     let Some(numeral) = numeral_at(text) else {
         return Reading {
@@ -73,10 +75,10 @@ fn number_at(text: &[char]) -> Reading
 }
 
 /// The string at a quote that no other two follow.
-fn string_token(alloc: Global, text: &[char]) -> Made<Reading>
+fn string_token(alloc: Global, text: &str) -> Made<Reading>
     requires first { begins (λ c. c == quote) text.now ≡ true }
     requires plain { starts_with nat_eq text.now three_quotes ≡ false }
-    ensures { IfOk result (λ reading. StandsAt reading.lexeme reading.length text.now) }
+    ensures { IfOk result (λ reading. StandsIn reading.lexeme reading.length text.now) }
 {
     let found = string_at(alloc, text)?;
     match found {
@@ -93,9 +95,9 @@ fn string_token(alloc: Global, text: &[char]) -> Made<Reading>
 
 /// The empty string, for the first two of three quotes that begin no block string.
 fn empty_string(alloc: Global) -> Reading
-    ensures { (text : List ℕ) → starts_with nat_eq text three_quotes ≡ true
-        → IsUnended (drop 3 text)
-        → StandsAt result.lexeme result.length text }
+    ensures { (text : List ℕ) → IsUtf8 text → starts_with nat_eq text three_quotes ≡ true
+        → IsUnended (drop 3 (chars text))
+        → StandsIn result.lexeme result.length text }
 {
     Reading {
         lexeme: Lexeme::String(Text::from_string(String::new(alloc))),
@@ -105,11 +107,11 @@ fn empty_string(alloc: Global) -> Reading
 
 /// The string at three quotes. `blocks_end` is false once a block string has no end: then none
 /// behind it has.
-fn block_token(alloc: Global, text: &[char], blocks_end: &mut bool) -> Made<Reading>
+fn block_token(alloc: Global, text: &str, blocks_end: &mut bool) -> Made<Reading>
     requires first { starts_with nat_eq text.now three_quotes ≡ true }
-    requires known { blocks_end.old ≡ false → NoBlockEnds text.now }
-    ensures stands { IfOk result (λ reading. StandsAt reading.lexeme reading.length text.now) }
-    ensures known { OnOk result (blocks_end.new ≡ false → NoBlockEnds text.now) }
+    requires known { blocks_end.old ≡ false → NoBlockEnds (chars text.now) }
+    ensures stands { IfOk result (λ reading. StandsIn reading.lexeme reading.length text.now) }
+    ensures known { OnOk result (blocks_end.new ≡ false → NoBlockEnds (chars text.now)) }
 {
     if !*blocks_end {
         return Ok(empty_string(alloc));
@@ -128,49 +130,50 @@ fn block_token(alloc: Global, text: &[char], blocks_end: &mut bool) -> Made<Read
 }
 
 /// The string at a quote.
-fn quoted_at(alloc: Global, text: &[char], blocks_end: &mut bool) -> Made<Reading>
+fn quoted_at(alloc: Global, text: &str, blocks_end: &mut bool) -> Made<Reading>
     requires first { begins (λ c. c == quote) text.now ≡ true }
-    requires known { blocks_end.old ≡ false → NoBlockEnds text.now }
-    ensures stands { IfOk result (λ reading. StandsAt reading.lexeme reading.length text.now) }
-    ensures known { OnOk result (blocks_end.new ≡ false → NoBlockEnds text.now) }
+    requires known { blocks_end.old ≡ false → NoBlockEnds (chars text.now) }
+    ensures stands { IfOk result (λ reading. StandsIn reading.lexeme reading.length text.now) }
+    ensures known { OnOk result (blocks_end.new ≡ false → NoBlockEnds (chars text.now)) }
 {
-    if text.starts_with(&['"', '"', '"']) {
+    if text.as_bytes().starts_with(b"\"\"\"") {
         block_token(alloc, text, blocks_end)
     } else {
         string_token(alloc, text)
     }
 }
 
-/// The punctuator that one character spells.
-fn punctuator_of(c: char) -> Option<Punctuator>
-    ensures { MatchOption result ((mark : Mark) → characters_of mark ≡ c ∷ [] → ⊥)
-        (λ mark. characters_of mark ≡ c ∷ []) }
+/// The punctuator that one byte spells.
+fn punctuator_of(b: u8) -> Option<Punctuator>
+    ensures { MatchOption result ((mark : Mark) → characters_of mark ≡ b ∷ [] → ⊥)
+        (λ mark. characters_of mark ≡ b ∷ []) }
 {
-    match c {
-        '!' => Some(Punctuator::Bang),
-        '$' => Some(Punctuator::Dollar),
-        '&' => Some(Punctuator::Ampersand),
-        '(' => Some(Punctuator::OpenParen),
-        ')' => Some(Punctuator::CloseParen),
-        ':' => Some(Punctuator::Colon),
-        '=' => Some(Punctuator::Equals),
-        '@' => Some(Punctuator::At),
-        '[' => Some(Punctuator::OpenBracket),
-        ']' => Some(Punctuator::CloseBracket),
-        '{' => Some(Punctuator::OpenBrace),
-        '|' => Some(Punctuator::Pipe),
-        '}' => Some(Punctuator::CloseBrace),
+    match b {
+        b'!' => Some(Punctuator::Bang),
+        b'$' => Some(Punctuator::Dollar),
+        b'&' => Some(Punctuator::Ampersand),
+        b'(' => Some(Punctuator::OpenParen),
+        b')' => Some(Punctuator::CloseParen),
+        b':' => Some(Punctuator::Colon),
+        b'=' => Some(Punctuator::Equals),
+        b'@' => Some(Punctuator::At),
+        b'[' => Some(Punctuator::OpenBracket),
+        b']' => Some(Punctuator::CloseBracket),
+        b'{' => Some(Punctuator::OpenBrace),
+        b'|' => Some(Punctuator::Pipe),
+        b'}' => Some(Punctuator::CloseBrace),
         _ => None,
     }
 }
 
 /// The punctuator at the front of a text that no other token begins.
-fn punctuator_at(text: &[char]) -> Reading
+fn punctuator_at(text: &[u8]) -> Reading
+    requires utf8 { IsUtf8 text.now }
     requires some { 0 < length text.now }
     requires name { begins is_name_start text.now ≡ false }
     requires number { begins begins_number text.now ≡ false }
     requires string { begins (λ c. c == quote) text.now ≡ false }
-    ensures { StandsAt result.lexeme result.length text.now }
+    ensures { StandsIn result.lexeme result.length text.now }
 {
     if let Some(punctuator) = punctuator_of(text[0]) {
         return Reading {
@@ -178,7 +181,7 @@ fn punctuator_at(text: &[char]) -> Reading
             length: 1,
         };
     }
-    if text.starts_with(&['.', '.', '.']) {
+    if text.starts_with(b"...") {
         Reading {
             lexeme: Lexeme::Punctuator(Punctuator::Spread),
             length: 3,
@@ -191,32 +194,33 @@ fn punctuator_at(text: &[char]) -> Reading
     }
 }
 
-fn begins_number(c: char) -> bool
-    ensures { result ≡ begins_number c }
+fn begins_number(b: u8) -> bool
+    ensures { result ≡ begins_number b }
 {
-    c.is_ascii_digit() || c == '-'
+    b.is_ascii_digit() || b == b'-'
 }
 
 /// What stands at the text's front, where nothing is ignored.
-fn token_at(alloc: Global, text: &[char], blocks_end: &mut bool) -> Made<Reading>
-    requires { blocks_end.old ≡ false → NoBlockEnds text.now }
-    ensures stands { IfOk result (λ reading. StandsAt reading.lexeme reading.length text.now) }
-    ensures known { OnOk result (blocks_end.new ≡ false → NoBlockEnds text.now) }
+fn token_at(alloc: Global, text: &str, blocks_end: &mut bool) -> Made<Reading>
+    requires { blocks_end.old ≡ false → NoBlockEnds (chars text.now) }
+    ensures stands { IfOk result (λ reading. StandsIn reading.lexeme reading.length text.now) }
+    ensures known { OnOk result (blocks_end.new ≡ false → NoBlockEnds (chars text.now)) }
 {
-    let Some(c) = text.first() else {
+    let bytes = text.as_bytes();
+    let Some(b) = bytes.first() else {
         return Ok(Reading {
             lexeme: Lexeme::End,
             length: 0,
         });
     };
-    if is_name_start(*c) {
+    if is_name_start(*b) {
         name_at(alloc, text)
-    } else if begins_number(*c) {
-        Ok(number_at(text))
-    } else if *c == '"' {
+    } else if begins_number(*b) {
+        Ok(number_at(bytes))
+    } else if *b == b'"' {
         quoted_at(alloc, text, blocks_end)
     } else {
-        Ok(punctuator_at(text))
+        Ok(punctuator_at(bytes))
     }
 }
 
@@ -230,18 +234,21 @@ pub fn is_final(lexeme: &Lexeme) -> bool
     )
 }
 
-/// The place behind a token of so many characters. No line ends in a punctuator or a name.
-fn place_behind(pos: Pos, lexeme: &Lexeme, text: &[char], count: usize) -> Pos
+/// The place behind a token of so many bytes. No line ends in a punctuator, a name or a number, and
+/// each of their characters is one byte.
+fn place_behind(pos: Pos, lexeme: &Lexeme, text: &[u8], count: usize) -> Pos
+    requires utf8 { IsUtf8 text.now }
     requires within { count ≤ length text.now }
-    requires spelled { Spells lexeme.now (take count text.now) }
     requires line { pos.line + count < 2 ^ 64 }
     requires column { pos.column + count < 2 ^ 64 }
-    ensures exact { result ≡ place_after pos (take count text.now) (drop count text.now) }
+    ensures exact { (n : ℕ) → IsCut text.now count n
+        → Spells lexeme.now (take n (chars text.now))
+        → result ≡ place_after pos (take n (chars text.now)) (drop n (chars text.now)) }
     ensures line { result.line ≤ pos.line + count }
     ensures column { result.column ≤ pos.column + count }
 {
     match lexeme {
-        Lexeme::Punctuator(_) | Lexeme::Name(_) => Pos {
+        Lexeme::Punctuator(_) | Lexeme::Name(_) | Lexeme::Number(_) => Pos {
             line: pos.line,
             column: pos.column + count,
         },
@@ -249,7 +256,7 @@ fn place_behind(pos: Pos, lexeme: &Lexeme, text: &[char], count: usize) -> Pos
     }
 }
 
-/// A token, how far it and what is ignored before it reach, and the place behind it.
+/// A token, how many bytes far it and what is ignored before it reach, and the place behind it.
 #[derive(Drop)]
 pub struct Step {
     pub token: Token,
@@ -258,16 +265,19 @@ pub struct Step {
 }
 
 /// The first token of a text that begins at a place.
-pub fn step_at(alloc: Global, place: Pos, text: &[char], blocks_end: &mut bool) -> Made<Step>
+pub fn step_at(alloc: Global, place: Pos, text: &str, blocks_end: &mut bool) -> Made<Step>
     requires line { place.line + length text.now < 2 ^ 64 }
     requires column { place.column + length text.now < 2 ^ 64 }
-    requires known { blocks_end.old ≡ false → NoBlockEnds text.now }
-    ensures stands { IfOk result (λ step. IsStep place text.now step.token step.length step.place) }
+    requires known { blocks_end.old ≡ false → NoBlockEnds (chars text.now) }
+    ensures stands { IfOk result
+        (λ step. IsStepIn place text.now step.token step.length step.place) }
     ensures known { IfOk result
-        (λ step. blocks_end.new ≡ false → NoBlockEnds (drop step.length text.now)) }
+        (λ step. blocks_end.new ≡ false → NoBlockEnds (chars (drop step.length text.now))) }
 {
-    let gap = gap_length(text);
-    let pos = place_after(place, text, gap);
+    let Gap {
+        length: gap,
+        place: pos,
+    } = gap_at(place, text.as_bytes());
     let behind = &text[gap..];
     let Reading { lexeme, length } = token_at(alloc, behind, blocks_end)?;
     if is_final(&lexeme) {
@@ -277,32 +287,12 @@ pub fn step_at(alloc: Global, place: Pos, text: &[char], blocks_end: &mut bool) 
             place: pos,
         });
     }
-    let place = place_behind(pos, &lexeme, behind, length);
+    let place = place_behind(pos, &lexeme, behind.as_bytes(), length);
     Ok(Step {
         token: Token { lexeme, pos },
         length: gap + length,
         place,
     })
-}
-
-/// The tokens of a list of characters.
-fn tokens_from(alloc: Global, characters: &[char]) -> Made<Items<Token>>
-    ensures { IfOk result (λ tokens. Lexes text_start characters.now tokens) }
-{
-    let mut tokens = Items::new(alloc);
-    let mut place = Pos { line: 1, column: 1 };
-    let mut at = 0;
-    let mut blocks_end = true;
-    loop {
-        let step = step_at(alloc, place, &characters[at..], &mut blocks_end)?;
-        let last = is_final(&step.token.lexeme);
-        place = step.place;
-        at += step.length;
-        tokens.push(step.token)?;
-        if last {
-            return Ok(tokens);
-        }
-    }
 }
 
 /// The tokens of a text, each with the place of its first character. The last one says how they
@@ -311,9 +301,20 @@ pub fn tokens_of(alloc: Global, text: &str) -> Made<Items<Token>>
     ensures exact { IfOk result (λ tokens. Lexes text_start (chars text.now) tokens) }
     ensures ends { IfOk result EndFinally }
 {
-    let characters = characters_of(alloc, text)?;
-    let tokens = tokens_from(alloc, &characters)?;
-    Ok(tokens)
+    let mut tokens = Items::new(alloc);
+    let mut place = Pos { line: 1, column: 1 };
+    let mut at = 0;
+    let mut blocks_end = true;
+    loop {
+        let step = step_at(alloc, place, &text[at..], &mut blocks_end)?;
+        let last = is_final(&step.token.lexeme);
+        place = step.place;
+        at += step.length;
+        tokens.push(step.token)?;
+        if last {
+            return Ok(tokens);
+        }
+    }
 }
 
 /// A text has one list of tokens.

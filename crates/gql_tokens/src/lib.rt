@@ -14,7 +14,6 @@ mod shared;
 mod string;
 mod token;
 
-pub use characters::characters_of;
 pub use lexer::{is_final, one_token_list, tokens_of};
 pub use reaching::{Reached, next_token};
 pub use token::{Lexeme, Punctuator, Token};

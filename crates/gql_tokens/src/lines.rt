@@ -1,31 +1,35 @@
-ghost use Rattle.std.specs.Prelude.{◌≡◌, ◌==◌, ◌++◌, ◌∷◌, [], ◌<◌, ◌≤◌, false, ℕ, List, length};
-ghost use Rattle.std.specs.Prelude.{take, drop, IfOk, OnOk, map, encode_utf8_all, nat_lt};
-ghost use Rattle.std.specs.List.{prefix_len};
-ghost use Rattle.gql_tokens.specs.Characters.{is_blank, is_line_character, begins};
-ghost use Rattle.gql_tokens.specs.Lines.{indent_of, lines_of, common_indent, without_common_indent};
-ghost use Rattle.gql_tokens.specs.Lines.{without_indent, block_value, least_with};
+ghost use Rattle.std.specs.Prelude.{◌≡◌, ◌==◌, ◌-◌, ◌++◌, ◌∷◌, [], ◌<◌, ◌≤◌, false, ℕ, List};
+ghost use Rattle.std.specs.Prelude.{length, drop, IfOk, IfSome, OnOk, string_bytes};
+ghost use Rattle.std.specs.Prelude.{encode_utf8_all};
+ghost use Rattle.std.specs.List.{prefix_len, slice_index};
+ghost use Rattle.std.specs.Str.{chars, IsUtf8, IsCharBoundary};
+ghost use Rattle.gql_tokens.specs.Characters.{is_line_character, begins};
+ghost use Rattle.gql_tokens.specs.Lines.{indent_of, is_blank_line, lines_of, common_indent};
+ghost use Rattle.gql_tokens.specs.Lines.{without_common_indent, without_indent, block_value};
+ghost use Rattle.gql_tokens.specs.Lines.{least_with};
 ghost use Rattle.gql_tokens.specs.Parts.{IsFirstLine, IsKept};
 
-use crate::characters::{is_blank, is_line_end, text_of};
+use crate::characters::{is_blank, is_line_end};
 use gql_base::{Made, Text};
 use std::alloc::Global;
 
-/// How many characters stand before the end of the first line.
-fn line_length(text: &[char]) -> usize
+/// How many bytes stand before the end of the first line.
+fn line_length(text: &[u8]) -> usize
     ensures exact { result ≡ prefix_len is_line_character text.now }
     ensures within { result ≤ length text.now }
 {
-    text.iter().take_while(|c| !is_line_end(**c)).count()
+    text.iter().take_while(|b| !is_line_end(**b)).count()
 }
 
-/// How many characters end the line at the text's front: none at the end of the text.
-fn line_end_length(text: &[char]) -> usize
+/// How many bytes end the line at the text's front: none at the end of the text.
+fn line_end_length(text: &[u8]) -> usize
     requires { begins is_line_character text.now ≡ false }
     ensures within { result ≤ length text.now }
     ensures none { result ≡ 0 → text.now ≡ [] }
     ensures some { 0 < result → lines_of text.now ≡ [] ∷ lines_of (drop result text.now) }
+    ensures ascii { 0 < result → slice_index text.now (result - 1) < 128 }
 {
-    if text.starts_with(&['\r', '\n']) {
+    if text.starts_with(b"\r\n") {
         2
     } else if text.is_empty() {
         0
@@ -35,16 +39,18 @@ fn line_end_length(text: &[char]) -> usize
 }
 
 /// How many tabs and blanks a line begins with.
-fn indent_length(line: &[char]) -> usize
+fn indent_length(line: &[u8]) -> usize
     ensures exact { result ≡ indent_of line.now }
     ensures within { result ≤ length line.now }
 {
-    line.iter().take_while(|c| is_blank(**c)).count()
+    line.iter().take_while(|b| is_blank(**b)).count()
 }
 
 /// The length of the first line, and where the next one begins.
-fn first_line(text: &[char]) -> (usize, Option<usize>)
-    ensures { IsFirstLine text.now result.0 result.1 }
+fn first_line(text: &[u8]) -> (usize, Option<usize>)
+    ensures first { IsFirstLine text.now result.0 result.1 }
+    ensures cut { IsCharBoundary text.now result.0 }
+    ensures next { IsUtf8 text.now → IfSome result.1 (λ n. IsCharBoundary text.now n) }
 {
     let line = line_length(text);
     match line_end_length(&text[line..]) {
@@ -63,7 +69,7 @@ fn least_with(least: Option<usize>, indent: usize) -> usize
 }
 
 /// The least indent of the lines that hold more than tabs and blanks.
-fn common_indent(text: &[char]) -> Option<usize>
+fn common_indent(text: &[u8]) -> Option<usize>
     ensures { result ≡ common_indent (lines_of text.now) }
 {
     let mut least = None;
@@ -85,28 +91,28 @@ fn common_indent(text: &[char]) -> Option<usize>
 /// stand behind `length`.
 #[derive(Drop)]
 struct Kept {
-    text: Vec<char>,
+    text: String,
     length: usize,
 }
 
 impl Kept {
     /// Adds a line.
-    fn push(&mut self, line: &[char]) -> Made<()>
+    fn push(&mut self, line: &str) -> Made<()>
         ensures { OnOk result ((lines : List (List ℕ))
-            → IsKept self.old.text.items self.old.length lines
-            → IsKept self.new.text.items self.new.length (lines ++ line.now ∷ [])) }
+            → IsKept (string_bytes self.old.text) self.old.length lines
+            → IsKept (string_bytes self.new.text) self.new.length (lines ++ line.now ∷ [])) }
     {
-        let blank = indent_length(line) == line.len();
+        let blank = indent_length(line.as_bytes()) == line.len();
         if self.text.is_empty() {
             if blank {
                 return Ok(());
             }
-            self.text.extend_from_slice(line)?;
+            self.text.push_str(line)?;
             self.length = line.len();
             return Ok(());
         }
         self.text.push('\n')?;
-        self.text.extend_from_slice(line)?;
+        self.text.push_str(line)?;
         if !blank {
             self.length = self.text.len();
         }
@@ -114,16 +120,17 @@ impl Kept {
     }
 
     /// Adds the lines of a text without their common indent.
-    fn push_others(&mut self, text: &[char]) -> Made<()>
+    fn push_others(&mut self, text: &str) -> Made<()>
         ensures { OnOk result ((lines : List (List ℕ))
-            → IsKept self.old.text.items self.old.length lines
-            → IsKept self.new.text.items self.new.length
+            → IsKept (string_bytes self.old.text) self.old.length lines
+            → IsKept (string_bytes self.new.text) self.new.length
             (lines ++ without_common_indent (lines_of text.now))) }
     {
-        let indent = common_indent(text).unwrap_or(0);
+        let bytes = text.as_bytes();
+        let indent = common_indent(bytes).unwrap_or(0);
         let mut start = 0;
         loop {
-            let (line, next) = first_line(&text[start..]);
+            let (line, next) = first_line(&bytes[start..]);
             self.push(without_indent(&text[start..start + line], indent))?;
             match next {
                 Some(n) => start += n,
@@ -133,22 +140,23 @@ impl Kept {
     }
 }
 
-fn without_indent(line: &[char], indent: usize) -> &[char]
+fn without_indent(line: &str, indent: usize) -> &str
+    requires { is_blank_line line.now ≡ false → indent ≤ indent_of line.now }
     ensures { result.now ≡ drop indent line.now }
 {
     &line[indent.min(line.len())..]
 }
 
 /// The lines of a block string that are kept, without their indent.
-fn kept_lines(alloc: Global, raw: &[char]) -> Made<Kept>
+fn kept_lines(alloc: Global, raw: &str) -> Made<Kept>
     ensures { IfOk result
-        (λ kept. IsKept kept.text.items kept.length (without_indent (lines_of raw.now))) }
+        (λ kept. IsKept (string_bytes kept.text) kept.length (without_indent (lines_of raw.now))) }
 {
     let mut kept = Kept {
-        text: Vec::new(alloc),
+        text: String::new(alloc),
         length: 0,
     };
-    let (line, next) = first_line(raw);
+    let (line, next) = first_line(raw.as_bytes());
     kept.push(&raw[..line])?;
     let Some(start) = next else {
         return Ok(kept);
@@ -158,9 +166,10 @@ fn kept_lines(alloc: Global, raw: &[char]) -> Made<Kept>
 }
 
 /// The value of a block string, from what stands between its quotes.
-pub fn block_value(alloc: Global, raw: &[char]) -> Made<Text>
-    ensures { IfOk result (λ text. text ≡ encode_utf8_all (block_value raw.now)) }
+pub fn block_value(alloc: Global, raw: &str) -> Made<Text>
+    ensures { IfOk result (λ text. text ≡ encode_utf8_all (block_value (chars raw.now))) }
 {
-    let kept = kept_lines(alloc, raw)?;
-    text_of(alloc, &kept.text[..kept.length])
+    let mut kept = kept_lines(alloc, raw)?;
+    kept.text.truncate(kept.length);
+    Ok(Text::from_string(kept.text))
 }

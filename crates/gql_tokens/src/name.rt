@@ -4,9 +4,9 @@ ghost use Rattle.gql_base.specs.Letters.{is_name_part};
 
 use crate::characters::is_name_part;
 
-/// How many characters at the text's front may be part of a name.
-pub fn name_length(text: &[char]) -> usize
+/// How many bytes at the text's front may be part of a name.
+pub fn name_length(text: &[u8]) -> usize
     ensures { result ≡ prefix_len is_name_part text.now }
 {
-    text.iter().take_while(|c| is_name_part(**c)).count()
+    text.iter().take_while(|b| is_name_part(**b)).count()
 }

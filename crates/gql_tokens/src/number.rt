@@ -13,14 +13,14 @@ use crate::characters::is_name_start;
 use gql_base::Number;
 
 /// How many digits the text begins with.
-fn digits_length(text: &[char]) -> usize
+fn digits_length(text: &[u8]) -> usize
     ensures { result ≡ prefix_len is_ascii_digit text.now }
 {
     text.iter().take_while(|c| c.is_ascii_digit()).count()
 }
 
 /// The length of one digit or more at the text's front.
-fn some_digits_length(text: &[char]) -> Option<usize>
+fn some_digits_length(text: &[u8]) -> Option<usize>
     ensures { OnlyFront IsDigits is_ascii_digit text.now result }
 {
     match digits_length(text) {
@@ -30,11 +30,11 @@ fn some_digits_length(text: &[char]) -> Option<usize>
 }
 
 /// The length of `0`, or of digits that don't begin with `0`, at the text's front.
-fn whole_length(text: &[char]) -> Option<usize>
+fn whole_length(text: &[u8]) -> Option<usize>
     ensures { OnlyFront IsWhole is_ascii_digit text.now result }
 {
     match text {
-        ['0', more @ ..] => {
+        [b'0', more @ ..] => {
             if digits_length(more) == 0 {
                 Some(1)
             } else {
@@ -46,43 +46,43 @@ fn whole_length(text: &[char]) -> Option<usize>
 }
 
 /// The length of an integer at the text's front.
-fn integer_length(text: &[char]) -> Option<usize>
+fn integer_length(text: &[u8]) -> Option<usize>
     ensures { OnlyFront IsInteger is_ascii_digit text.now result }
 {
     match text {
-        ['-', digits @ ..] => Some(1 + whole_length(digits)?),
+        [b'-', digits @ ..] => Some(1 + whole_length(digits)?),
         _ => whole_length(text),
     }
 }
 
 /// The length of an optional fraction at the text's front.
-fn fraction_length(text: &[char]) -> Option<usize>
+fn fraction_length(text: &[u8]) -> Option<usize>
     ensures { OnlyFront (Optional IsFraction) is_bad_after_fraction text.now result }
 {
     match text {
-        ['.', digits @ ..] => Some(1 + some_digits_length(digits)?),
+        [b'.', digits @ ..] => Some(1 + some_digits_length(digits)?),
         _ => Some(0),
     }
 }
 
 /// The length of an optional sign and digits at the text's front.
-fn power_length(text: &[char]) -> Option<usize>
+fn power_length(text: &[u8]) -> Option<usize>
     ensures { OnlyFront IsPower is_ascii_digit text.now result }
 {
     match text {
-        ['+' | '-', digits @ ..] => Some(1 + some_digits_length(digits)?),
+        [b'+' | b'-', digits @ ..] => Some(1 + some_digits_length(digits)?),
         _ => some_digits_length(text),
     }
 }
 
-fn begins_exponent(c: char) -> bool
+fn begins_exponent(c: u8) -> bool
     ensures { result ≡ begins_exponent c }
 {
-    c == 'e' || c == 'E'
+    c == b'e' || c == b'E'
 }
 
 /// The length of an optional exponent at the text's front.
-fn exponent_length(text: &[char]) -> Option<usize>
+fn exponent_length(text: &[u8]) -> Option<usize>
     ensures { OnlyFront (Optional IsExponent) is_bad_after_number text.now result }
 {
     match text {
@@ -92,7 +92,7 @@ fn exponent_length(text: &[char]) -> Option<usize>
 }
 
 /// The length of an optional fraction and an optional exponent at the text's front.
-fn float_part_length(text: &[char]) -> Option<usize>
+fn float_part_length(text: &[u8]) -> Option<usize>
     ensures { OnlyFront IsFloatPart is_bad_after_number text.now result }
 {
     let fraction = fraction_length(text)?;
@@ -100,10 +100,10 @@ fn float_part_length(text: &[char]) -> Option<usize>
     Some(fraction + exponent)
 }
 
-fn is_bad_after_number(c: char) -> bool
+fn is_bad_after_number(c: u8) -> bool
     ensures { result ≡ is_bad_after_number c }
 {
-    c.is_ascii_digit() || c == '.' || is_name_start(c)
+    c.is_ascii_digit() || c == b'.' || is_name_start(c)
 }
 
 /// A number at the front of a text: how long its integer is, and the fraction and the exponent
@@ -115,7 +115,7 @@ pub struct Numeral {
 }
 
 /// The number at the text's front, with nothing behind it that may not follow a number.
-pub fn numeral_at(text: &[char]) -> Option<Numeral>
+pub fn numeral_at(text: &[u8]) -> Option<Numeral>
     ensures { MatchOption result (OnlyFront IsNumeral is_bad_after_number text.now None)
         (λ numeral. IsNumeralAt text.now numeral.integer numeral.part) }
 {
@@ -128,15 +128,15 @@ pub fn numeral_at(text: &[char]) -> Option<Numeral>
 }
 
 /// The number with one more digit, where it is below 2^64.
-fn with_digit(number: u64, digit: char) -> Option<u64>
+fn with_digit(number: u64, digit: u8) -> Option<u64>
     ensures { SomeIff result (10 * number + (digit - 48) < 2 ^ 64) (10 * number + (digit - 48)) }
 {
-    let value = u64::from(u32::from(digit).saturating_sub(48));
+    let value = u64::from(digit.saturating_sub(48));
     number.checked_mul(10)?.checked_add(value)
 }
 
 /// The number that digits write, where it is below 2^64.
-fn natural_of(digits: &[char]) -> Option<u64>
+fn natural_of(digits: &[u8]) -> Option<u64>
     ensures { SomeIff result (natural_of digits.now < 2 ^ 64) (natural_of digits.now) }
 {
     let mut number = 0;
@@ -147,11 +147,11 @@ fn natural_of(digits: &[char]) -> Option<u64>
 }
 
 /// The number that an integer's characters write, where it is supported.
-pub fn number_of(integer: &[char]) -> Option<Number>
+pub fn number_of(integer: &[u8]) -> Option<Number>
     ensures { SomeIff result (IsSupported (integer_of integer.now)) (integer_of integer.now) }
 {
     match integer {
-        ['-', digits @ ..] => {
+        [b'-', digits @ ..] => {
             let magnitude = natural_of(digits)?;
             let value = i64::try_from(-i128::from(magnitude)).ok()?;
             Some(Number::from_i64(value))

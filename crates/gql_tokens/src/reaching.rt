@@ -1,5 +1,6 @@
 //! The tokens of a text, one by one.
 ghost use Rattle.std.specs.Prelude.{◌≡◌, ℕ, List, IfOk};
+ghost use Rattle.std.specs.Str.{IsUtf8};
 ghost use Rattle.gql_tokens.specs.Place.{text_start};
 ghost use Rattle.gql_tokens.specs.Reaching.{IsReached, IsNext};
 
@@ -8,7 +9,7 @@ use crate::token::Token;
 use gql_base::{Made, Pos};
 use std::alloc::Global;
 
-/// How far a text was read: so many characters, and the place behind them. `blocks_end` is false
+/// How far a text was read: so many bytes, and the place behind them. `blocks_end` is false
 /// once a block string has no end: then none behind it has.
 #[derive(Clone, Copy, Debug)]
 pub struct Reached {
@@ -22,7 +23,7 @@ impl Reached {
     pub fn start() -> Reached
         ensures at { result.at ≡ 0 }
         ensures place { result.place ≡ text_start }
-        ensures reached { (text : List ℕ) → IsReached text result }
+        ensures reached { (text : List ℕ) → IsUtf8 text → IsReached text result }
     {
         Reached {
             at: 0,
@@ -33,18 +34,13 @@ impl Reached {
 }
 
 /// Reads the token that follows what was reached. Where memory is wanting nothing more is reached.
-pub fn next_token(alloc: Global, characters: &[char], reached: &mut Reached) -> Made<Token>
-    requires { IsReached characters.now reached.old }
-    ensures reached { IsReached characters.now reached.new }
-    ensures next { IfOk result (λ token. IsNext characters.now reached.old token reached.new) }
+pub fn next_token(alloc: Global, text: &str, reached: &mut Reached) -> Made<Token>
+    requires { IsReached text.now reached.old }
+    ensures reached { IsReached text.now reached.new }
+    ensures next { IfOk result (λ token. IsNext text.now reached.old token reached.new) }
 {
     let mut blocks_end = reached.blocks_end;
-    let step = step_at(
-        alloc,
-        reached.place,
-        &characters[reached.at..],
-        &mut blocks_end,
-    )?;
+    let step = step_at(alloc, reached.place, &text[reached.at..], &mut blocks_end)?;
     let Step {
         token,
         length,

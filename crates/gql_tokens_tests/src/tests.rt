@@ -1,7 +1,5 @@
 use gql_base::{Made, Number};
-use gql_tokens::{
-    Lexeme, Punctuator, Reached, Token, characters_of, is_final, next_token, tokens_of,
-};
+use gql_tokens::{Lexeme, Punctuator, Reached, Token, is_final, next_token, tokens_of};
 use std::alloc::Global;
 
 /// A punctuator as it is written.
@@ -67,7 +65,7 @@ fn shown(alloc: Global, text: &str) -> Made<String> {
 }
 
 /// Texts, each with its tokens.
-const TOKENS: [(&str, &str); 54] = [
+const TOKENS: [(&str, &str); 60] = [
     ("", "1:1 END"),
     (
         "{ a(x: 18446744073709551616) }",
@@ -121,6 +119,18 @@ const TOKENS: [(&str, &str); 54] = [
         "1:1 <\u{1f600}\u{e9}> 1:6 a 1:7 END",
     ),
     ("# a \u{e9}\nb", "2:1 b 2:2 END"),
+    ("# \u{e9}\u{1f600}\u{1}", "1:5 UNEXPECTED"),
+    ("\u{feff} \u{feff}a", "1:4 a 1:5 END"),
+    ("\u{fefe}", "1:1 UNEXPECTED"),
+    (
+        "\"\u{e9}\\n\u{e9}\" a",
+        "1:1 <\u{e9}\n\u{e9}> 1:8 a 1:9 END",
+    ),
+    (
+        "\"\"\"\u{e9}\u{1f600}\"\"\" a",
+        "1:1 <\u{e9}\u{1f600}> 1:10 a 1:11 END",
+    ),
+    ("\"\u{e9}", "1:1 UNEXPECTED"),
     ("a#b\r\nc", "1:1 a 2:1 c 2:2 END"),
     ("#", "1:2 END"),
     ("# a", "1:4 END"),
@@ -156,10 +166,9 @@ fn tokens_have_their_places(rt: HostRuntime) -> Result<(), std::test::Fail> {
 
 /// The second token of a text, which is read behind the first.
 fn second_of(alloc: Global, text: &str) -> Made<Token> {
-    let characters = characters_of(alloc, text)?;
     let mut reached = Reached::start();
-    drop(next_token(alloc, &characters, &mut reached)?);
-    next_token(alloc, &characters, &mut reached)
+    drop(next_token(alloc, text, &mut reached)?);
+    next_token(alloc, text, &mut reached)
 }
 
 /// The second token of a text as `show_token` tells it, and whether it is the last.
@@ -183,7 +192,7 @@ fn tokens_are_read_one_by_one(rt: HostRuntime) -> Result<(), std::test::Fail> {
 
 /// What stands between the quotes of block strings, each with its value. The first is the
 /// specification's own example (October 2021, section 2.9.4).
-const BLOCKS: [(&str, &str); 14] = [
+const BLOCKS: [(&str, &str); 16] = [
     (
         "\n    Hello,\n      World!\n\n    Yours,\n      GraphQL.\n  ",
         "Hello,\n  World!\n\nYours,\n  GraphQL.",
@@ -197,6 +206,8 @@ const BLOCKS: [(&str, &str); 14] = [
         "This does not start with or end with any empty lines,\nwhich makes it a little harder to read.",
     ),
     ("\n  a\n    b\n", "a\n  b"),
+    ("\n  \u{e9}\n    b\u{1f600} \n", "\u{e9}\n  b\u{1f600} "),
+    ("\u{e9}\n\u{a0} a\n b", "\u{e9}\n\u{a0} a\n b"),
     ("", ""),
     (" \t\n  \n", ""),
     ("    a\n      b", "    a\nb"),

@@ -1,9 +1,10 @@
-use Rattle.std.proofs.Common.{◌≤◌, ◌-◌, length}
-use Rattle.gql_tokens.proofs.BlockLaws.{IsWithin}
+use Rattle.std.proofs.Common.{◌-◌, length, string_bytes}
+use Rattle.gql_tokens.proofs.BlockCuts.{IsBodyTo}
 use Rattle.gql_tokens.proofs.block.body_at.Given as goal
 
-abbrev pub invariant-loop-at : goal.invariant-loop-at
-invariant-loop-at l = record { within : l.at ≤ length l.text; so_far : IsWithin l.text l.raw.items l.at }
+-- what was read so far stands between the quotes
+abbrev pub invariant-loop-raw : goal.invariant-loop-raw
+invariant-loop-raw l = IsBodyTo l.text (string_bytes l.raw) l.at
 
-abbrev pub decreases-loop-at : goal.decreases-loop-at
-decreases-loop-at l = length l.text - l.at
+abbrev pub decreases-loop-raw : goal.decreases-loop-raw
+decreases-loop-raw l = length l.text - l.at

@@ -1,10 +1,9 @@
-use Rattle.std.proofs.Common.{inl}
-use Rattle.gql_tokens.proofs.StandsLaws.{stands_string, no_string}
+use Rattle.gql_tokens.proofs.CutStands.{string_in, no_string_in}
 use Rattle.gql_tokens.proofs.lexer.string_token.Goals as goal
 
 pub returns-in-Some : goal.returns-in-Some
 returns-in-Some c =
-    stands_string c.args.text.now c.in-Some.string.text c.in-Some.string.length c.requires.first c.requires.plain (rw c.in-Some.is at c.in_ok-found.ensures)
+    string_in c.args.text.now c.utf8.text c.requires.first c.requires.plain c.in-Some.string.text c.in-Some.string.length (rw c.in-Some.is at c.in_ok-found.ensures)
 
 pub returns-in-None : goal.returns-in-None
-returns-in-None c = inl (no_string c.args.text.now c.requires.first c.requires.plain (rw c.in-None.is at c.in_ok-found.ensures))
+returns-in-None c = no_string_in c.args.text.now c.utf8.text c.requires.first c.requires.plain (rw c.in-None.is at c.in_ok-found.ensures)

@@ -6,7 +6,7 @@ use Rattle.gql_tokens.proofs.number.natural_of.Goals as goal
 
 pub returns-in_err-number : goal.returns-in_err-number
 returns-in_err-number c =
-    let more = natural_more c.args.digits.now c.loop-digit.digit-index c.digit-item.result c.loop-digit-test.true c.digit-item.is in
+    let more = natural_more c.args.digits.now c.loop-digit.digit-index c.loop-digit-test.true in
     let front = c.loop-digit.invariant.exact in
     rw c.from_residual.ensures (λ small. c.in_err-number.ensures (omega arith))
 

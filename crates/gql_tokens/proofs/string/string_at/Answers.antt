@@ -1,36 +1,82 @@
-use Rattle.std.proofs.Common.{◌==◌, ◌++◌, ◌∷◌, [], length, sym, ap, ◌∙◌, arith, encode_utf8, length-drop, ne_eqb}
-use Rattle.std.proofs.lemmas.List.{drop_all, take_rest}
+use Rattle.std.proofs.Common.{◌≡◌, ◌+◌, ◌-◌, ◌≤◌, ℕ, List, ◌==◌, ◌++◌, take, drop, length, ap, sym, subst, ◌∙◌, arith, string_bytes}
+use Rattle.std.specs.List.{prefix_len}
+use Rattle.std.specs.Str.{IsUtf8}
 use Rattle.gql_tokens.specs.Characters.{quote, begins}
-use Rattle.gql_tokens.proofs.Lists.{begins_at}
-use Rattle.gql_tokens.proofs.StringLaws.{encode_push, string_more, no_string_behind, nothing_written}
+use Rattle.gql_tokens.specs.String.{is_plain}
+use Rattle.gql_tokens.specs.Parts.{IsEscape}
+use Rattle.gql_tokens.specs.Cut.{IsStringIn}
+use Rattle.gql_tokens.proofs.Lists.{run_stops_behind, rest_is}
+use Rattle.gql_tokens.proofs.StringCuts.{IsReadTo, read_start, read_plain, read_escape, read_end, read_none}
 use Rattle.gql_tokens.proofs.string.string_at.Goals as goal
 
-pub loop-at-preserved : goal.loop-at-preserved
-loop-at-preserved c =
-    let so_far = c.loop-at.invariant.so_far in
-    let v = c.in-Some.found.character in
-    record {
-      behind = omega arith;
-      within = omega (arith, c.in-Some.ensures.0, ap length (take_rest c.args.text.now c.loop-at.at), length-drop c.loop-at.at c.args.text.now);
-      so_far = (
-        so_far.0 ++ v ∷ [],
-        c.in_ok-push-in-Some.ensures.bytes ∙ ap (λ l. l ++ encode_utf8 v) so_far.1 ∙ sym (encode_push so_far.0 v),
-        string_more c.args.text.now c.loop-at.at c.in-Some.found.length v so_far.0 c.loop-at.invariant.behind so_far.2 c.in-Some.ensures.2,
-      );
-    }
+-- how many plain characters follow a place
+plain_is : (text bytes : List ℕ) (at k : ℕ) → bytes ≡ text → k ≡ prefix_len is_plain (take (length bytes - at) (drop at bytes)) → k ≡ prefix_len is_plain (drop at text)
+plain_is text bytes at k same e = e ∙ ap (prefix_len is_plain) (rest_is text bytes at same)
+
+-- behind the plain characters at a place
+behind_plain : (text bytes value longer : List ℕ) (at k : ℕ) → bytes ≡ text → IsUtf8 text → IsReadTo text value at
+    → k ≡ prefix_len is_plain (take (length bytes - at) (drop at bytes)) → longer ≡ value ++ take (at + k - at) (drop at text)
+    → IsReadTo text longer (at + k)
+behind_plain text bytes value longer at k same u h e is =
+    let one : at + k - at ≡ k = omega arith in
+    subst (λ l. IsReadTo text l (at + k)) (sym (is ∙ ap (λ n. value ++ take n (drop at text)) one))
+    (read_plain text u value at h k (plain_is text bytes at k same e))
+
+pub loop-value-init : goal.loop-value-init
+loop-value-init c = read_start c.args.text.now c.utf8.text c.requires (string_bytes c.new-value.result) c.new-value.ensures.bytes
+
+pub range-requires-clause-end_boundary : goal.range-requires-clause-end_boundary
+range-requires-clause-end_boundary c =
+    let text = c.args.text.now in
+    let at = c.loop-value.at in
+    let k = c.plain_length-plain.result in
+    let e = plain_is text c.as_bytes-bytes.result.now at k c.as_bytes-bytes.ensures.value c.plain_length-plain.ensures.exact in
+    (read_plain text c.utf8.text (string_bytes c.loop-value.value) at c.loop-value.invariant k e).cut.boundary
+
+pub returns-then-begins_with_quote : goal.returns-then-begins_with_quote
+returns-then-begins_with_quote c =
+    let text = c.args.text.now in
+    let bytes = c.as_bytes-bytes.result.now in
+    let same = c.as_bytes-bytes.ensures.value in
+    let at = c.loop-value.at in
+    let k = c.plain_length-plain.result in
+    let value = string_bytes c.loop-value.value in
+    let longer = string_bytes c.push_str.new.self in
+    let so_far = behind_plain text bytes value longer at k same c.utf8.text c.loop-value.invariant
+    c.plain_length-plain.ensures.exact (c.in_ok-push_str.ensures.bytes ∙ ap (λ l. value ++ l) c.range.ensures.value) in
+    let ends = ap (begins (λ d. d == quote)) (sym (rest_is text bytes (at + k) same)) ∙ sym c.begins_with_quote.ensures ∙ c.if-begins_with_quote.true in
+    subst (λ l. IsStringIn text l (at + k + 1)) (sym c.from_string.ensures) (read_end text c.utf8.text longer (at + k) so_far c.requires ends)
+
+pub loop-value-preserved : goal.loop-value-preserved
+loop-value-preserved c =
+    let text = c.args.text.now in
+    let bytes = c.as_bytes-bytes.result.now in
+    let same = c.as_bytes-bytes.ensures.value in
+    let at = c.loop-value.at in
+    let k = c.plain_length-plain.result in
+    let value = string_bytes c.loop-value.value in
+    let longer = string_bytes c.push_str.new.self in
+    let so_far = behind_plain text bytes value longer at k same c.utf8.text c.loop-value.invariant
+    c.plain_length-plain.ensures.exact (c.in_ok-push_str.ensures.bytes ∙ ap (λ l. value ++ l) c.range.ensures.value) in
+    let rest = rest_is text bytes (at + k) same in
+    let found = c.in-Some.found in
+    subst (λ l. IsReadTo text l (at + k + found.length)) (sym c.in_ok-push-in-Some.ensures.bytes)
+    (read_escape text c.utf8.text longer (at + k) so_far found.length found.character
+    (subst (λ l. found.length ≤ length l) rest c.in-Some.ensures.0) (subst (λ l. IsEscape found.character (take found.length l)) rest c.in-Some.ensures.2))
 
 pub returns-in-None : goal.returns-in-None
 returns-in-None c =
     let text = c.args.text.now in
-    let so_far = c.loop-at.invariant.so_far in
-    no_string_behind text c.loop-at.at so_far.0 c.requires c.loop-at.invariant.behind so_far.2
-    (begins_at (λ d. d == quote) text c.loop-at.at c.index-text-at.result c.loop-at-test.true c.index-text-at.is ∙ ne_eqb _ _ c.if-text-at-eq34.false)
-    (λ v cs rest e. c.in-None.ensures v cs rest (take_rest text c.loop-at.at ∙ e))
-
-pub returns : goal.returns
-returns c =
-    let text = c.args.text.now in
-    let so_far = c.loop-at.invariant.so_far in
-    let none = drop_all c.loop-at.at text c.loop-at-test.false in
-    no_string_behind text c.loop-at.at so_far.0 c.requires c.loop-at.invariant.behind so_far.2
-    (ap (begins (λ d. d == quote)) none) (λ v cs rest e. nothing_written v cs rest (sym none ∙ e))
+    let bytes = c.as_bytes-bytes.result.now in
+    let same = c.as_bytes-bytes.ensures.value in
+    let at = c.loop-value.at in
+    let k = c.plain_length-plain.result in
+    let value = string_bytes c.loop-value.value in
+    let longer = string_bytes c.push_str.new.self in
+    let so_far = behind_plain text bytes value longer at k same c.utf8.text c.loop-value.invariant
+    c.plain_length-plain.ensures.exact (c.in_ok-push_str.ensures.bytes ∙ ap (λ l. value ++ l) c.range.ensures.value) in
+    let rest = rest_is text bytes (at + k) same in
+    read_none text c.utf8.text longer (at + k) so_far c.requires
+    (run_stops_behind is_plain text at k (plain_is text bytes at k same c.plain_length-plain.ensures.exact))
+    (ap (begins (λ d. d == quote)) (sym rest) ∙ sym c.begins_with_quote.ensures ∙ c.if-begins_with_quote.false)
+    (λ v cs more e. c.in-None.ensures v cs more (rest ∙ e))
