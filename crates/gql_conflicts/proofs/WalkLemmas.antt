@@ -14,18 +14,21 @@ use Rattle.gql_doc.specs.declared.document.Positioned.{Positioned}
 use Rattle.gql_select.specs.Alike.{alike, name_of}
 use Rattle.gql_select.specs.Collected.{Setting, collect_within, own_selections}
 use Rattle.gql_select.specs.Conflicts.{first_differing}
-use Rattle.gql_select.specs.Documents.{both, reading}
+use Rattle.gql_select.specs.Documents.{both, reading, with_others}
 use Rattle.gql_select.proofs.DocumentLemmas.{is_reading, name_of_both, set_of_both}
 use Rattle.gql_conflicts.specs.Classes.{key_at}
-use Rattle.gql_conflicts.specs.Collecting.{all_behind, setting_by}
+use Rattle.gql_conflicts.specs.Collecting.{setting_by}
+use Rattle.gql_select.specs.Behind.{all_behind}
 use Rattle.gql_conflicts.specs.DocumentConflicts.{told}
-use Rattle.gql_conflicts.specs.Groups.{AreGroups, Grown, fields_tell, groups_tell, told_of, united, with_others}
+use Rattle.gql_conflicts.specs.Groups.{AreGroups, Grown, fields_tell, groups_tell, told_of, united}
 use Rattle.gql_conflicts.specs.Walk.{among_tells, beneath_tells, collected, objects_at, set_tells}
 use Rattle.gql_conflicts.specs.declared.conflict.Conflict.{Conflict}
 use Rattle.gql_conflicts.specs.declared.group.Group.{Group}
 use Rattle.gql_conflicts.specs.declared.reader.Reader.{Reader}
 use Rattle.gql_conflicts.proofs.EachLemmas.{none_of_any}
-use Rattle.gql_conflicts.proofs.GroupLemmas.{behind_append, groups_found, names_long, with_one_more}
+use Rattle.gql_select.proofs.OccurrenceLemmas.{behind_append, with_one_more}
+use Rattle.gql_select.proofs.ZipLemmas.{names_long}
+use Rattle.gql_conflicts.proofs.GroupLemmas.{groups_found}
 
 module _ {A B : Type 0} (f : A → List B) where
   -- what one more of some gives

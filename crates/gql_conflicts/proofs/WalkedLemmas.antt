@@ -9,7 +9,7 @@ use Rattle.gql_doc.specs.declared.document.Selection.{Selection}
 use Rattle.gql_doc.specs.Depth.{operation_set, selections_of}
 use Rattle.gql_select.specs.Alike.{name_of}
 use Rattle.gql_select.specs.Collected.{own_selections}
-use Rattle.gql_conflicts.specs.Collecting.{all_behind}
+use Rattle.gql_select.specs.Behind.{all_behind}
 use Rattle.gql_conflicts.specs.DocumentConflicts.{conflicts_at}
 use Rattle.gql_conflicts.specs.Rooted.{objects_beneath, root_of, rooted_of}
 use Rattle.gql_conflicts.specs.Seen.{HasSeen, IsVisit, OnlyAdds}

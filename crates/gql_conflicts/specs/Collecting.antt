@@ -1,7 +1,6 @@
 -- The fields of an object in selections, as they are collected (GraphQL, October 2021, section
 -- 6.3.2).
-use Rattle.std.specs.Prelude.{ℕ, List, map}
-use Rattle.std.specs.Borrow.{Bor}
+use Rattle.std.specs.Prelude.{ℕ, List}
 use Rattle.gql_base.specs.Pairs.{under}
 use Rattle.gql_doc.specs.declared.document.Field.{Field}
 use Rattle.gql_doc.specs.declared.document.InlineFragment.{InlineFragment}
@@ -13,10 +12,6 @@ use Rattle.gql_select.specs.Collected.{Setting, collect_within, fields_of, field
 use Rattle.gql_select.specs.Collected.{fields_of_spread}
 use Rattle.gql_conflicts.specs.Rooted.{rooted_of, setting_of}
 use Rattle.gql_conflicts.specs.declared.reader.Reader.{Reader}
-
--- the values behind references
-abbrev pub all_behind : {X : Type 0} → List (Bor X) → List X
-all_behind references = map (λ reference. reference.now) references
 
 -- what a reader reads sets by
 abbrev pub setting_by : Reader → Setting

@@ -9,17 +9,12 @@ use Rattle.gql_doc.specs.declared.document.Field.{Field}
 use Rattle.gql_doc.specs.declared.document.Positioned.{Positioned}
 use Rattle.gql_select.specs.Collected.{Setting}
 use Rattle.gql_select.specs.Conflicts.{agreeing, first_differing}
-use Rattle.gql_select.specs.Documents.{both, reading}
+use Rattle.gql_select.specs.Documents.{reading, with_others}
 use Rattle.gql_conflicts.specs.Classes.{key_at}
-use Rattle.gql_conflicts.specs.Collecting.{all_behind}
+use Rattle.gql_select.specs.Behind.{all_behind}
 use Rattle.gql_conflicts.specs.DocumentConflicts.{told}
 use Rattle.gql_conflicts.specs.declared.conflict.Conflict.{Conflict}
 use Rattle.gql_conflicts.specs.declared.group.Group.{Group}
-
--- an occurrence with the selections of others behind its own
-abbrev pub with_others : Positioned Field → List (Positioned Field) → Positioned Field
-with_others field [] = field
-with_others field (other ∷ others) = with_others (both field other) others
 
 -- the one field that stands for a group
 abbrev pub united : Group → Positioned Field

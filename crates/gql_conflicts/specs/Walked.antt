@@ -2,7 +2,7 @@
 -- through, so that it goes through nothing twice.
 use Rattle.std.specs.Prelude.{◌⊎◌, List}
 use Rattle.std.specs.List.{Contains}
-use Rattle.gql_conflicts.specs.Collecting.{all_behind}
+use Rattle.gql_select.specs.Behind.{all_behind}
 use Rattle.gql_conflicts.specs.Walk.{among_tells}
 use Rattle.gql_conflicts.specs.declared.conflict.Conflict.{Conflict}
 use Rattle.gql_conflicts.specs.declared.reader.Reader.{Reader}

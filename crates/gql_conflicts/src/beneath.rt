@@ -2,7 +2,7 @@
 //! sets of all occurrences of the field's key.
 ghost use Rattle.std.specs.Prelude.{◌≡◌, [], ◌++◌, IfOk, IsTrue, OnOk};
 ghost use Rattle.gql_select.specs.Collected.{own_selections};
-ghost use Rattle.gql_conflicts.specs.Collecting.{all_behind};
+ghost use Rattle.gql_select.specs.Behind.{all_behind};
 ghost use Rattle.gql_conflicts.specs.Groups.{united};
 ghost use Rattle.gql_conflicts.specs.Rooted.{is_entities, objects_beneath, rooted_of};
 ghost use Rattle.gql_conflicts.specs.Walk.{collected};

@@ -2,7 +2,8 @@
 //! document order, before anything is skipped.
 ghost use Rattle.std.specs.Prelude.{◌≡◌, ◌++◌, OnOk};
 ghost use Rattle.gql_doc.specs.declared.document.Selection.{out-Selection};
-ghost use Rattle.gql_conflicts.specs.Collecting.{all_behind, fields_here, fields_of_inline_here};
+ghost use Rattle.gql_conflicts.specs.Collecting.{fields_here, fields_of_inline_here};
+ghost use Rattle.gql_select.specs.Behind.{all_behind};
 ghost use Rattle.gql_conflicts.specs.Collecting.{fields_of_name, fields_within};
 
 use crate::reader::Reader;

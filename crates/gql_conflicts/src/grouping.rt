@@ -4,7 +4,7 @@ ghost use Rattle.gql_doc.specs.declared.document.Field.{Field as Asked};
 ghost use Rattle.gql_doc.specs.declared.document.Positioned.{Positioned as Placed};
 ghost use Rattle.gql_select.specs.Alike.{alike};
 ghost use Rattle.gql_select.specs.Collected.{Setting};
-ghost use Rattle.gql_conflicts.specs.Collecting.{all_behind};
+ghost use Rattle.gql_select.specs.Behind.{all_behind};
 ghost use Rattle.gql_conflicts.specs.Groups.{AreGroups, Grown, fields_tell, groups_tell};
 ghost use Rattle.gql_conflicts.specs.declared.conflict.Conflict.{Conflict as Told};
 

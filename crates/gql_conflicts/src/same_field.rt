@@ -1,7 +1,7 @@
 //! Which fields of a document are one and the same. Places are compared first, so that fields of
 //! different places are told apart at once.
 ghost use Rattle.std.specs.Prelude.{◌≡◌, IsTrue};
-ghost use Rattle.gql_conflicts.specs.Collecting.{all_behind};
+ghost use Rattle.gql_select.specs.Behind.{all_behind};
 
 use crate::same_written::same_value;
 use gql_base::{Items, Name, Pos};

@@ -1,7 +1,7 @@
 //! What a walk has been through: lists of fields of objects. A list is looked up by a mark, and
 //! then compared with each list of its mark.
 ghost use Rattle.std.specs.Prelude.{◌≡◌, [], IsTrue, OnOk};
-ghost use Rattle.gql_conflicts.specs.Collecting.{all_behind};
+ghost use Rattle.gql_select.specs.Behind.{all_behind};
 ghost use Rattle.gql_conflicts.specs.Seen.{HasSeen, IsVisit, OnlyAdds};
 
 use crate::same_field::same_fields;

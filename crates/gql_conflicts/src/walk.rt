@@ -5,7 +5,7 @@
 ghost use Rattle.std.specs.Prelude.{◌≡◌, ◌++◌, IfOk, OnOk};
 ghost use Rattle.std.specs.List.{flat_map};
 ghost use Rattle.gql_select.specs.Collected.{own_selections};
-ghost use Rattle.gql_conflicts.specs.Collecting.{all_behind};
+ghost use Rattle.gql_select.specs.Behind.{all_behind};
 ghost use Rattle.gql_conflicts.specs.DocumentConflicts.{told};
 ghost use Rattle.gql_conflicts.specs.Groups.{group_tells, groups_tell, told_of, united};
 ghost use Rattle.gql_conflicts.specs.Walk.{among_tells, beneath_tells, set_tells};

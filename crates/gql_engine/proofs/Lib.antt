@@ -7,7 +7,6 @@ pub mod BlockLemmas
 pub mod CountLemmas
 pub mod GivenLemmas
 pub mod InTurnLemmas
-pub mod Lists
 pub mod NearerLemmas
 pub mod PaceLemmas
 pub mod PhaseLemmas

@@ -5,7 +5,7 @@ use Rattle.std.specs.Prelude.{false, is_some, true}
 use Rattle.std.specs.declared.alloc.Global.{Global}
 use Rattle.std.specs.declared.rc.Rc.{Rc}
 use Rattle.gql_base.specs.Pairs.{values_of}
-use Rattle.gql_engine.proofs.Lists.{get_append}
+use Rattle.gql_select.proofs.SliceLemmas.{get_append}
 use Rattle.gql_meaning.specs.Responses.{Members}
 use Rattle.gql_place.specs.declared.place.Place.{Place}
 use Rattle.gql_merged.specs.Assembled.{members_with, places_behind_all, places_with, united_members}

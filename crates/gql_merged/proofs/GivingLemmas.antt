@@ -8,11 +8,11 @@ use Rattle.gql_meaning.specs.Completion.{Completed, shape_of}
 use Rattle.gql_resolve.specs.declared.answer.Answer.{Answer}
 use Rattle.gql_schema.specs.Table.{types_of}
 use Rattle.gql_select.specs.Collected.{own_selections}
-use Rattle.gql_select.specs.Documents.{both}
+use Rattle.gql_select.specs.Documents.{both, with_others}
 use Rattle.gql_merged.specs.Asks.{type_in}
-use Rattle.gql_merged.specs.Behind.{all_behind}
+use Rattle.gql_select.specs.Behind.{all_behind}
 use Rattle.gql_merged.specs.Fitting.{IsFilled}
-use Rattle.gql_merged.specs.Groups.{united, with_others}
+use Rattle.gql_merged.specs.Groups.{united}
 use Rattle.gql_merged.specs.Jobs.{completed_by, Job, jobs_beneath}
 use Rattle.gql_merged.specs.Parents.{jobs_of_standing, spot_found, standing_at, standing_behind}
 use Rattle.gql_merged.specs.Stored.{bare, spots}

@@ -1,31 +1,21 @@
 -- Fields that are united under their keys, one by one.
-use Rattle.std.proofs.Common.{◌≡◌, ℕ, suc, Bool, true, false, cond, List, [], ◌∷◌, ◌++◌, length, map, Option, Some, None, slice_get, slice_set, refl, ap, sym, ◌∙◌, subst, arith}
+use Rattle.std.proofs.Common.{◌≡◌, ℕ, List, [], ◌∷◌, ◌++◌, length, map, Some, None, slice_get, slice_set, ap, sym, ◌∙◌}
 use Rattle.std.specs.List.{zip}
-use Rattle.std.specs.Option.{option_map_or, option_map}
-use Rattle.std.specs.Str.{bytes_eq}
 use Rattle.std.specs.Borrow.{Bor}
 use Rattle.gql_base.specs.Names.{place_of}
 use Rattle.gql_base.specs.Pairs.{names_of, unite, unite_all}
 use Rattle.gql_doc.specs.declared.document.Field.{Field}
 use Rattle.gql_doc.specs.declared.document.Positioned.{Positioned}
 use Rattle.gql_select.specs.Collected.{Setting}
-use Rattle.gql_select.specs.Documents.{both, reading}
+use Rattle.gql_select.specs.Documents.{both, reading, with_others}
 use Rattle.gql_select.specs.Reading.{keyed}
-use Rattle.gql_engine.proofs.Lists.{get_map, map_set}
-use Rattle.gql_merged.specs.Behind.{all_behind}
-use Rattle.gql_merged.specs.Groups.{under_keys, united, with_others}
+use Rattle.gql_select.proofs.SliceLemmas.{get_map, map_set}
+use Rattle.gql_select.specs.Behind.{all_behind}
+use Rattle.gql_select.proofs.OccurrenceLemmas.{behind_append, with_one_more}
+use Rattle.gql_select.proofs.ZipLemmas.{map_last, map_length, names_last, names_long, unite_fresh, unite_found}
+use Rattle.gql_merged.specs.Groups.{under_keys, united}
 use Rattle.gql_engine.specs.Path.{key_text}
 use Rattle.gql_merged.specs.declared.group.Group.{Group}
-
--- one more occurrence behind the others
-pub with_one_more : (f : Positioned Field) (gs : List (Positioned Field)) (g : Positioned Field)
-    → with_others f (gs ++ g ∷ []) ≡ both (with_others f gs) g
-with_one_more f [] g = refl
-with_one_more f (x ∷ gs) g = with_one_more (both f x) gs g
-
-pub behind_append : {X : Type 0} (one other : List (Bor X)) → all_behind (one ++ other) ≡ all_behind one ++ all_behind other
-behind_append [] other = refl
-behind_append (x ∷ one) other = ap (λ ys. x.now ∷ ys) (behind_append one other)
 
 -- the group with one more occurrence
 pub united_more : (group : Group) (g : Bor (Positioned Field)) (new : Group)
@@ -34,71 +24,6 @@ united_more group g new same added =
     (λ i. with_others (same i) (all_behind (added i)))
     ∙ ap (with_others group.first.now) (behind_append group.more.items (g ∷ []))
     ∙ with_one_more group.first.now (all_behind group.more.items) g.now
-
-module _ {T : Type 0} (j : T → T → T) where
-  unite_next : (k : List ℕ) (y : T) (ks : List (List ℕ)) (vs : List T) (qs : List (List ℕ × T)) (w : T) (o : Option ℕ) (i : ℕ)
-      → ((n : ℕ) → o ≡ Some n → qs ≡ zip ks (slice_set vs n w)) → option_map (λ n. suc n) o ≡ Some i
-      → (k, y) ∷ qs ≡ zip (k ∷ ks) (slice_set (y ∷ vs) i w)
-  unite_next k y ks vs qs w None i each found = cc
-  unite_next k y ks vs qs w (Some n) i each found =
-      let at : suc n ≡ i = ap (λ o. option_map_or (λ m. m) o 0) found in
-      rw (sym at) (ap (λ ps. (k, y) ∷ ps) (each n refl))
-
-  -- a value joins the one that stands at the place of its name
-  pub unite_found : (sought : List ℕ) (ks : List (List ℕ)) (vs : List T) (i : ℕ) (v w : T) → length vs ≡ length ks
-      → place_of sought ks ≡ Some i → slice_get vs i ≡ Some v
-      → unite j (zip ks vs) sought w ≡ zip ks (slice_set vs i (j v w))
-  unite_found sought [] vs i v w e found at = cc
-  unite_found sought (k ∷ ks) [] i v w e found at = absurd (omega arith)
-  unite_found sought (k ∷ ks) (y ∷ vs) i v w e found at =
-      let P : Bool → Type 0 = λ b. cond b (Some 0) (option_map (λ n. suc n) (place_of sought ks)) ≡ Some i
-      → cond b ((k, j y w) ∷ zip ks vs) ((k, y) ∷ unite j (zip ks vs) sought w) ≡ zip (k ∷ ks) (slice_set (y ∷ vs) i (j v w)) in
-      (elim (bytes_eq sought k) as P [
-        | true ↦ λ h.
-            let first : 0 ≡ i = ap (λ o. option_map_or (λ n. n) o 0) h in
-            let same : y ≡ v = let e : slice_get (y ∷ vs) 0 ≡ Some v = ap (λ n. slice_get (y ∷ vs) n) first ∙ at in cc in
-            rw (sym first) (ap (λ x. (k, j x w) ∷ zip ks vs) same)
-        | false ↦ λ h.
-            unite_next k y ks vs (unite j (zip ks vs) sought w) (j v w) (place_of sought ks) i
-            (λ n there.
-            let later : suc n ≡ i = ap (λ o. option_map_or (λ m. m) o 0) (ap (option_map (λ m. suc m)) (sym there) ∙ h) in
-            unite_found sought ks vs n v w (omega arith) there (subst (λ m. slice_get (y ∷ vs) m ≡ Some v) (sym later) at))
-            h
-      ]) found
-
-  -- a value whose name isn't there comes to the end
-  pub unite_fresh : (sought : List ℕ) (ks : List (List ℕ)) (vs : List T) (w : T) → length vs ≡ length ks
-      → place_of sought ks ≡ None → unite j (zip ks vs) sought w ≡ zip (ks ++ sought ∷ []) (vs ++ w ∷ [])
-  unite_fresh sought [] [] w e none = refl
-  unite_fresh sought [] (y ∷ vs) w e none = absurd (omega arith)
-  unite_fresh sought (k ∷ ks) [] w e none = absurd (omega arith)
-  unite_fresh sought (k ∷ ks) (y ∷ vs) w e none =
-      let P : Bool → Type 0 = λ b. cond b (Some 0) (option_map (λ n. suc n) (place_of sought ks)) ≡ None
-      → cond b ((k, j y w) ∷ zip ks vs) ((k, y) ∷ unite j (zip ks vs) sought w) ≡ (k, y) ∷ zip (ks ++ sought ∷ []) (vs ++ w ∷ []) in
-      (elim (bytes_eq sought k) as P [
-        | true ↦ λ h. cc
-        | false ↦ λ h. ap (λ ps. (k, y) ∷ ps) (unite_fresh sought ks vs w (omega arith) (none_before (place_of sought ks) h))
-      ]) none
-    where
-      none_before : (o : Option ℕ) → option_map (λ n. suc n) o ≡ None → o ≡ None
-      none_before None h = refl
-      none_before (Some n) h = cc
-
-map_last : {A B : Type 0} (f : A → B) (xs : List A) (x : A) → map f (xs ++ x ∷ []) ≡ map f xs ++ f x ∷ []
-map_last f [] x = refl
-map_last f (y ∷ xs) x = ap (λ ys. f y ∷ ys) (map_last f xs x)
-
-map_length : {A B : Type 0} (f : A → B) (xs : List A) → length (map f xs) ≡ length xs
-map_length f [] = refl
-map_length f (x ∷ xs) = ap suc (map_length f xs)
-
--- a key more is a name more
-names_last : (keys : List (List ℕ × Unit {0})) (key : List ℕ) → names_of (keys ++ (key, tt) ∷ []) ≡ names_of keys ++ key ∷ []
-names_last [] key = refl
-names_last (k ∷ keys) key = ap (λ ks. k.0 ∷ ks) (names_last keys key)
-
-pub names_long : (keys : List (List ℕ × Unit {0})) → length (names_of keys) ≡ length keys
-names_long keys = map_length (λ (p : List ℕ × Unit {0}). p.0) keys
 
 -- an occurrence of a new key is a group of its own
 pub occurrence_fresh : (keys : List (List ℕ × Unit {0})) (groups : List Group) (key : List ℕ) (group : Group) (f : Positioned Field) → length groups ≡ length keys

@@ -20,7 +20,7 @@ use Rattle.gql_select.specs.Documents.{reading}
 use Rattle.gql_select.specs.Grouped.{below_root, in_turn}
 use Rattle.gql_select.specs.Reading.{keyed}
 use Rattle.gql_merged.specs.Assembled.{united_members}
-use Rattle.gql_merged.specs.Behind.{all_behind}
+use Rattle.gql_select.specs.Behind.{all_behind}
 use Rattle.gql_merged.specs.Groups.{under_names, united}
 use Rattle.gql_merged.specs.Run.{apart_response, merged_response, place_at_root, placing_in, response_by, root_selections, root_spot}
 use Rattle.gql_merged.specs.Serial.{answering, keys_of, levels_beneath, serial_apart_response, serial_response, serial_response_by}

@@ -10,14 +10,14 @@ use Rattle.gql_doc.specs.declared.document.Positioned.{Positioned}
 use Rattle.gql_meaning.specs.Execution.{Execution}
 use Rattle.gql_select.specs.Alike.{arguments_of, name_of}
 use Rattle.gql_select.specs.Collected.{own_selections}
-use Rattle.gql_select.specs.Documents.{both}
+use Rattle.gql_select.specs.Documents.{both, with_others}
 use Rattle.gql_select.proofs.DocumentLemmas.{arguments_of_both, is_reading, name_of_both, set_of_both}
-use Rattle.gql_merged.proofs.GroupLemmas.{behind_append, with_one_more}
+use Rattle.gql_select.proofs.OccurrenceLemmas.{behind_append, with_one_more}
 use Rattle.gql_merged.specs.Asks.{asks_of}
 use Rattle.gql_merged.specs.Basis.{execution_of, setting_by}
-use Rattle.gql_merged.specs.Behind.{all_behind}
+use Rattle.gql_select.specs.Behind.{all_behind}
 use Rattle.gql_merged.specs.FieldsWithin.{collected}
-use Rattle.gql_merged.specs.Groups.{united, with_others}
+use Rattle.gql_merged.specs.Groups.{united}
 use Rattle.gql_merged.specs.Levels.{Asked, asked_behind, asked_of, asked_on}
 use Rattle.gql_merged.specs.declared.asks.Asks.{Asks}
 use Rattle.gql_merged.specs.declared.basis.Basis.{Basis}

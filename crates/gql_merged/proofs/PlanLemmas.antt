@@ -2,7 +2,7 @@
 use Rattle.std.proofs.Common.{◌≡◌, ℕ, ◌+◌, ◌<◌, ◌≤◌, List, [], ◌∷◌, ◌++◌, length, Some, slice_get, refl, ap, sym, subst, ◌∙◌, arith, length-append, inl, inr}
 use Rattle.std.proofs.lemmas.List.{length-map}
 use Rattle.std.specs.List.{AllByRecursion}
-use Rattle.gql_engine.proofs.Lists.{get_append, get_map, get_within}
+use Rattle.gql_select.proofs.SliceLemmas.{get_append, get_map, get_within}
 use Rattle.gql_engine.specs.Plan.{HasMade}
 use Rattle.gql_engine.specs.declared.given.Given.{Given}
 use Rattle.gql_merged.specs.Entries.{laid}

@@ -7,11 +7,11 @@ use Rattle.gql_doc.specs.declared.document.Positioned.{Positioned}
 use Rattle.gql_doc.specs.Document.{alias_or}
 use Rattle.gql_engine.specs.Path.{key_text}
 use Rattle.gql_select.specs.Collected.{own_selections}
-use Rattle.gql_select.specs.Documents.{both, with_selections}
-use Rattle.gql_merged.specs.Behind.{all_behind}
-use Rattle.gql_merged.specs.Groups.{item_among, item_of, own_items, united, with_others}
+use Rattle.gql_select.specs.Documents.{both, with_others, with_selections}
+use Rattle.gql_select.specs.Behind.{all_behind}
+use Rattle.gql_merged.specs.Groups.{item_among, item_of, own_items, united}
 use Rattle.gql_merged.specs.declared.group.Group.{Group}
-use Rattle.gql_merged.proofs.GroupLemmas.{behind_append, with_one_more}
+use Rattle.gql_select.proofs.OccurrenceLemmas.{behind_append, with_one_more}
 
 -- one more occurrence is added
 pub item_more : (first : Positioned Field) (more : List (Bor (Positioned Field))) (i : ℕ) (occurrence : Bor (Positioned Field)) (old new : Field)

@@ -6,14 +6,9 @@ use Rattle.gql_doc.specs.Depth.{selections_of}
 use Rattle.gql_doc.specs.declared.document.Field.{Field, out-Field}
 use Rattle.gql_doc.specs.declared.document.Positioned.{Positioned}
 use Rattle.gql_doc.specs.declared.document.Selection.{Selection}
-use Rattle.gql_select.specs.Documents.{both}
-use Rattle.gql_merged.specs.Behind.{all_behind}
+use Rattle.gql_select.specs.Documents.{both, with_others}
+use Rattle.gql_select.specs.Behind.{all_behind}
 use Rattle.gql_merged.specs.declared.group.Group.{Group}
-
--- an occurrence with the selections of others behind its own
-abbrev pub with_others : Positioned Field → List (Positioned Field) → Positioned Field
-with_others field [] = field
-with_others field (other ∷ others) = with_others (both field other) others
 
 -- the one field that stands for a group
 abbrev pub united : Group → Positioned Field

@@ -3,7 +3,6 @@ pub mod Asks
 pub mod Assembled
 pub mod Assembling
 pub mod Basis
-pub mod Behind
 pub mod Beneath
 pub mod Completing
 pub mod Counted

@@ -21,14 +21,16 @@ use Rattle.gql_doc.specs.declared.document.SelectionSet.{SelectionSet}
 use Rattle.gql_select.specs.Collected.{collect_within, own_selections, Setting}
 use Rattle.gql_merged.specs.Asks.{asking_by, asks_of}
 use Rattle.gql_merged.specs.Assembled.{members_with}
+use Rattle.gql_merged.specs.Counted.{count_by, merged_count, serial_count, serial_count_by}
 use Rattle.gql_merged.specs.Filling.{tree_with}
 use Rattle.gql_merged.specs.Jobs.{jobs_at, jobs_by}
 use Rattle.gql_merged.specs.Levels.{asked_in}
 use Rattle.gql_merged.specs.Merged.{beneath_by, members_by, place_by}
-use Rattle.gql_merged.specs.Run.{AgreesInside, apart_response, merged_response}
-use Rattle.gql_merged.specs.Serial.{serial_apart_response, serial_response}
+use Rattle.gql_merged.specs.Run.{AgreesInside, apart_response, merged_response, response_by}
+use Rattle.gql_merged.specs.Serial.{serial_apart_response, serial_response, serial_response_by}
 use Rattle.gql_merged.specs.Stored.{bare, Spot, spots}
 use Rattle.gql_merged.specs.declared.basis.Basis.{Basis}
+use Rattle.gql_merged.specs.declared.basis.Grouping.TheVariants as grouping
 
 -- a field asks the call that is made of what it asks on any value of its object
 abbrev pub FieldsAskTheirCalls : (V : Type 0) → Type 0
@@ -69,6 +71,24 @@ TasksAreJobs V =
     (basis : Basis) (spot : Spot V) (selections : List (Positioned Selection))
     → jobs_by spot (values_of (asked_in basis spot.object selections))
     ≡ jobs_at basis selections spot
+
+-- grouped by key, an operation that is no mutation comes to the place of merged execution, and asks
+-- as many answers; each occurrence apart, it comes to the place of apart execution
+pub record QueriesAreGrouped {V : Type 0} (scene : Scene V) (answer : Call V → Answer V) (n : ℕ)
+    : Type 0 where
+  pub by_key : response_by grouping.ByKey scene answer n ≡ merged_response scene answer n
+  pub each : response_by grouping.Each scene answer n ≡ apart_response scene answer n
+  pub asked : count_by scene answer n grouping.ByKey ≡ merged_count scene answer n
+
+-- the same of a mutation, grouped so beneath its root keys
+pub record MutationsAreGrouped {V W : Type 0} (scene : Scene V) (answer : Call V → W → Answer V)
+    (effect : Call V → W → W) (world : W) (n : ℕ) : Type 0 where
+  pub by_key : serial_response_by scene answer effect grouping.ByKey world n
+      ≡ serial_response scene answer effect world n
+  pub each : serial_response_by scene answer effect grouping.Each world n
+      ≡ serial_apart_response scene answer effect world n
+  pub asked : serial_count_by scene answer effect world n grouping.ByKey
+      ≡ serial_count scene answer effect world n
 
 -- where the operation agrees with itself, apart execution comes to the place of merged execution
 abbrev pub AgreeingApartIsMerged : (V : Type 0) → Type 0

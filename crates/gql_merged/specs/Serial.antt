@@ -51,10 +51,6 @@ module _ {V : Type 0} (scene : Scene V) where
   abbrev pub key_work : Work V (Job V)
   key_work = key_work_by grouping.ByKey scene
 
-  -- what apart execution has to do: beneath its roots each occurrence is a task of its own
-  abbrev pub apart_key_work : Work V (Job V)
-  apart_key_work = key_work_by grouping.Each scene
-
   -- before the first root key no task is made
   abbrev pub no_jobs : List (Job V)
   no_jobs = []

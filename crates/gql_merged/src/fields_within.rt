@@ -3,7 +3,7 @@
 ghost use Rattle.std.specs.Prelude.{◌≡◌, ◌++◌, IfOk, OnOk};
 ghost use Rattle.gql_doc.specs.declared.document.Selection.{out-Selection};
 ghost use Rattle.gql_merged.specs.Basis.{fields_within};
-ghost use Rattle.gql_merged.specs.Behind.{all_behind};
+ghost use Rattle.gql_select.specs.Behind.{all_behind};
 ghost use Rattle.gql_merged.specs.FieldsWithin.{collected, fields_here, fields_of_inline_here};
 ghost use Rattle.gql_merged.specs.FieldsWithin.{fields_of_name};
 

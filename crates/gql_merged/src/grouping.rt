@@ -5,7 +5,7 @@ ghost use Rattle.gql_base.specs.Pairs.{unite};
 ghost use Rattle.gql_select.specs.Collected.{Setting};
 ghost use Rattle.gql_select.specs.Documents.{both, reading};
 ghost use Rattle.gql_select.specs.Reading.{keyed, merged};
-ghost use Rattle.gql_merged.specs.Behind.{all_behind};
+ghost use Rattle.gql_select.specs.Behind.{all_behind};
 ghost use Rattle.gql_merged.specs.Grouped.{groups_by};
 ghost use Rattle.gql_merged.specs.Groups.{under_keys, under_names};
 ghost use Rattle.gql_merged.specs.KeyNames.{names_in};
@@ -35,7 +35,7 @@ pub(crate) fn group_fields<'a>(
 }
 
 /// One group for each key of the fields.
-#[tactic(auto, using(crate::proofs::GroupLemmas::names_long, crate::proofs::GroupLemmas::occurrence_more))]
+#[tactic(auto, using(gql_select::proofs::ZipLemmas::names_long, crate::proofs::GroupLemmas::occurrence_more))]
 fn group_by_key<'a>(alloc: Global, fields: Vec<&'a Positioned<Field>>) -> Made<Groups<'a>>
     ensures { (setting : Setting) → IfOk result (λ made.
         under_names (names_in made.keys) made.groups.items

@@ -25,7 +25,7 @@ pub(crate) fn members_under(alloc: Global, keys: &Keys, own: Vec<Place>) -> Made
 }
 
 /// The same under keys that stand once each, so that nothing is to be joined.
-#[tactic(auto, using(crate::proofs::GroupingLemmas::once_united, crate::proofs::GroupLemmas::names_long))]
+#[tactic(auto, using(crate::proofs::GroupingLemmas::once_united, gql_select::proofs::ZipLemmas::names_long))]
 fn members_once(alloc: Global, keys: &Pairs<()>, own: Vec<Place>) -> Made<Pairs<Place>>
     requires { length own.items ≡ length (names_of keys.now) }
     ensures { IfOk result (λ members. members ≡ united_members (names_of keys.now) own.items) }

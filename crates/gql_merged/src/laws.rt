@@ -1,9 +1,14 @@
 //! Laws on how the places of tasks are put together, and on what merged and apart execution have in
 //! common. Each is the contract of a function without parameters.
 
+ghost use Rattle.std.specs.Prelude.{ℕ};
+ghost use Rattle.gql_engine.specs.declared.scene.Scene.{Scene};
+ghost use Rattle.gql_resolve.specs.Call.{Call};
+ghost use Rattle.gql_resolve.specs.declared.answer.Answer.{Answer};
 ghost use Rattle.gql_merged.specs.MergedLaws.{AgreeingApartIsMerged};
 ghost use Rattle.gql_merged.specs.MergedLaws.{AgreeingMutationApartIsMerged};
 ghost use Rattle.gql_merged.specs.MergedLaws.{CollectedNest, FieldsAskTheirCalls, MembersAreMerged};
+ghost use Rattle.gql_merged.specs.MergedLaws.{MutationsAreGrouped, QueriesAreGrouped};
 ghost use Rattle.gql_merged.specs.MergedLaws.{TasksAreJobs, TreesAreMerged};
 
 /// A field asks the call that the meaning of execution says, made of what its name and its
@@ -32,6 +37,19 @@ pub fn tasks_are_jobs<V>()
 /// The set of each field that an object has in a set nests within the levels of that set.
 pub fn collected_sets_nest()
     ensures { CollectedNest }
+{}
+
+/// What `run_grouped` comes to: by key, to the place of merged execution, with as many answers
+/// asked; with each occurrence apart, to that of apart execution (section 6.3.2).
+pub fn queries_are_grouped<V>()
+    ensures { (scene : Scene V) (answer : Call V → Answer V) (n : ℕ)
+        → QueriesAreGrouped scene answer n }
+{}
+
+/// The same of `run_mutation_grouped`, whose root keys are merged in any case (section 6.2.2).
+pub fn mutations_are_grouped<V, W>()
+    ensures { (scene : Scene V) (answer : Call V → W → Answer V) (effect : Call V → W → W)
+        (world : W) (n : ℕ) → MutationsAreGrouped scene answer effect world n }
 {}
 
 /// Where the fields of one key agree, answering each occurrence apart and joining the places is

@@ -5,7 +5,7 @@ ghost use Rattle.gql_doc.specs.Depth.{field_set};
 ghost use Rattle.gql_request.specs.QueryEnv.{NestsIn};
 ghost use Rattle.gql_select.specs.Collected.{own_selections};
 ghost use Rattle.gql_merged.specs.Basis.{setting_by};
-ghost use Rattle.gql_merged.specs.Behind.{all_behind};
+ghost use Rattle.gql_select.specs.Behind.{all_behind};
 ghost use Rattle.gql_merged.specs.FieldsWithin.{collected};
 ghost use Rattle.gql_merged.specs.Grouped.{groups_by};
 ghost use Rattle.gql_merged.specs.Groups.{united};

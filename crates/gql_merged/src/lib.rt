@@ -39,7 +39,7 @@ mod task_making;
 mod tree_plan;
 mod uniting;
 
-pub use apart::{run_apart, run_apart_counted};
+pub use apart::run_apart;
 pub use asks::Asks;
 pub use basis::{Basis, Grouping};
 pub use completing::complete_result;
@@ -48,6 +48,6 @@ pub use group::{Group, Groups};
 pub use key_names::Keys;
 pub use level::{Level, Node};
 pub use levels::{fields_beneath, level_of};
-pub use merged::{run_merged, run_merged_counted};
-pub use mutation::{run_mutation_apart_counted, run_mutation_counted, run_mutation_grouped};
+pub use merged::run_merged;
+pub use mutation::run_mutation_grouped;
 pub use run::run_grouped;

@@ -7,15 +7,12 @@ ghost use Rattle.gql_engine.specs.Steps.{IsCounted};
 ghost use Rattle.gql_meaning.specs.Responses.{root_place};
 ghost use Rattle.gql_resolve.specs.Call.{is_mutation};
 ghost use Rattle.gql_merged.specs.Assembled.{members_with};
-ghost use Rattle.gql_merged.specs.Counted.{serial_count, serial_count_by};
+ghost use Rattle.gql_merged.specs.Counted.{serial_count_by};
 ghost use Rattle.gql_merged.specs.Jobs.{asked_by_job};
 ghost use Rattle.gql_merged.specs.Parents.{standing_behind};
 ghost use Rattle.gql_merged.specs.Run.{Nests};
-ghost use Rattle.gql_merged.specs.Serial.{apart_key_work, key_work, key_work_by, last_world_of};
-ghost use Rattle.gql_merged.specs.Serial.{no_jobs, serial_apart_response, serial_response};
-ghost use Rattle.gql_merged.specs.Serial.{serial_response_by};
+ghost use Rattle.gql_merged.specs.Serial.{key_work_by, last_world_of, no_jobs, serial_response_by};
 ghost use Rattle.gql_merged.specs.Standing.{present};
-ghost use Rattle.gql_merged.specs.declared.basis.Grouping.TheVariants.{Each};
 
 use crate::basis::Grouping;
 use crate::keys::answer_keys;
@@ -90,105 +87,6 @@ pub fn run_mutation_grouped<R: ResolverSet, H: Rounds, P: Turns, S: Ledger>(
         alloc, keys, &mut plan, &mut arena, resolvers, hooks, turns, steps,
     )?;
     place_of_keys(alloc, scene.env.operation.pos, &root, own)
-}
-
-/// The same by merged execution: beneath the root keys each key of a set is one task.
-pub fn run_mutation_counted<R: ResolverSet, H: Rounds, P: Turns, S: Ledger>(
-    alloc: Global,
-    scene: &Scene<'_, R::Own>,
-    resolvers: &mut R,
-    hooks: &mut H,
-    turns: &mut P,
-    steps: &mut Steps<S>,
-) -> Result<(Place, u64), NoMemory>
-    requires { is_mutation scene.now.env.now.operation.node.ty ≡ true }
-    ensures places { R.is_lawful resolvers.old → H.are_quiet hooks.old → (n : ℕ)
-        → Nests scene.now n → IfOk result (λ run. run.0
-        ≡ serial_response scene.now (R.answer (R.rules resolvers.old))
-        (R.effect (R.rules resolvers.old)) (R.world resolvers.old) n) }
-    ensures count { IfOk result (λ run. run.1 ≡ length (key_work scene.now).first) }
-    ensures rules { R.rules resolvers.new ≡ R.rules resolvers.old }
-    ensures lawful { R.is_lawful resolvers.old → R.is_lawful resolvers.new }
-    ensures paced { R.is_paced resolvers.old → R.is_paced resolvers.new }
-    ensures world { R.is_lawful resolvers.old → H.are_quiet hooks.old → OnOk result
-        (R.world resolvers.new ≡ last_world_of scene.now (R.effect (R.rules resolvers.old))
-        (R.world resolvers.old)) }
-    ensures quiet { H.are_quiet hooks.old → H.are_quiet hooks.new }
-    ensures record { R.is_lawful resolvers.old → H.are_quiet hooks.old → OnOk result
-        (RunsInTurn R.ResolverSet P.Turns (key_work scene.now)
-        (seen resolvers.old turns.old) (seen resolvers.new turns.new)) }
-    ensures stopped { R.is_lawful resolvers.old → H.are_quiet hooks.old → OnErr result
-        (HaltsInTurn R.ResolverSet P.Turns (key_work scene.now)
-        (seen resolvers.old turns.old) (seen resolvers.new turns.new)) }
-    ensures roots { R.is_lawful resolvers.old → H.are_quiet hooks.old → IfErr result (λ want.
-        RootsStand R.ResolverSet P.Turns (key_work scene.now)
-        (seen resolvers.old turns.old) (seen resolvers.new turns.new) want.roots) }
-    ensures rounds { OnOk result (RoundsWhole asked_by_job H.Rounds
-        (no_jobs scene.now) hooks.old hooks.new) }
-    ensures unfinished { OnErr result
-        (RoundsStopped asked_by_job H.Rounds (no_jobs scene.now) hooks.old hooks.new) }
-    ensures counted { IsCounted (R.begun resolvers.old) (R.begun resolvers.new)
-        steps.old steps.new }
-    ensures asked { R.is_lawful resolvers.old → H.are_quiet hooks.old → (n : ℕ)
-        → Nests scene.now n → OnOk result (steps.new ≡ steps.old
-        + serial_count scene.now (R.answer (R.rules resolvers.old))
-        (R.effect (R.rules resolvers.old)) (R.world resolvers.old) n) }
-{
-    run_mutation_grouped(
-        alloc,
-        Grouping::ByKey,
-        scene,
-        resolvers,
-        hooks,
-        turns,
-        steps,
-    )
-}
-
-/// The same by apart execution: beneath the root keys each occurrence of a field is one task, and
-/// places of one key are joined.
-pub fn run_mutation_apart_counted<R: ResolverSet, H: Rounds, P: Turns, S: Ledger>(
-    alloc: Global,
-    scene: &Scene<'_, R::Own>,
-    resolvers: &mut R,
-    hooks: &mut H,
-    turns: &mut P,
-    steps: &mut Steps<S>,
-) -> Result<(Place, u64), NoMemory>
-    requires { is_mutation scene.now.env.now.operation.node.ty ≡ true }
-    ensures places { R.is_lawful resolvers.old → H.are_quiet hooks.old → (n : ℕ)
-        → Nests scene.now n → IfOk result (λ run. run.0
-        ≡ serial_apart_response scene.now (R.answer (R.rules resolvers.old))
-        (R.effect (R.rules resolvers.old)) (R.world resolvers.old) n) }
-    ensures count { IfOk result (λ run. run.1 ≡ length (apart_key_work scene.now).first) }
-    ensures rules { R.rules resolvers.new ≡ R.rules resolvers.old }
-    ensures lawful { R.is_lawful resolvers.old → R.is_lawful resolvers.new }
-    ensures paced { R.is_paced resolvers.old → R.is_paced resolvers.new }
-    ensures world { R.is_lawful resolvers.old → H.are_quiet hooks.old → OnOk result
-        (R.world resolvers.new ≡ last_world_of scene.now (R.effect (R.rules resolvers.old))
-        (R.world resolvers.old)) }
-    ensures quiet { H.are_quiet hooks.old → H.are_quiet hooks.new }
-    ensures record { R.is_lawful resolvers.old → H.are_quiet hooks.old → OnOk result
-        (RunsInTurn R.ResolverSet P.Turns (apart_key_work scene.now)
-        (seen resolvers.old turns.old) (seen resolvers.new turns.new)) }
-    ensures stopped { R.is_lawful resolvers.old → H.are_quiet hooks.old → OnErr result
-        (HaltsInTurn R.ResolverSet P.Turns (apart_key_work scene.now)
-        (seen resolvers.old turns.old) (seen resolvers.new turns.new)) }
-    ensures roots { R.is_lawful resolvers.old → H.are_quiet hooks.old → IfErr result (λ want.
-        RootsStand R.ResolverSet P.Turns (apart_key_work scene.now)
-        (seen resolvers.old turns.old) (seen resolvers.new turns.new) want.roots) }
-    ensures rounds { OnOk result (RoundsWhole asked_by_job H.Rounds
-        (no_jobs scene.now) hooks.old hooks.new) }
-    ensures unfinished { OnErr result
-        (RoundsStopped asked_by_job H.Rounds (no_jobs scene.now) hooks.old hooks.new) }
-    ensures counted { IsCounted (R.begun resolvers.old) (R.begun resolvers.new)
-        steps.old steps.new }
-    ensures asked { R.is_lawful resolvers.old → H.are_quiet hooks.old → (n : ℕ)
-        → Nests scene.now n → OnOk result (steps.new ≡ steps.old
-        + serial_count_by scene.now (R.answer (R.rules resolvers.old))
-        (R.effect (R.rules resolvers.old)) (R.world resolvers.old) n Each) }
-{
-    run_mutation_grouped(alloc, Grouping::Each, scene, resolvers, hooks, turns, steps)
 }
 
 /// The place of the root, of the places of its keys, and their number.

@@ -1,6 +1,6 @@
 //! The execution of an operation that is no mutation (GraphQL, October 2021, section 6.2.1),
 //! whatever its occurrences are grouped by.
-ghost use Rattle.std.specs.Prelude.{ℕ, ◌≡◌, ◌+◌, false, take, IfOk, IfErr, OnErr, OnOk};
+ghost use Rattle.std.specs.Prelude.{ℕ, ◌≡◌, ◌+◌, ◌<◌, false, take, IfOk, IfErr, OnErr, OnOk};
 ghost use Rattle.gql_engine.specs.Parts.{due_by};
 ghost use Rattle.gql_engine.specs.Progress.{RunsWhole, RunStopped, seen};
 ghost use Rattle.gql_engine.specs.Rounds.{RoundsWhole, RoundsStopped};
@@ -32,11 +32,12 @@ use gql_base::{Items, Made, NoMemory, Pairs, Pos, Steps};
 use gql_doc::OperationType;
 use gql_engine::{Rounds, Scene, finish, fresh_arena};
 use gql_place::{Place, Tree};
+use gql_request::Hooks;
 use gql_resolve::{ResolverSet, Turns};
 use std::alloc::Global;
 use std::collections::VecDeque;
 use std::rc::Rc;
-use std::sync::ledger::Ledger;
+use std::sync::ledger::{Blank, Ledger};
 
 /// The place of the whole response of a query: each group of occurrences is one task, and the tasks
 /// take the turns that are chosen for them. Each start of a resolver that answered is a step, so
@@ -82,6 +83,39 @@ pub fn run_grouped<R: ResolverSet, H: Rounds, P: Turns, S: Ledger>(
     let mut arena = fresh_arena(alloc, plan.tasks.len())?;
     finish(alloc, &mut plan, &mut arena, resolvers, hooks, turns, steps)?;
     Ok(place_of_root(alloc, scene.env.operation.pos, &root, plan)?)
+}
+
+/// The same with the hooks of a request, and with steps that nobody looks at.
+pub(crate) fn run_on_blank<R: ResolverSet, P: Turns, S: Ledger>(
+    alloc: Global,
+    by: Grouping,
+    scene: &Scene<'_, R::Own>,
+    resolvers: &mut R,
+    hooks: &mut Hooks,
+    turns: &mut P,
+    blank: Blank,
+) -> Result<Place, NoMemory>
+    requires query { is_mutation scene.now.env.now.operation.node.ty ≡ false }
+    requires name { blank.name ≡ S.name }
+    requires parts { blank.parts ≡ S.parts }
+    requires some { 0 < blank.parts }
+    ensures places { R.is_lawful resolvers.old → (n : ℕ) → Nests scene.now n
+        → IfOk result (λ place. place
+        ≡ response_by by scene.now (due_by R.ResolverSet resolvers.old) n) }
+    ensures rules { R.rules resolvers.new ≡ R.rules resolvers.old }
+    ensures lawful { R.is_lawful resolvers.old → R.is_lawful resolvers.new }
+    ensures paced { R.is_paced resolvers.old → R.is_paced resolvers.new }
+    ensures world { R.is_lawful resolvers.old → R.world resolvers.new ≡ R.world resolvers.old }
+    ensures record { R.is_lawful resolvers.old → OnOk result
+        (RunsWhole R.ResolverSet P.Turns (work_by by scene.now)
+        (seen resolvers.old turns.old) (seen resolvers.new turns.new)) }
+    ensures stopped { R.is_lawful resolvers.old → OnErr result
+        (RunStopped R.ResolverSet P.Turns (work_by by scene.now)
+        (seen resolvers.old turns.old) (seen resolvers.new turns.new)) }
+    ensures roots { IfErr result (λ want. want.roots ≡ 0) }
+{
+    let mut steps: Steps<S> = Steps::new(blank);
+    run_grouped(alloc, by, scene, resolvers, hooks, turns, &mut steps)
 }
 
 /// The object at the root with its fields.

@@ -2,9 +2,9 @@
 //! 6.4.3: MergeSelectionSets).
 ghost use Rattle.std.specs.Prelude.{◌≡◌, ◌++◌, IfOk, OnOk};
 ghost use Rattle.gql_select.specs.Collected.{own_selections};
-ghost use Rattle.gql_select.specs.Documents.{with_selections};
-ghost use Rattle.gql_merged.specs.Behind.{all_behind};
-ghost use Rattle.gql_merged.specs.Groups.{item_of, own_items, with_others};
+ghost use Rattle.gql_select.specs.Documents.{with_others, with_selections};
+ghost use Rattle.gql_select.specs.Behind.{all_behind};
+ghost use Rattle.gql_merged.specs.Groups.{item_of, own_items};
 
 use crate::group::Group;
 use gql_base::{Copied, Items, Made};

@@ -16,7 +16,7 @@ use gql_doc::{
     Positioned, parse_query,
 };
 use gql_engine::Scene;
-use gql_merged::{run_apart, run_merged, run_mutation_apart_counted, run_mutation_counted};
+use gql_merged::{Grouping, run_apart, run_merged, run_mutation_grouped};
 use gql_place::{Place, faults, raise};
 use gql_request::{Data, Hooks, IntrospectionMode, QueryEnv};
 use gql_resolve::{FieldValue, Layers, Turns};
@@ -209,10 +209,10 @@ fn push_faults(alloc: Global, out: &mut String, place: &Place) -> Made<()> {
     Ok(())
 }
 
-/// The place of a query, by merged or by apart execution.
+/// The place of a query, its occurrences grouped so.
 fn place_of<P: Turns>(
     alloc: Global,
-    apart: bool,
+    by: Grouping,
     ground: &Ground,
     env: &QueryEnv,
     set: &mut Answers,
@@ -222,17 +222,16 @@ fn place_of<P: Turns>(
 {
     let scene = ground.scene(env);
     let mut hooks = Hooks::none(alloc);
-    if apart {
-        run_apart(alloc, &scene, set, &mut hooks, turns)
-    } else {
-        run_merged(alloc, &scene, set, &mut hooks, turns)
+    match by {
+        Grouping::ByKey => run_merged(alloc, &scene, set, &mut hooks, turns),
+        Grouping::Each => run_apart(alloc, &scene, set, &mut hooks, turns),
     }
 }
 
 /// The place of a mutation, and the number of its root keys.
 fn place_in_turn<P: Turns, S: Ledger>(
     alloc: Global,
-    apart: bool,
+    by: Grouping,
     ground: &Ground,
     env: &QueryEnv,
     set: &mut Answers,
@@ -247,17 +246,13 @@ fn place_in_turn<P: Turns, S: Ledger>(
     let mut steps: Steps<S> = Steps::new(blank);
     let scene = ground.scene(env);
     let mut hooks = Hooks::none(alloc);
-    if apart {
-        run_mutation_apart_counted(alloc, &scene, set, &mut hooks, turns, &mut steps)
-    } else {
-        run_mutation_counted(alloc, &scene, set, &mut hooks, turns, &mut steps)
-    }
+    run_mutation_grouped(alloc, by, &scene, set, &mut hooks, turns, &mut steps)
 }
 
 /// The response to a mutation, behind the number of its root keys.
 fn response_in_turn<P: Turns, S: Ledger>(
     alloc: Global,
-    apart: bool,
+    by: Grouping,
     env: &QueryEnv,
     set: &mut Answers,
     turns: &mut P,
@@ -269,7 +264,7 @@ fn response_in_turn<P: Turns, S: Ledger>(
     requires kind { is_mutation env.now.operation.node.ty ≡ true }
 {
     let ground = Ground::new(alloc)?;
-    let (place, roots) = place_in_turn::<P, S>(alloc, apart, &ground, env, set, turns, blank)?;
+    let (place, roots) = place_in_turn::<P, S>(alloc, by, &ground, env, set, turns, blank)?;
     let response = response_text(alloc, &place)?;
     Ok(format!(in alloc; "{roots}{response}")?)
 }
@@ -277,7 +272,7 @@ fn response_in_turn<P: Turns, S: Ledger>(
 /// The response to a query.
 fn response_at_once<P: Turns>(
     alloc: Global,
-    apart: bool,
+    by: Grouping,
     env: &QueryEnv,
     set: &mut Answers,
     turns: &mut P,
@@ -285,22 +280,22 @@ fn response_at_once<P: Turns>(
     requires { is_mutation env.now.operation.node.ty ≡ false }
 {
     let ground = Ground::new(alloc)?;
-    let place = place_of(alloc, apart, &ground, env, set, turns)?;
+    let place = place_of(alloc, by, &ground, env, set, turns)?;
     Ok(response_text(alloc, &place)?)
 }
 
 /// The response to a request that is a query or a mutation.
 fn response_to<P: Turns>(
     alloc: Global,
-    apart: bool,
+    by: Grouping,
     env: &QueryEnv,
     set: &mut Answers,
     turns: &mut P,
 ) -> Result<String, NoMemory> {
     match env.operation.node.ty {
-        OperationType::Query => response_at_once(alloc, apart, env, set, turns),
+        OperationType::Query => response_at_once(alloc, by, env, set, turns),
         OperationType::Mutation => {
-            response_in_turn::<P, Brand>(alloc, apart, env, set, turns, Blank::new(1))
+            response_in_turn::<P, Brand>(alloc, by, env, set, turns, Blank::new(1))
         }
         OperationType::Subscription => Ok(String::from_str(alloc, "no response")?),
     }
@@ -338,10 +333,10 @@ fn request_of(alloc: Global, document: ExecutableDocument) -> Made<Option<QueryE
     }
 }
 
-/// The response to a request by merged or by apart execution, its data before its errors.
+/// The response to a request, its occurrences grouped so, its data before its errors.
 pub fn response_of<P: Turns>(
     alloc: Global,
-    apart: bool,
+    by: Grouping,
     query: &str,
     set: &mut Answers,
     turns: &mut P,
@@ -350,7 +345,7 @@ pub fn response_of<P: Turns>(
         return Ok(String::from_str(alloc, "no document")?);
     };
     match request_of(alloc, document)? {
-        Some(env) => response_to(alloc, apart, &env, set, turns),
+        Some(env) => response_to(alloc, by, &env, set, turns),
         None => Ok(String::from_str(alloc, "no request")?),
     }
 }

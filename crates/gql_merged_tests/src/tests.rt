@@ -3,6 +3,7 @@
 use crate::answers::Answers;
 use crate::scenes::{LISTS, response_of};
 use gql_base::{Made, NoMemory};
+use gql_merged::Grouping;
 use gql_resolve::Turns;
 use std::alloc::Global;
 use std::test::Fail;
@@ -33,25 +34,25 @@ impl Turns for Ends {
 /// task or the first.
 #[derive(Clone, Copy)]
 struct Way {
-    apart: bool,
+    by: Grouping,
     last: bool,
 }
 
 const WAYS: [Way; 4] = [
     Way {
-        apart: false,
+        by: Grouping::ByKey,
         last: false,
     },
     Way {
-        apart: false,
+        by: Grouping::ByKey,
         last: true,
     },
     Way {
-        apart: true,
+        by: Grouping::Each,
         last: false,
     },
     Way {
-        apart: true,
+        by: Grouping::Each,
         last: true,
     },
 ];
@@ -153,7 +154,7 @@ const FAULTS: [(&str, &str); 9] = [
 fn has_response(alloc: Global, query: &str, wanted: &str, way: Way) -> Result<bool, NoMemory> {
     let mut turns = Ends { last: way.last };
     let mut set = Answers { asked: 0 };
-    let response = response_of(alloc, way.apart, query, &mut set, &mut turns)?;
+    let response = response_of(alloc, way.by, query, &mut set, &mut turns)?;
     Ok(response.as_str() == wanted)
 }
 
@@ -191,7 +192,7 @@ fn has_fault(alloc: Global, field: &str, message: &str) -> Result<bool, NoMemory
     let mut set = Answers { asked: 0 };
     let query = format!(in alloc; "{{ {field} }}")?;
     let start = format!(in alloc; "[{{\"message\":\"{message}\",\"locations\"")?;
-    let response = response_of(alloc, false, query.as_str(), &mut set, &mut turns)?;
+    let response = response_of(alloc, Grouping::ByKey, query.as_str(), &mut set, &mut turns)?;
     Ok(response.as_str().contains(start.as_str()))
 }
 
@@ -221,11 +222,11 @@ fn nested_response(alloc: Global, levels: usize) -> Made<String> {
     Ok(text)
 }
 
-/// How many resolvers a query starts, by merged or by apart execution.
-fn starts_of(alloc: Global, apart: bool, query: &str) -> Result<u64, NoMemory> {
+/// How many resolvers a query starts, its occurrences grouped so.
+fn starts_of(alloc: Global, by: Grouping, query: &str) -> Result<u64, NoMemory> {
     let mut turns = Ends { last: false };
     let mut set = Answers { asked: 0 };
-    let _response = response_of(alloc, apart, query, &mut set, &mut turns)?;
+    let _response = response_of(alloc, by, query, &mut set, &mut turns)?;
     Ok(set.asked)
 }
 
@@ -247,7 +248,7 @@ fn mutations_have_their_root_keys(rt: HostRuntime) -> Result<(), Fail> {
     assert_eq!(rt;
         starts_of(
             rt.alloc(),
-            false,
+            Grouping::ByKey,
             "mutation { one { id } red one { id name } }"
         )?,
         4
@@ -258,17 +259,21 @@ fn mutations_have_their_root_keys(rt: HostRuntime) -> Result<(), Fail> {
 #[test]
 fn apart_each_occurrence_is_asked(rt: HostRuntime) -> Result<(), Fail> {
     assert_eq!(rt;
-        starts_of(rt.alloc(), true, "{ one { id } one { id name } }")?,
+        starts_of(rt.alloc(), Grouping::Each, "{ one { id } one { id name } }")?,
         5
     );
     assert_eq!(rt;
-        starts_of(rt.alloc(), true, "{ rows { id } rows { id name } }")?,
+        starts_of(
+            rt.alloc(),
+            Grouping::Each,
+            "{ rows { id } rows { id name } }"
+        )?,
         8
     );
     assert_eq!(rt;
         starts_of(
             rt.alloc(),
-            true,
+            Grouping::Each,
             "mutation { one { id } red one { id name } }"
         )?,
         5
@@ -279,7 +284,7 @@ fn apart_each_occurrence_is_asked(rt: HostRuntime) -> Result<(), Fail> {
 #[test]
 fn apart_the_first_tree_stays(rt: HostRuntime) -> Result<(), Fail> {
     let way = Way {
-        apart: true,
+        by: Grouping::Each,
         last: true,
     };
     let query = "{ x: one { v: id } x: one { v: name w: name } x: red }";
@@ -298,11 +303,19 @@ fn answers_of_other_types_are_faults(rt: HostRuntime) -> Result<(), Fail> {
 #[test]
 fn a_doubled_key_is_asked_once(rt: HostRuntime) -> Result<(), Fail> {
     assert_eq!(rt;
-        starts_of(rt.alloc(), false, "{ one { id } one { id name } }")?,
+        starts_of(
+            rt.alloc(),
+            Grouping::ByKey,
+            "{ one { id } one { id name } }"
+        )?,
         3
     );
     assert_eq!(rt;
-        starts_of(rt.alloc(), false, "{ rows { id } x: rows { id } }")?,
+        starts_of(
+            rt.alloc(),
+            Grouping::ByKey,
+            "{ rows { id } x: rows { id } }"
+        )?,
         6
     );
     Ok(())
@@ -312,7 +325,7 @@ fn a_doubled_key_is_asked_once(rt: HostRuntime) -> Result<(), Fail> {
 fn lists_nest_as_deep_as_they_are(rt: HostRuntime) -> Result<(), Fail> {
     let wanted = nested_response(rt.alloc(), LISTS)?;
     let way = Way {
-        apart: false,
+        by: Grouping::ByKey,
         last: true,
     };
     assert!(rt; has_response(rt.alloc(), "{ nested }", wanted.as_str(), way)?);

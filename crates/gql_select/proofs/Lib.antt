@@ -6,6 +6,9 @@ pub mod GroupLemmas
 pub mod KeptLemmas
 pub mod LawProofs
 pub mod MergeLemmas
-pub mod SerialLemmas
-pub mod UnitingLemmas
+pub mod OccurrenceLemmas
 pub mod Rows
+pub mod SerialLemmas
+pub mod SliceLemmas
+pub mod UnitingLemmas
+pub mod ZipLemmas

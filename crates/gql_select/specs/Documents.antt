@@ -1,6 +1,6 @@
 -- How a document's sets are read: occurrences are fields at their places, and one field stands for
 -- all of a key.
-use Rattle.std.specs.Prelude.{ℕ, List, ◌++◌}
+use Rattle.std.specs.Prelude.{ℕ, List, [], ◌∷◌, ◌++◌}
 use Rattle.gql_base.specs.declared.pos.Pos.{Pos}
 use Rattle.gql_doc.specs.Document.{key_of}
 use Rattle.gql_doc.specs.declared.document.Field.{Field, out-Field, roll-Field}
@@ -27,6 +27,11 @@ with_selections field selections =
 abbrev pub both : Positioned Field → Positioned Field → Positioned Field
 both f g =
     record { pos = f.pos; node = with_selections f.node (own_selections f ++ own_selections g) }
+
+-- an occurrence with the selections of others behind its own
+abbrev pub with_others : Positioned Field → List (Positioned Field) → Positioned Field
+with_others field [] = field
+with_others field (other ∷ others) = with_others (both field other) others
 
 -- how the sets of a document are read
 abbrev pub reading : Setting → Reading (List ℕ) (Positioned Field) (Positioned Selection)

@@ -1,4 +1,5 @@
 pub mod Alike
+pub mod Behind
 pub mod Collected
 pub mod Conflicts
 pub mod Constants

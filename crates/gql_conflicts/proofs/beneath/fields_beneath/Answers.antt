@@ -3,8 +3,8 @@ use Rattle.std.specs.Borrow.{Bor}
 use Rattle.gql_doc.specs.declared.document.Field.{Field}
 use Rattle.gql_doc.specs.declared.document.Positioned.{Positioned}
 use Rattle.gql_select.specs.Collected.{own_selections}
-use Rattle.gql_conflicts.specs.Collecting.{all_behind}
-use Rattle.gql_conflicts.specs.Groups.{with_others}
+use Rattle.gql_select.specs.Behind.{all_behind}
+use Rattle.gql_select.specs.Documents.{with_others}
 use Rattle.gql_conflicts.specs.Walk.{collected}
 use Rattle.gql_conflicts.proofs.WalkLemmas.{beneath_more}
 use Rattle.gql_conflicts.proofs.beneath.fields_beneath.Goals as goal

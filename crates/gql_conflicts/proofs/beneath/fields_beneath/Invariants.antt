@@ -1,7 +1,7 @@
 use Rattle.std.proofs.Common.{◌≡◌, take}
 use Rattle.gql_select.specs.Collected.{own_selections}
-use Rattle.gql_conflicts.specs.Collecting.{all_behind}
-use Rattle.gql_conflicts.specs.Groups.{with_others}
+use Rattle.gql_select.specs.Behind.{all_behind}
+use Rattle.gql_select.specs.Documents.{with_others}
 use Rattle.gql_conflicts.specs.Walk.{collected}
 use Rattle.gql_conflicts.proofs.beneath.fields_beneath.Given as goal
 

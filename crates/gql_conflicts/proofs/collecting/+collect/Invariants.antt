@@ -1,7 +1,8 @@
 use Rattle.std.proofs.Common.{◌≡◌, ◌+◌, ◌*◌, ◌-◌, ◌++◌, drop}
 use Rattle.std.specs.List.{flat_map}
 use Rattle.gql_doc.specs.declared.document.Selection.{out-Selection}
-use Rattle.gql_conflicts.specs.Collecting.{all_behind, fields_here, fields_within}
+use Rattle.gql_conflicts.specs.Collecting.{fields_here, fields_within}
+use Rattle.gql_select.specs.Behind.{all_behind}
 use Rattle.gql_conflicts.proofs.collecting.+collect.Given as goal
 
 abbrev pub invariant-add_fields-loop-selection : goal.invariant-add_fields-loop-selection

@@ -1,6 +1,6 @@
 use Rattle.std.proofs.Common.{◌≤◌, take, length, sym, subst, arith}
 use Rattle.std.proofs.lemmas.List.{take_all}
-use Rattle.gql_conflicts.specs.Collecting.{all_behind}
+use Rattle.gql_select.specs.Behind.{all_behind}
 use Rattle.gql_conflicts.specs.Groups.{AreGroups}
 use Rattle.gql_conflicts.proofs.WalkLemmas.{bare, behind_more, groups_told}
 use Rattle.gql_conflicts.proofs.grouping.group_fields.Goals as goal

@@ -1,6 +1,6 @@
 use Rattle.std.proofs.Common.{take}
 use Rattle.gql_select.specs.Collected.{Setting}
-use Rattle.gql_conflicts.specs.Collecting.{all_behind}
+use Rattle.gql_select.specs.Behind.{all_behind}
 use Rattle.gql_conflicts.specs.Groups.{AreGroups}
 use Rattle.gql_conflicts.proofs.grouping.group_fields.Given as goal
 

@@ -1,5 +1,5 @@
 use Rattle.std.proofs.Common.{◌≡◌, take}
-use Rattle.gql_conflicts.specs.Collecting.{all_behind}
+use Rattle.gql_select.specs.Behind.{all_behind}
 use Rattle.gql_conflicts.proofs.same_field.same_fields.Given as goal
 
 abbrev pub invariant-loop-place : goal.invariant-loop-place

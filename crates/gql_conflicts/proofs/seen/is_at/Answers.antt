@@ -1,5 +1,5 @@
 use Rattle.std.proofs.Common.{◌<◌, length, rules}
-use Rattle.gql_conflicts.specs.Collecting.{all_behind}
+use Rattle.gql_select.specs.Behind.{all_behind}
 use Rattle.gql_conflicts.proofs.WalkedLemmas.{seen_at}
 use Rattle.gql_conflicts.proofs.seen.is_at.Goals as goal
 

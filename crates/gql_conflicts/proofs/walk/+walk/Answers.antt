@@ -1,7 +1,7 @@
 use Rattle.std.proofs.Common.{◌≡◌, ◌-◌, ◌<◌, IsTrue, [], suc, length, refl, rules, sym, ◌∙◌, arith}
 use Rattle.std.proofs.lemmas.Option.{slice_get_read}
 use Rattle.gql_select.specs.Collected.{own_selections}
-use Rattle.gql_conflicts.specs.Collecting.{all_behind}
+use Rattle.gql_select.specs.Behind.{all_behind}
 use Rattle.gql_conflicts.specs.Groups.{group_tells, told_of, united}
 use Rattle.gql_conflicts.specs.Walk.{beneath_tells, set_tells}
 use Rattle.gql_conflicts.specs.declared.walked.Walked.{Walked}

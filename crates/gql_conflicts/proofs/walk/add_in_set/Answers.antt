@@ -1,5 +1,5 @@
 use Rattle.std.proofs.Common.{◌≡◌, ◌-◌, suc, arith}
-use Rattle.gql_conflicts.specs.Collecting.{all_behind}
+use Rattle.gql_select.specs.Behind.{all_behind}
 use Rattle.gql_conflicts.proofs.WalkedLemmas.{walks_set}
 use Rattle.gql_conflicts.proofs.walk.add_in_set.Goals as goal
 

@@ -2,7 +2,7 @@ use Rattle.std.proofs.Common.{◌≡◌, ◌+◌, ◌*◌, ◌-◌, ◌++◌, dr
 use Rattle.std.specs.List.{flat_map}
 use Rattle.gql_doc.specs.declared.document.Selection.{out-Selection}
 use Rattle.gql_merged.specs.Basis.{fields_within}
-use Rattle.gql_merged.specs.Behind.{all_behind}
+use Rattle.gql_select.specs.Behind.{all_behind}
 use Rattle.gql_merged.specs.FieldsWithin.{fields_here}
 use Rattle.gql_merged.proofs.fields_within.+collect.Given as goal
 

@@ -3,8 +3,9 @@ use Rattle.std.proofs.lemmas.Option.{slice_get_read}
 use Rattle.gql_base.specs.Names.{place_of}
 use Rattle.gql_base.specs.Pairs.{names_of, under}
 use Rattle.gql_base.proofs.PairLemmas.{under_no_place}
-use Rattle.gql_merged.specs.Behind.{all_behind}
-use Rattle.gql_merged.specs.Groups.{under_keys, united, with_others}
+use Rattle.gql_select.specs.Behind.{all_behind}
+use Rattle.gql_merged.specs.Groups.{under_keys, united}
+use Rattle.gql_select.specs.Documents.{with_others}
 use Rattle.gql_engine.specs.Path.{key_text}
 use Rattle.gql_merged.specs.declared.group.Group.{Group}
 use Rattle.gql_merged.proofs.GroupLemmas.{occurrence_found, occurrence_fresh, united_more}

@@ -4,7 +4,7 @@ use Rattle.gql_base.specs.Pairs.{unite_all}
 use Rattle.gql_select.specs.Collected.{Setting}
 use Rattle.gql_select.specs.Documents.{both, reading}
 use Rattle.gql_select.specs.Reading.{keyed, merged}
-use Rattle.gql_merged.specs.Behind.{all_behind}
+use Rattle.gql_select.specs.Behind.{all_behind}
 use Rattle.gql_merged.specs.Groups.{under_keys}
 use Rattle.gql_merged.proofs.grouping.group_by_key.Given as goal
 

@@ -3,9 +3,9 @@ use Rattle.std.specs.Borrow.{Bor}
 use Rattle.gql_doc.specs.declared.document.Field.{Field}
 use Rattle.gql_doc.specs.declared.document.Positioned.{Positioned}
 use Rattle.gql_select.specs.Collected.{own_selections}
-use Rattle.gql_merged.specs.Behind.{all_behind}
+use Rattle.gql_select.specs.Behind.{all_behind}
 use Rattle.gql_merged.specs.FieldsWithin.{collected}
-use Rattle.gql_merged.specs.Groups.{with_others}
+use Rattle.gql_select.specs.Documents.{with_others}
 use Rattle.gql_merged.proofs.LevelLemmas.{beneath_more}
 use Rattle.gql_merged.proofs.levels.fields_beneath.Goals as goal
 

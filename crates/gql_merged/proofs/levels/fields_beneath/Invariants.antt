@@ -1,8 +1,8 @@
 use Rattle.std.proofs.Common.{◌≡◌, take}
 use Rattle.gql_select.specs.Collected.{own_selections}
-use Rattle.gql_merged.specs.Behind.{all_behind}
+use Rattle.gql_select.specs.Behind.{all_behind}
 use Rattle.gql_merged.specs.FieldsWithin.{collected}
-use Rattle.gql_merged.specs.Groups.{with_others}
+use Rattle.gql_select.specs.Documents.{with_others}
 use Rattle.gql_merged.proofs.levels.fields_beneath.Given as goal
 
 abbrev pub invariant-loop-occurrence : goal.invariant-loop-occurrence

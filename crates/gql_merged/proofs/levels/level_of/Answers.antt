@@ -1,5 +1,5 @@
 use Rattle.std.proofs.Common.{length, ap, sym, ◌∙◌}
-use Rattle.gql_merged.specs.Behind.{all_behind}
+use Rattle.gql_select.specs.Behind.{all_behind}
 use Rattle.gql_merged.specs.KeyNames.{names_in}
 use Rattle.gql_merged.proofs.NodesLemmas.{groups_nest, nodes_paired}
 use Rattle.gql_merged.proofs.levels.level_of.Goals as goal

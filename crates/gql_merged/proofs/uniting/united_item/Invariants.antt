@@ -1,6 +1,6 @@
 use Rattle.std.proofs.Common.{◌≡◌, take}
-use Rattle.gql_merged.specs.Behind.{all_behind}
-use Rattle.gql_merged.specs.Groups.{with_others}
+use Rattle.gql_select.specs.Behind.{all_behind}
+use Rattle.gql_select.specs.Documents.{with_others}
 use Rattle.gql_merged.proofs.uniting.united_item.Given as goal
 
 abbrev pub invariant-loop-occurrence : goal.invariant-loop-occurrence

@@ -1,5 +1,5 @@
 use Rattle.std.proofs.Common.{refl}
-use Rattle.gql_conflicts.specs.Collecting.{all_behind}
+use Rattle.gql_select.specs.Behind.{all_behind}
 use Rattle.gql_conflicts.specs.declared.visit.Visit.{Visit}
 use Rattle.gql_conflicts.proofs.WalkedLemmas.{only_adds}
 use Rattle.gql_conflicts.proofs.seen.Seen.add.Goals as goal

@@ -1,5 +1,5 @@
 use Rattle.std.proofs.Common.{IsTrue, subst}
-use Rattle.gql_conflicts.specs.Collecting.{all_behind}
+use Rattle.gql_select.specs.Behind.{all_behind}
 use Rattle.gql_conflicts.specs.Seen.{HasSeen}
 use Rattle.gql_conflicts.proofs.seen.Seen.has.Goals as goal
 

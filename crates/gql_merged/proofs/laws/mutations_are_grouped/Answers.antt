@@ -1,0 +1,10 @@
+use Rattle.gql_merged.proofs.CountedKeysLemmas.{serial_count_is}
+use Rattle.gql_merged.proofs.GroupingLemmas.{serial_by_key, serial_each}
+use Rattle.gql_merged.proofs.laws.mutations_are_grouped.Goals as goal
+
+pub returns : goal.returns
+returns g c = λ scene answer effect world n. record {
+  by_key = serial_by_key scene answer effect world n;
+  each = serial_each scene answer effect world n;
+  asked = serial_count_is scene answer effect world n;
+}
