@@ -25,7 +25,7 @@ use Rattle.gql_schema.specs.TableReading.{TypeTable}
 use Rattle.gql_schema.specs.declared.scalar_rule.ScalarRule.TheVariants as rules_of
 use Rattle.gql_schema.specs.declared.schema_type.SchemaType.{SchemaType}
 use Rattle.gql_schema.specs.declared.schema_type.SchemaType.TheVariants as types
-use Rattle.gql_meaning.proofs.Written.{answered_by, apart_is, apart_response, at, fails, field, gives, gives_null, gives_number, keeps_field, leaf, merged_is, merged_response, object_of, over_table, Selections, set}
+use Rattle.gql_meaning.proofs.Written.{answered_by, apart_is, apart_response, at, count, count_is, fails, field, gives, gives_null, gives_number, keeps_field, leaf, merged_is, merged_response, object_of, over_table, Selections, set}
 
 abbrev int : List ℕ × SchemaType
 int = (codes "Int", types.Scalar (record { name = codes "Int"; rule = rules_of.Int }))
@@ -70,6 +70,12 @@ doubled_key_apart : apart_response (over_table doubled_table []) doubled_answers
 unfolding out-Selection out-Field out-InlineFragment roll-Field roll-InlineFragment out roll shown-the_row-SelectionSet-items-2-0 shown hidden
 doubled_key_apart = apart_is (over_table doubled_table []) doubled_answers doubled doubled refl (search (rules, keeps_field) depth 12)
     ∙ search (rules, type_lemmas, shape_lemmas, given_lemmas, value_lemmas, tree_lemmas)
+
+-- three answers are asked: those of `o`, of `x` and of `y`
+doubled_count : count (over_table doubled_table []) doubled_answers doubled ≡ 3
+unfolding out-Selection out-Field out-InlineFragment roll-Field roll-InlineFragment out roll shown-the_row-SelectionSet-items-2-0 shown hidden
+doubled_count = count_is (over_table doubled_table []) doubled_answers doubled doubled refl (search (rules, keeps_field) depth 12)
+    ∙ search (rules, type_lemmas, shape_lemmas, given_lemmas, value_lemmas)
 
 -- `{ m { a } m { b } }`, where `m` is a list of a list of two objects: they are united item by item
 abbrev nested_table : TypeTable

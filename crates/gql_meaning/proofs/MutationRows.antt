@@ -2,7 +2,7 @@
 use Rattle.std.proofs.Common.{rules, ◌≡◌, ℕ, pos, true, false, ◌+◌, ◌==◌, List, [], ◌∷◌, Some, None, unwrap_or, ap, ◌∙◌}
 use Rattle.std.specs.Prelude.{codes, if◌then◌else◌, option_and_then}
 use Rattle.gql_base.specs.Kinds.{unsigned_number_of}
-use Rattle.gql_base.specs.Pairs.{under}
+use Rattle.gql_base.specs.Pairs.{under, values_of}
 use Rattle.gql_base.specs.declared.type_ref.TypeRef.{TypeRef, the_lemmas as type_lemmas}
 use Rattle.gql_base.specs.declared.type_ref.TypeRef.TheVariants as ref
 use Rattle.gql_base.specs.declared.value.Value.{the_lemmas as value_lemmas}
@@ -15,6 +15,7 @@ use Rattle.gql_doc.specs.declared.document.Positioned.{Positioned}
 use Rattle.gql_doc.specs.declared.document.Selection.{out-Selection, Selection}
 use Rattle.gql_doc.specs.declared.document.Selection.TheBlock.{shown-the_row-SelectionSet-items-2-0}
 use denote.Hole.Carrier.{out, roll, shown, hidden}
+use Rattle.gql_meaning.specs.Counted.{count_as, mutation_asked_count, total}
 use Rattle.gql_meaning.specs.Execution.{Execution, setting_in}
 use Rattle.gql_meaning.specs.Responses.{Asked, last_world, Members, mutation_merged, placed as place_of, Response, response, world_after}
 use Rattle.gql_place.specs.declared.place.Place.{Place}
@@ -107,3 +108,19 @@ unfolding out-Selection out-Field out-InlineFragment roll-Field roll-InlineFragm
 last_cell =
     ap (λ left. world_behind (world_after cells effect bumping) 0 (merged (reading (setting_in cells)) ((reading (setting_in cells)).fields (codes "Mutation") left))) kept_bumps
     ∙ search (rules, doc_lemmas, value_lemmas)
+
+-- the same, with numbers in the stead of places
+abbrev counting_cells : Mutating (List ℕ) (FieldValue ℕ) (Positioned Field) (Positioned Selection) ℕ ℕ
+counting_cells = record {
+  reading = reading (setting_in cells);
+  effect = world_after cells effect bumping;
+  root = λ cell. count_as cells (λ call. answer call cell) true;
+  place = λ cell. count_as cells (λ call. answer call cell) false;
+}
+
+-- three answers are asked: those of `bump`, of `x` and of `cell`
+bumps_count : mutation_asked_count cells answer effect 4 bumping 0 ≡ 3
+unfolding out-Selection out-Field out-InlineFragment roll-Field roll-InlineFragment out roll shown-the_row-SelectionSet-items-2-0 shown hidden
+bumps_count =
+    ap (λ left. total (values_of (serial_grouped counting_cells 4 (codes "Mutation") (kind.Own 0) left 0))) kept_bumps
+    ∙ search (rules, doc_lemmas, type_lemmas, shape_lemmas, given_lemmas, value_lemmas)

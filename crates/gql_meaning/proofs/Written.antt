@@ -2,6 +2,7 @@
 use Rattle.std.proofs.Common.{rules, ◌≡◌, ℕ, ℤ, true, false, cond, ◌+◌, List, [], ◌∷◌, map, Option, Some, None, get_or, Ok, Err, refl, ap, ◌∙◌}
 use Rattle.std.specs.Prelude.{codes}
 use Rattle.std.specs.List.{cons_option, filter_map}
+use Rattle.gql_base.specs.Pairs.{values_of}
 use Rattle.gql_base.specs.declared.error.Error.{Error}
 use Rattle.gql_base.specs.declared.pos.Pos.{Pos}
 use Rattle.gql_base.specs.declared.type_ref.TypeRef.{TypeRef}
@@ -20,6 +21,7 @@ use Rattle.gql_doc.specs.declared.document.Selection.{Selection, the_lemmas}
 use Rattle.gql_doc.specs.declared.document.Selection.TheOpen.{Field-F, InlineFragment-F}
 use Rattle.gql_doc.specs.declared.document.Selection.TheVariants as selection
 use Rattle.gql_doc.specs.declared.document.SelectionSet.{SelectionSet, roll-SelectionSet}
+use Rattle.gql_meaning.specs.Counted.{asked_count, count_at, total}
 use Rattle.gql_meaning.specs.Execution.{Execution, setting_in}
 use Rattle.gql_meaning.specs.Responses.{Asked, placed as place_of, query_apart, query_merged, Response, response}
 use Rattle.gql_place.specs.Join.{join}
@@ -31,7 +33,7 @@ use Rattle.gql_schema.specs.TableReading.{TypeTable}
 use Rattle.gql_schema.specs.declared.field.Field.{Field as ObjectField}
 use Rattle.gql_schema.specs.declared.schema_type.SchemaType.{SchemaType}
 use Rattle.gql_schema.specs.declared.schema_type.SchemaType.TheVariants as types
-use Rattle.gql_select.specs.Documents.{placing_by}
+use Rattle.gql_select.specs.Documents.{placing_by, reading}
 use Rattle.gql_select.specs.Grouped.{grouped, respond}
 use Rattle.gql_select.specs.Kept.{if_kept, is_kept, kept, kept_fragments, kept_field, kept_if, kept_inline, kept_selection, kept_set, others}
 
@@ -143,6 +145,17 @@ apart_of execution answers left =
     response (at 1)
     (respond (placing_by (setting_in execution) (place_of execution false (by_number answers))) join 4 (codes "Query") (kind.Own 0) left)
 
+-- how many answers a query for these selections asks
+abbrev pub count : Execution → List (Answer ℕ) → Selections → ℕ
+count execution answers selections = asked_count execution (by_number answers) 4 (query selections)
+
+-- the same for what is left of the selections
+abbrev pub count_of : Execution → List (Answer ℕ) → Selections → ℕ
+count_of execution answers left =
+    total
+    (values_of
+    (grouped (record { reading = reading (setting_in execution); place = count_at execution (by_number answers) }) 4 (codes "Query") (kind.Own 0) left))
+
 module _ (execution : Execution) (answers : List (Answer ℕ)) (selections left : Selections)
     (fragments_stay : kept_fragments execution.known execution.fragments ≡ execution.fragments)
     (is_left : kept execution.known selections ≡ left) where
@@ -157,6 +170,13 @@ module _ (execution : Execution) (answers : List (Answer ℕ)) (selections left 
       response (at 1)
       (respond (placing_by (record (setting_in execution) { fragments = fragments_stay i }) (place_of execution false (by_number answers))) join 4
       (codes "Query") (kind.Own 0) (is_left i))
+
+  pub count_is : count execution answers selections ≡ count_of execution answers left
+  count_is = λ i.
+      total
+      (values_of
+      (grouped (record { reading = reading (record (setting_in execution) { fragments = fragments_stay i }); place = count_at execution (by_number answers) }) 4
+      (codes "Query") (kind.Own 0) (is_left i)))
 
 -- What is kept where nothing is to be skipped.
 
