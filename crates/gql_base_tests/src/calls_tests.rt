@@ -202,6 +202,20 @@ fn text_of_an_error(alloc: Global) -> Made<Text> {
     Ok(Text::from_string(out))
 }
 
+/// A text over which a shorter one and then a longer one were written.
+fn rewritten(alloc: Global) -> Made<Text> {
+    let mut text = Text::new(alloc, "hero")?;
+    text.set("id")?;
+    text.set("friends")?;
+    Ok(text)
+}
+
+#[test]
+fn a_text_is_written_over(rt: HostRuntime) -> Result<(), Fail> {
+    assert_eq!(rt; rewritten(rt.alloc())?.as_str(), "friends");
+    Ok(())
+}
+
 #[test]
 fn lists_are_written_item_by_item(rt: HostRuntime) -> Result<(), Fail> {
     assert_eq!(rt;

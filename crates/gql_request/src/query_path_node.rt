@@ -7,6 +7,9 @@ ghost use Rattle.gql_request.specs.Path.{last_field};
 use gql_base::{Items, Made, PathSegment, Text};
 use std::alloc::Global;
 
+/// The room that the text of a path takes at first.
+const ROOM: usize = 24;
+
 /// A place of a response by its path, which has at least one segment (GraphQL, October 2021,
 /// section 7.1.2).
 #[derive(Clone, Copy, Debug)]
@@ -55,7 +58,7 @@ impl<'a> QueryPathNode<'a> {
     pub fn text(&self, alloc: Global) -> Made<Text>
         ensures { IfOk result (λ text. text ≡ path_text self.now.segments.now) }
     {
-        let mut out = String::new(alloc);
+        let mut out = String::with_capacity(alloc, ROOM)?;
         for (place, segment) in self.segments.iter().enumerate() {
             push_dot(&mut out, place)?;
             write!(out, "{segment}")?;
