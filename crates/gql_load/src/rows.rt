@@ -1,5 +1,6 @@
 //! The rows of the constant list.
-ghost use Rattle.std.specs.Prelude.{◌≡◌, IfOk};
+ghost use Rattle.std.specs.Prelude.{◌≡◌, ◌∷◌, [], codes, IfOk};
+ghost use Rattle.gql_base.specs.Pairs.{names_of};
 ghost use Rattle.gql_load.specs.Rows.{load_row, load_rows, load_tag};
 
 use gql_base::{Items, Made, Name, Number, Pairs, Text, Value};
@@ -10,23 +11,33 @@ pub(crate) fn load_rows(alloc: Global, count: usize) -> Made<Items<Value>>
     ensures { IfOk result (λ rows. rows ≡ load_rows count) }
 {
     let mut rows = Items::with_capacity(alloc, count)?;
+    let names = row_names(alloc)?;
     for place in 0..count {
-        rows.push(load_row(alloc, place)?)?;
+        rows.push(load_row(alloc, &names, place)?)?;
     }
     Ok(rows)
 }
 
 /// The row at a place: its members are `id`, the place, and `tag`.
-fn load_row(alloc: Global, place: usize) -> Made<Value>
+fn load_row(alloc: Global, names: &Pairs<()>, place: usize) -> Made<Value>
+    requires { names_of names.now ≡ codes "id" ∷ codes "tag" ∷ [] }
     ensures { IfOk result (λ row. row ≡ load_row place) }
 {
-    let id = Name::new(alloc, "id")?;
-    let name = Name::new(alloc, "tag")?;
     let tag = load_tag(alloc, place)?;
-    let mut members = Pairs::with_capacity(alloc, 2)?;
-    members.add(id, Value::Number(Number::from_u64(place as u64)))?;
-    members.add(name, Value::String(tag))?;
-    Ok(Value::Object(members))
+    let mut values = Vec::with_capacity(alloc, 2)?;
+    values.push(Value::Number(Number::from_u64(place as u64)))?;
+    values.push(Value::String(tag))?;
+    Ok(Value::Object(names.with_values(alloc, values)?))
+}
+
+/// The names of a row's members, which all rows share.
+fn row_names(alloc: Global) -> Made<Pairs<()>>
+    ensures { IfOk result (λ names. names_of names ≡ codes "id" ∷ codes "tag" ∷ []) }
+{
+    let mut names = Pairs::with_capacity(alloc, 2)?;
+    names.add(Name::new(alloc, "id")?, ())?;
+    names.add(Name::new(alloc, "tag")?, ())?;
+    names.shared(alloc)
 }
 
 /// The tag of the row at a place: one of seven.
