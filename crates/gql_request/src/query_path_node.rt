@@ -61,7 +61,7 @@ impl<'a> QueryPathNode<'a> {
         let mut out = String::with_capacity(alloc, ROOM)?;
         for (place, segment) in self.segments.iter().enumerate() {
             push_dot(&mut out, place)?;
-            write!(out, "{segment}")?;
+            push_segment(&mut out, segment)?;
         }
         Ok(Text::from_string(out))
     }
@@ -73,6 +73,17 @@ fn text_of(alloc: Global, segment: &PathSegment) -> Made<Text>
     let mut out = String::new(alloc);
     write!(out, "{segment}")?;
     Ok(Text::from_string(out))
+}
+
+/// Appends the text of a segment.
+fn push_segment(out: &mut String, segment: &PathSegment) -> Made<()>
+    ensures { OnOk result (string_bytes out.new ≡ string_bytes out.old
+        ++ segment_text segment.now) }
+{
+    match segment {
+        PathSegment::Field(name) => out.push_str(name.as_str()),
+        PathSegment::Index(index) => write!(out, "{index}"),
+    }
 }
 
 /// Appends a dot, but before the segment at place 0 nothing.
