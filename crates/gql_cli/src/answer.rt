@@ -37,7 +37,8 @@ pub(crate) fn answer_by<M: Tables>(alloc: Global, bench: Bench, tables: &mut M) 
     answer
 }
 
-/// The answer to the requests of a bench, over a set that is made for the bench.
+/// The answer to the requests of a bench, over a set that is made for the bench, whose rules are let
+/// go of first: the set has its own.
 fn answer_to<S: ResolverSet<Own = i64, World = Items<i64>>>(
     alloc: Global,
     bench: Bench,
@@ -50,11 +51,13 @@ fn answer_to<S: ResolverSet<Own = i64, World = Items<i64>>>(
 {
     let Bench {
         builder,
+        rules,
         root,
         turns,
         requests,
         ..
     } = bench;
+    drop(rules);
     let schema = match builder.finish(alloc)? {
         Ok(schema) => schema,
         Err(error) => return Ok(Answer::BadSchema(error.text)),

@@ -3,7 +3,7 @@ ghost use Rattle.std.specs.Prelude.{◌≡◌, IfOk};
 ghost use Rattle.gql_exec.specs.PlaceResponse.{response_at};
 
 use gql_base::{ErrorExtensionValues, Made};
-use gql_place::{Place, faults, header_ops, raise_moved};
+use gql_place::{Place, raise_moved, told_beside};
 use gql_request::Response;
 use std::alloc::Global;
 
@@ -12,8 +12,7 @@ use std::alloc::Global;
 pub fn response_at(alloc: Global, place: Place) -> Made<Response>
     ensures { IfOk result (λ response. response ≡ response_at place) }
 {
-    let errors = faults(alloc, &place)?;
-    let headers = header_ops(alloc, &place)?;
+    let (errors, headers) = told_beside(alloc, &place)?;
     let result = raise_moved(alloc, place)?;
     Ok(Response {
         result,

@@ -56,6 +56,7 @@ fn store_items<'a, V: Drop>(
     ensures found { OnOk result (map spot_found found.new.items
         ≡ map spot_found found.old.items ++ numbered 0 (map spots items) (path_of path.old.items)) }
 {
+    make_room(items.as_slice(), found)?;
     let mut left = Items::with_capacity(alloc, items.len())?;
     for item in items.into_vec() {
         let depth = path.len();
@@ -65,6 +66,19 @@ fn store_items<'a, V: Drop>(
         left.push(stored)?;
     }
     Ok(left)
+}
+
+/// Takes room for the objects of a list, where it begins with one.
+fn make_room<'a, V: Drop>(
+    items: &[Shape<Name, FieldValue<V>>],
+    found: &mut Vec<Found<'a, V>>,
+) -> Made<()>
+    ensures { found.new.items ≡ found.old.items }
+{
+    match items.first() {
+        Some(Shape::Object(_, _)) => found.reserve(items.len()),
+        _ => Ok(()),
+    }
 }
 
 /// Adds an object at a path.

@@ -3,7 +3,7 @@
 use gql_base::{
     Copied, Error, Items, Made, Name, Number, Pairs, Pos, Text, Value, json_of, push_errors,
 };
-use gql_place::{Place, Tree, faults, header_ops, join, raise};
+use gql_place::{Place, Tree, faults, header_ops, join, raise, told_beside};
 use gql_request::HeaderOp;
 use http_header::{HeaderName, HeaderValue};
 use std::alloc::Global;
@@ -93,6 +93,12 @@ fn header_count(alloc: Global, place: &Place) -> Made<usize> {
     Ok(header_ops(alloc, place)?.len())
 }
 
+/// The numbers of errors and of header operations that a response tells beside its data.
+fn counts_beside(alloc: Global, place: &Place) -> Made<(usize, usize)> {
+    let (errors, headers) = told_beside(alloc, place)?;
+    Ok((errors.len(), headers.len()))
+}
+
 fn joined_data(alloc: Global, first: Place, second: Place) -> Made<Text> {
     let joined = join(alloc, first, second)?;
     data(alloc, &joined)
@@ -133,6 +139,14 @@ fn a_failed_item_makes_its_list_null(rt: HostRuntime) -> Result<(), Fail> {
     assert_eq!(rt; data(rt.alloc(), &response)?.as_str(), "{\"values\":null}");
     assert_eq!(rt; header_count(rt.alloc(), &response)?, 1);
     assert_eq!(rt; errors(rt.alloc(), &response)?.as_str(), TWO_ERRORS);
+    assert_eq!(rt; counts_beside(rt.alloc(), &response)?, (2, 1));
+    Ok(())
+}
+
+#[test]
+fn a_response_without_errors_tells_data_alone(rt: HostRuntime) -> Result<(), Fail> {
+    let response = nested(rt.alloc(), "a", 1)?;
+    assert_eq!(rt; counts_beside(rt.alloc(), &response)?, (0, 0));
     Ok(())
 }
 
