@@ -5,6 +5,6 @@ pub mod HeaderOps
 pub mod Join
 pub mod KeysApart
 pub mod Laws
-pub mod Quiet
+pub mod Plain
 pub mod Raised
 pub mod Steps

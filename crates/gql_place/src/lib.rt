@@ -8,7 +8,7 @@ pub mod laws;
 mod place;
 mod place_faults;
 mod place_headers;
-mod place_quiet;
+mod place_plain;
 mod place_told;
 mod raising;
 mod shape;

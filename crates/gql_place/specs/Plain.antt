@@ -9,21 +9,21 @@ use Rattle.gql_place.specs.declared.place.Place.{Place}
 use Rattle.gql_place.specs.declared.place.Tree.{Tree}
 
 -- a place, with all beneath it
-abbrev pub IsQuiet : Place → Type 0
-IsQuiet place = ((path : List PathSegment) → faults_at place path ≡ []) × (ops_of place ≡ [])
+abbrev pub IsPlain : Place → Type 0
+IsPlain place = ((path : List PathSegment) → faults_at place path ≡ []) × (ops_of place ≡ [])
 
 -- what stands at a place
-abbrev pub IsQuietTree : Tree → Type 0
-IsQuietTree tree =
+abbrev pub IsPlainTree : Tree → Type 0
+IsPlainTree tree =
     ((pos : Pos) (path : List PathSegment) → tree_faults tree pos path ≡ []) × (tree_ops tree ≡ [])
 
 -- the members of an object
-abbrev pub AreQuietMembers : List (List ℕ × Place) → Type 0
-AreQuietMembers members =
+abbrev pub ArePlainMembers : List (List ℕ × Place) → Type 0
+ArePlainMembers members =
     ((path : List PathSegment) → member_faults members path ≡ [])
     × (flat_map (λ member. ops_of member.1) members ≡ [])
 
 -- the items of a list
-abbrev pub AreQuietItems : List Place → Type 0
-AreQuietItems items =
+abbrev pub ArePlainItems : List Place → Type 0
+ArePlainItems items =
     ((path : List PathSegment) → item_faults items path ≡ []) × (flat_map ops_of items ≡ [])
