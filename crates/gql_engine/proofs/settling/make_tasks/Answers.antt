@@ -12,8 +12,8 @@ loop-i-preserved g c =
     let len : c.len.result ≡ length c.loop-i.arena.states.items = search rules in
     record {
       states = made ∙ ap (λ ss. ss ++ state.Fresh ∷ []) c.loop-i.invariant.states
-          ∙ append_assoc c.args.arena.now.states.items (fresh_states c.loop-i.i) (state.Fresh ∷ [])
-          ∙ ap (λ ss. c.args.arena.now.states.items ++ ss) (sym (fresh_more g.row.F.Denot c.loop-i.i) ∙ ap fresh_states (sym (add-one c.loop-i.i)));
+          ∙ append_assoc c.reserve.new.self.items (fresh_states c.loop-i.i) (state.Fresh ∷ [])
+          ∙ ap (λ ss. c.reserve.new.self.items ++ ss) (sym (fresh_more g.row.F.Denot c.loop-i.i) ∙ ap fresh_states (sym (add-one c.loop-i.i)));
       waits = numbers ∙ one_more g.row.F.Denot c.loop-i.arena.waiting c.loop-i.arena.states.items c.len.result c.loop-i.invariant.waits len
           ∙ ap (λ ss. waiting_from 0 (marks_of ss)) (sym made);
     }
