@@ -15,6 +15,7 @@ pub mod Groups
 pub mod Jobs
 pub mod KeyNames
 pub mod Keys
+pub mod Known
 pub mod Levels
 pub mod Merged
 pub mod MergedLaws

@@ -1,12 +1,14 @@
 //! CompleteValue (GraphQL, October 2021, section 6.4.3): what an answer comes to by the type of its
 //! field.
 ghost use Rattle.std.specs.Prelude.{◌≡◌, map, IfOk, Some};
+ghost use Rattle.gql_base.specs.TypeRef.{innermost};
 ghost use Rattle.gql_base.specs.declared.type_ref.TypeRef.TheVariants as ref;
 ghost use Rattle.gql_resolve.specs.declared.field_value.FieldValue.TheVariants as kind;
 ghost use Rattle.gql_schema.specs.Table.{types_of};
 ghost use Rattle.gql_meaning.specs.Completion.{completed, completing, required, shape_of};
 ghost use Rattle.gql_merged.specs.Completing.{listed};
 
+use crate::known::Known;
 use crate::naming::{complete_named, fault_of};
 use gql_base::{Error, Items, Made, Name, TypeRef, Value};
 use gql_place::Shape;
@@ -24,9 +26,23 @@ pub fn complete_result<V: Drop>(
 ) -> Made<Shape<Name, FieldValue<V>>>
     ensures { IfOk result (λ shape. shape ≡ shape_of (types_of types.now) ty.now outcome) }
 {
+    complete_known(alloc, &Known::of(types, ty.type_name()), ty, outcome)
+}
+
+/// The same where the innermost name of the type was looked up.
+pub(crate) fn complete_known<V: Drop>(
+    alloc: Global,
+    known: &Known<'_>,
+    ty: &TypeRef,
+    outcome: Result<Option<FieldValue<V>>, Error>,
+) -> Made<Shape<Name, FieldValue<V>>>
+    requires { known.now.name.now ≡ innermost ty.now }
+    ensures { IfOk result (λ shape. shape
+        ≡ shape_of (types_of known.now.types.now) ty.now outcome) }
+{
     match outcome {
         Err(error) => Ok(Shape::Fault(error)),
-        Ok(given) => complete(alloc, ty, types, given),
+        Ok(given) => complete(alloc, ty, known, given),
     }
 }
 
@@ -35,20 +51,21 @@ pub fn complete_result<V: Drop>(
 fn complete<V: Drop>(
     alloc: Global,
     ty: &TypeRef,
-    types: &Types,
+    known: &Known<'_>,
     given: Option<FieldValue<V>>,
 ) -> Made<Shape<Name, FieldValue<V>>>
-    ensures { IfOk result (λ shape. shape ≡ completed (types_of types.now) ty.now given) }
+    requires { known.now.name.now ≡ innermost ty.now }
+    ensures { IfOk result (λ shape. shape ≡ completed (types_of known.now.types.now) ty.now given) }
 {
     match ty {
-        TypeRef::Named(name) => match given {
+        TypeRef::Named(_) => match given {
             None => Ok(Shape::Absent),
-            Some(given) => complete_named(alloc, types, name.as_str(), given),
+            Some(given) => complete_named(alloc, known, given),
         },
-        TypeRef::NonNull(inner) => require(alloc, complete(alloc, inner.get(), types, given)?),
+        TypeRef::NonNull(inner) => require(alloc, complete(alloc, inner.get(), known, given)?),
         TypeRef::List(inner) => match given {
             None => Ok(Shape::Absent),
-            Some(given) => complete_list(alloc, inner.get(), types, given),
+            Some(given) => complete_list(alloc, inner.get(), known, given),
         },
     }
 }
@@ -75,15 +92,16 @@ fn require<V: Drop>(
 fn complete_list<V: Drop>(
     alloc: Global,
     inner: &TypeRef,
-    types: &Types,
+    known: &Known<'_>,
     given: FieldValue<V>,
 ) -> Made<Shape<Name, FieldValue<V>>>
+    requires { known.now.name.now ≡ innermost inner.now }
     ensures { IfOk result (λ shape. shape
-        ≡ completed (types_of types.now) (ref.List inner.now) (Some given)) }
+        ≡ completed (types_of known.now.types.now) (ref.List inner.now) (Some given)) }
 {
     match given {
-        FieldValue::List(items) => complete_items(alloc, inner, types, items),
-        FieldValue::Value(value) => complete_list_value(alloc, inner, types, value),
+        FieldValue::List(items) => complete_items(alloc, inner, known, items),
+        FieldValue::Value(value) => complete_list_value(alloc, inner, known, value),
         FieldValue::Own(_) => fault_of(alloc, "internal: expects an array"),
         FieldValue::WithType { value: _, ty: _ } => fault_of(alloc, "internal: expects an array"),
     }
@@ -93,15 +111,16 @@ fn complete_list<V: Drop>(
 fn complete_list_value<V: Drop>(
     alloc: Global,
     inner: &TypeRef,
-    types: &Types,
+    known: &Known<'_>,
     value: Value,
 ) -> Made<Shape<Name, FieldValue<V>>>
+    requires { known.now.name.now ≡ innermost inner.now }
     ensures { IfOk result (λ shape. shape
-        ≡ completed (types_of types.now) (ref.List inner.now) (Some (kind.Value value))) }
+        ≡ completed (types_of known.now.types.now) (ref.List inner.now) (Some (kind.Value value))) }
 {
     match value {
         Value::Null => Ok(Shape::Absent),
-        Value::List(items) => complete_values(alloc, inner, types, items),
+        Value::List(items) => complete_values(alloc, inner, known, items),
         _ => fault_of(alloc, "internal: expects an array"),
     }
 }
@@ -111,13 +130,14 @@ fn complete_list_value<V: Drop>(
 fn complete_items<V: Drop>(
     alloc: Global,
     inner: &TypeRef,
-    types: &Types,
+    known: &Known<'_>,
     items: Items<FieldValue<V>>,
 ) -> Made<Shape<Name, FieldValue<V>>>
+    requires { known.now.name.now ≡ innermost inner.now }
     ensures { IfOk result (λ shape. shape
-        ≡ listed (completing (types_of types.now) inner.now) items) }
+        ≡ listed (completing (types_of known.now.types.now) inner.now) items) }
 {
-    let shapes = complete_each(alloc, inner, types, items)?;
+    let shapes = complete_each(alloc, inner, known, items)?;
     Ok(Shape::List(!inner.is_nullable(), shapes))
 }
 
@@ -125,15 +145,16 @@ fn complete_items<V: Drop>(
 fn complete_each<V: Drop>(
     alloc: Global,
     inner: &TypeRef,
-    types: &Types,
+    known: &Known<'_>,
     items: Items<FieldValue<V>>,
 ) -> Made<Items<Shape<Name, FieldValue<V>>>>
+    requires { known.now.name.now ≡ innermost inner.now }
     ensures { IfOk result (λ shapes. shapes
-        ≡ map (λ item. completed (types_of types.now) inner.now (Some item)) items) }
+        ≡ map (λ item. completed (types_of known.now.types.now) inner.now (Some item)) items) }
 {
     let mut shapes = Items::with_capacity(alloc, items.len())?;
     for item in items.into_vec() {
-        shapes.push(complete(alloc, inner, types, Some(item))?)?;
+        shapes.push(complete(alloc, inner, known, Some(item))?)?;
     }
     Ok(shapes)
 }
@@ -143,13 +164,14 @@ fn complete_each<V: Drop>(
 fn complete_values<V: Drop>(
     alloc: Global,
     inner: &TypeRef,
-    types: &Types,
+    known: &Known<'_>,
     items: Items<Value>,
 ) -> Made<Shape<Name, FieldValue<V>>>
+    requires { known.now.name.now ≡ innermost inner.now }
     ensures { IfOk result (λ shape. shape
-        ≡ listed (completing (types_of types.now) inner.now) (map kind.Value items)) }
+        ≡ listed (completing (types_of known.now.types.now) inner.now) (map kind.Value items)) }
 {
-    let shapes = complete_each_value(alloc, inner, types, items)?;
+    let shapes = complete_each_value(alloc, inner, known, items)?;
     Ok(Shape::List(!inner.is_nullable(), shapes))
 }
 
@@ -157,16 +179,18 @@ fn complete_values<V: Drop>(
 fn complete_each_value<V: Drop>(
     alloc: Global,
     inner: &TypeRef,
-    types: &Types,
+    known: &Known<'_>,
     items: Items<Value>,
 ) -> Made<Items<Shape<Name, FieldValue<V>>>>
+    requires { known.now.name.now ≡ innermost inner.now }
     ensures { IfOk result (λ shapes. shapes
-        ≡ map (λ item. completed (types_of types.now) inner.now (Some (kind.Value item))) items) }
+        ≡ map (λ item. completed (types_of known.now.types.now) inner.now
+        (Some (kind.Value item))) items) }
 {
     let mut shapes = Items::with_capacity(alloc, items.len())?;
     for item in items.into_vec() {
         let given = Some(FieldValue::Value(item));
-        shapes.push(complete(alloc, inner, types, given)?)?;
+        shapes.push(complete(alloc, inner, known, given)?)?;
     }
     Ok(shapes)
 }

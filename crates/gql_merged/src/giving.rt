@@ -8,8 +8,9 @@ ghost use Rattle.gql_merged.specs.Parents.{spot_found};
 ghost use Rattle.gql_merged.specs.Stored.{bare, spots};
 ghost use Rattle.gql_merged.specs.Tasks.{IsDeep, job_of_task, jobs_in, job_with, path_with};
 
-use crate::completing::complete_result;
+use crate::completing::complete_known;
 use crate::kept::Filled;
+use crate::known::Known;
 use crate::level::Node;
 use crate::parent::{Found, Held, Parent};
 use crate::paths::steps_with;
@@ -66,7 +67,12 @@ fn fill_answer<'a, V: Drop>(
         headers,
     } = answer;
     let ty = node.asks.ty();
-    let whole = complete_result(alloc, node.basis.types, ty, result)?;
+    let known = Known {
+        types: node.basis.types,
+        name: ty.type_name(),
+        ty: node.ty,
+    };
+    let whole = complete_known(alloc, &known, ty, result)?;
     let mut found = Vec::new(alloc);
     let shape = take_apart(alloc, &parent.held, node, whole, &mut found)?;
     let parents = place_found(alloc, node, found, tasks)?;

@@ -9,10 +9,12 @@ ghost use Rattle.gql_select.specs.Behind.{all_behind};
 ghost use Rattle.gql_merged.specs.FieldsWithin.{collected};
 ghost use Rattle.gql_merged.specs.Grouped.{groups_by};
 ghost use Rattle.gql_merged.specs.Groups.{united};
+ghost use Rattle.gql_merged.specs.Known.{IsOfAsked};
 ghost use Rattle.gql_merged.specs.Levels.{asked_behind, asked_by, asked_of, asked_on, members_of};
 ghost use Rattle.gql_merged.specs.Within.{AllNest};
 
 use crate::asking::asks_for;
+use crate::asks::Asks;
 use crate::basis::{Basis, Grouping};
 use crate::fields_within::{add_fields, collect_fields};
 use crate::group::{Group, Groups};
@@ -22,6 +24,7 @@ use crate::level::{Level, Node};
 use crate::uniting::item_for;
 use gql_base::{Made, Name};
 use gql_doc::{Field, Positioned};
+use gql_schema::{SchemaType, Types};
 use std::alloc::Global;
 use std::rc::Rc;
 
@@ -123,10 +126,27 @@ fn node_of<'a>(alloc: Global, basis: &Basis<'a>, object: &str, group: Group<'a>)
 {
     let item = item_for(alloc, &group)?;
     let asks = asks_for(alloc, basis, object, group.first)?;
+    let ty = type_asked(basis.types, &asks);
     Ok(Node {
         basis: *basis,
         group,
         item,
         asks,
+        ty,
     })
+}
+
+/// What stands under the innermost name of the type of what is asked, where that is an answer.
+fn type_asked<'a>(types: &'a Types, asks: &Asks) -> Option<&'a SchemaType>
+    ensures { IsOfAsked types.now asks.now result }
+{
+    match asks {
+        Asks::Typename => None,
+        Asks::Nothing => None,
+        Asks::Call {
+            resolver: _,
+            ty,
+            arguments: _,
+        } => types.get(ty.type_name()),
+    }
 }

@@ -21,6 +21,7 @@ mod joining;
 mod kept;
 mod key_names;
 mod keys;
+mod known;
 pub mod laws;
 mod level;
 mod levels;

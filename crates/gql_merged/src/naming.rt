@@ -15,6 +15,7 @@ ghost use Rattle.gql_schema.specs.Table.{types_of};
 ghost use Rattle.gql_schema.specs.TableReading.{is_known_object};
 ghost use Rattle.gql_merged.specs.Completing.{absent_if_null, item_at, leaf_at};
 
+use crate::known::Known;
 use gql_base::{Error, Made, Name, Number, Text, Value};
 use gql_place::Shape;
 use gql_resolve::FieldValue;
@@ -24,14 +25,14 @@ use std::alloc::Global;
 /// What a value comes to at the type of a name.
 pub(crate) fn complete_named<V: Drop>(
     alloc: Global,
-    types: &Types,
-    name: &str,
+    known: &Known<'_>,
     given: FieldValue<V>,
 ) -> Made<Shape<Name, FieldValue<V>>>
-    ensures { IfOk result (λ shape. shape ≡ at_type (types_of types.now) name.now
-        (under name.now (types_of types.now)) given) }
+    ensures { IfOk result (λ shape. shape ≡ at_type (types_of known.now.types.now)
+        known.now.name.now (under known.now.name.now (types_of known.now.types.now)) given) }
 {
-    match types.get(name) {
+    let Known { types, name, ty } = *known;
+    match ty {
         Some(SchemaType::Scalar(scalar)) => complete_scalar(alloc, name, scalar, given),
         Some(SchemaType::Enum(enum_type)) => complete_enum(alloc, name, enum_type, given),
         Some(SchemaType::Object(_)) => Ok(Shape::Object(Name::new(alloc, name)?, given)),

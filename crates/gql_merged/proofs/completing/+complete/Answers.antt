@@ -8,15 +8,15 @@ use Rattle.gql_merged.proofs.completing.+complete.Goals as goal
 
 pub complete_items-returns : goal.complete_items-returns
 complete_items-returns g t c =
-    listed_items g.row.V.Denot (types_of c.args.types.now) c.args.inner.now c.is_nullable.result _ c.args.items c.is_nullable.ensures c.in_ok-shapes.ensures
+    listed_items g.row.V.Denot (types_of c.args.known.now.types.now) c.args.inner.now c.is_nullable.result _ c.args.items c.is_nullable.ensures c.in_ok-shapes.ensures
 
 pub complete_list-returns-in-List : goal.complete_list-returns-in-List
 complete_list-returns-in-List g t c =
-    let table = types_of c.args.types.now in
+    let table = types_of c.args.known.now.types.now in
     let inner = c.args.inner.now in
     subst (λ (given : FieldValue g.row.V.Denot). IfOk c.complete_items.result (λ shape. shape ≡ completed table (ref.List inner) (Some given))) (sym c.in-List.is)
     (subst (λ (s : Completed g.row.V.Denot). IfOk c.complete_items.result (λ shape. shape ≡ s)) (sym (list_given g.row.V.Denot table inner c.in-List.items)) c.complete_items.ensures)
 
 pub complete_values-returns : goal.complete_values-returns
 complete_values-returns g t c =
-    listed_values g.row.V.Denot (types_of c.args.types.now) c.args.inner.now c.is_nullable.result _ c.args.items c.is_nullable.ensures c.in_ok-shapes.ensures
+    listed_values g.row.V.Denot (types_of c.args.known.now.types.now) c.args.inner.now c.is_nullable.result _ c.args.items c.is_nullable.ensures c.in_ok-shapes.ensures

@@ -7,10 +7,10 @@ use Rattle.gql_merged.proofs.completing.+complete.Given as goal
 
 abbrev pub invariant-complete_each-loop-item : goal.invariant-complete_each-loop-item
 invariant-complete_each-loop-item g l =
-    l.shapes ++ map (λ item. completed (types_of l.types) l.inner (Some item)) (into_iter_items l.item-iterator)
-    ≡ map (λ item. completed (types_of l.types) l.inner (Some item)) l.fn.items
+    l.shapes ++ map (λ item. completed (types_of l.known.types.now) l.inner (Some item)) (into_iter_items l.item-iterator)
+    ≡ map (λ item. completed (types_of l.known.types.now) l.inner (Some item)) l.fn.items
 
 abbrev pub invariant-complete_each_value-loop-item : goal.invariant-complete_each_value-loop-item
 invariant-complete_each_value-loop-item g l =
-    l.shapes ++ map (λ item. completed (types_of l.types) l.inner (Some (kind.Value item))) (into_iter_items l.item-iterator)
-    ≡ map (λ item. completed (types_of l.types) l.inner (Some (kind.Value item))) l.fn.items
+    l.shapes ++ map (λ item. completed (types_of l.known.types.now) l.inner (Some (kind.Value item))) (into_iter_items l.item-iterator)
+    ≡ map (λ item. completed (types_of l.known.types.now) l.inner (Some (kind.Value item))) l.fn.items

@@ -1,0 +1,28 @@
+ghost use Rattle.gql_merged.specs.Known.{IsUnder, copied_set};
+
+use gql_schema::{SchemaType, Types};
+
+/// A name of a type with what stands under it in a table of types.
+#[derive(Clone, Copy)]
+pub(crate) struct Known<'a> {
+    pub types: &'a Types,
+    pub name: &'a str,
+    pub ty: Option<&'a SchemaType>,
+    pub ghost looked_up: { IsUnder types.now name.now ty } by { copied_set ty-code },
+}
+
+impl<'a> Known<'a> {
+    ghost use Rattle.std.specs.Prelude.{◌≡◌};
+
+    /// The name, looked up in a table.
+    pub(crate) fn of(types: &'a Types, name: &'a str) -> Known<'a>
+        ensures types { result.types.now ≡ types.now }
+        ensures name { result.name.now ≡ name.now }
+    {
+        Known {
+            types,
+            name,
+            ty: types.get(name),
+        }
+    }
+}
