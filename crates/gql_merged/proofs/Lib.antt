@@ -19,8 +19,10 @@ pub mod JoiningLemmas
 pub mod KeyLemmas
 pub mod LevelLemmas
 pub mod MergedLemmas
+pub mod MovingLemmas
 pub mod NestLemmas
 pub mod NodesLemmas
+pub mod PathLemmas
 pub mod PlacedLemmas
 pub mod PlanLemmas
 pub mod RunLemmas

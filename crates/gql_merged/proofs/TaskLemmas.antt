@@ -5,7 +5,6 @@ use Rattle.std.specs.List.{flat_map, zip}
 use Rattle.std.specs.declared.alloc.Global.{Global}
 use Rattle.std.specs.declared.rc.Rc.{Rc}
 use Rattle.gql_base.specs.Pairs.{names_of, values_of}
-use Rattle.gql_base.specs.declared.path_segment.PathSegment.{PathSegment}
 use Rattle.gql_base.specs.declared.path_segment.PathSegment.TheVariants as segment
 use Rattle.gql_doc.specs.declared.document.Field.{Field}
 use Rattle.gql_doc.specs.declared.document.Positioned.{Positioned}
@@ -17,7 +16,6 @@ use Rattle.gql_merged.specs.Jobs.{Job, job_by, jobs_by_as}
 use Rattle.gql_merged.specs.KeyNames.{names_in}
 use Rattle.gql_merged.specs.Levels.{Asked, asked_behind, asked_by, members_of}
 use Rattle.gql_merged.specs.Parents.{jobs_here, rooted, standing_of}
-use Rattle.gql_merged.specs.Steps.{path_of, segment_of}
 use Rattle.gql_merged.specs.Stored.{Spot}
 use Rattle.gql_merged.specs.Tasks.{job_of_task, job_with, jobs_in}
 use Rattle.gql_merged.specs.declared.asks.Asks.{Asks}
@@ -26,7 +24,6 @@ use Rattle.gql_merged.specs.declared.basis.Basis.{Basis}
 use Rattle.gql_merged.specs.declared.level.Level.{Level}
 use Rattle.gql_merged.specs.declared.level.Node.{Node}
 use Rattle.gql_merged.specs.declared.parent.Parent.{Parent}
-use Rattle.gql_merged.specs.declared.step.Step.{Step}
 use Rattle.gql_merged.specs.declared.task.Task.{Task}
 
 pub map_append : {A B : Type 0} (f : A → B) (xs ys : List A) → map f (xs ++ ys) ≡ map f xs ++ map f ys
@@ -116,15 +113,6 @@ module _ {V : Type 0} where
       ∙ ap (λ js. first ++ (jobs_by_as root spot front ++ js)) (sym (append-nil (job_by root spot (asked_behind node))))
       ∙ ap (λ js. first ++ js) (sym (flat_append (job_by root spot) front (asked_behind node ∷ [])))
       ∙ ap (λ fs. first ++ jobs_by_as root spot fs) (sym next)
-
--- one more step of a path
-pub path_more : (steps : List Step) (i : ℕ) (step : Step) (old new : List PathSegment) → i < length steps → step ≡ get_or steps i step
-    → old ≡ path_of (take i steps) → new ≡ old ++ segment_of step ∷ [] → new ≡ path_of (take (i + 1) steps)
-path_more steps i step old new within read before added =
-    added
-    ∙ ap (λ ss. ss ++ segment_of step ∷ []) before
-    ∙ sym (map_append segment_of (take i steps) (step ∷ []))
-    ∙ ap path_of (sym (take_more steps i step within ∙ ap (λ s. take i steps ++ s ∷ []) (sym read)))
 
 take_past : {X : Type 0} (n : ℕ) (xs : List X) → length xs ≤ n → take n xs ≡ xs
 take_past zero [] past = refl

@@ -1,5 +1,5 @@
 -- Paths by their steps.
-use Rattle.std.specs.Prelude.{List, map}
+use Rattle.std.specs.Prelude.{ℕ, suc, List, ◌∷◌, ◌++◌, drop, map, take}
 use Rattle.gql_base.specs.declared.path_segment.PathSegment.{PathSegment}
 use Rattle.gql_base.specs.declared.path_segment.PathSegment.TheVariants as segment
 use Rattle.gql_merged.specs.declared.step.Step.{Step}
@@ -13,3 +13,7 @@ segment_of (step.Index index) = segment.Index index
 -- the path of these steps
 abbrev pub path_of : List Step → List PathSegment
 path_of steps = map segment_of steps
+
+-- a path with this segment at a place, over the one that stands there, or behind all
+abbrev pub written : ℕ → PathSegment → List PathSegment → List PathSegment
+written place segment path = take place path ++ segment ∷ drop (suc place) path

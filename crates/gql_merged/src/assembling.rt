@@ -19,7 +19,11 @@ use gql_base::{Made, Pairs};
 use gql_place::Place;
 use std::alloc::Global;
 use std::collections::VecDeque;
+use std::mem;
 use std::rc::Rc;
+
+/// How much room a list of what is kept may have without giving it back.
+const ROOM: usize = 1024;
 
 /// Puts together the places of the tasks of which something is kept, and leaves the first ones.
 pub(crate) fn assemble<'a, V: Drop>(
@@ -38,8 +42,19 @@ pub(crate) fn assemble<'a, V: Drop>(
     let mut kept = kept;
     'kept: while let Some(last) = kept.pop() {
         put_place(alloc, last, places)?;
+        give_back(&mut kept);
     }
     Ok(())
+}
+
+/// Gives back the memory of what was taken off, where that is most of a long list's.
+fn give_back<'a, V: Drop>(kept: &mut Vec<Kept<'a, V>>)
+    ensures { kept.new.items ≡ kept.old.items }
+{
+    let room = kept.capacity();
+    if room > ROOM && room / 4 > kept.len() {
+        kept.shrink_to_fit();
+    }
 }
 
 /// Adds open places up to this count.
@@ -90,8 +105,42 @@ fn put_if_open(places: &mut Vec<Option<Place>>, number: usize, place: Place)
     }
 }
 
-/// Takes the places from the one of a number on, and leaves those before it.
+/// Takes the places from the one of a number on, and leaves those before it. The fewer ones are
+/// moved.
 fn take_behind(places: &mut Vec<Option<Place>>, first: usize) -> Made<VecDeque<Option<Place>>>
+    requires { first ≤ length places.old.items }
+    ensures left { OnOk result (places.new.items ≡ take first places.old.items) }
+    ensures behind { IfOk result (λ behind. behind.items ≡ drop first places.old.items) }
+{
+    if first < places.len() - first {
+        move_before(places, first)
+    } else {
+        split_behind(places, first)
+    }
+}
+
+/// Moves the places before the one of a number to a list of their own, and gives the list of all,
+/// in which the others are left.
+#[tactic(auto, using(crate::proofs::MovingLemmas::moving))]
+fn move_before(places: &mut Vec<Option<Place>>, first: usize) -> Made<VecDeque<Option<Place>>>
+    requires { first ≤ length places.old.items }
+    ensures left { OnOk result (places.new.items ≡ take first places.old.items) }
+    ensures behind { IfOk result (λ behind. behind.items ≡ drop first places.old.items) }
+{
+    let alloc = *places.allocator();
+    let before = Vec::with_capacity(alloc, first)?;
+    let mut behind = VecDeque::from_vec(mem::replace(places, before));
+    for _place in 0..first {
+        let Some(front) = behind.pop_front() else {
+            return Ok(behind);
+        };
+        places.push(front)?;
+    }
+    Ok(behind)
+}
+
+/// Moves the places from the one of a number on to a list of their own.
+fn split_behind(places: &mut Vec<Option<Place>>, first: usize) -> Made<VecDeque<Option<Place>>>
     requires { first ≤ length places.old.items }
     ensures left { OnOk result (places.new.items ≡ take first places.old.items) }
     ensures behind { IfOk result (λ behind. behind.items ≡ drop first places.old.items) }

@@ -1,8 +1,9 @@
 //! The paths of tasks.
-ghost use Rattle.std.specs.Prelude.{◌≡◌, ◌<◌, length, IfOk, OnOk};
+ghost use Rattle.std.specs.Prelude.{◌≡◌, ◌<◌, ◌≤◌, length, IfOk, OnOk};
+ghost use Rattle.gql_base.specs.declared.path_segment.PathSegment.TheVariants.{Field};
 ghost use Rattle.gql_merged.specs.Groups.{united};
 ghost use Rattle.gql_merged.specs.Parents.{steps_to, value_of};
-ghost use Rattle.gql_merged.specs.Steps.{path_of, segment_of};
+ghost use Rattle.gql_merged.specs.Steps.{path_of, segment_of, written};
 ghost use Rattle.gql_merged.specs.Tasks.{path_with};
 ghost use Rattle.gql_engine.specs.Path.{key_text};
 
@@ -57,8 +58,9 @@ pub(crate) fn steps_with<'a, V>(
     Ok(steps)
 }
 
-/// Writes the path of a field of an object over what stands in the buffer.
-#[tactic(auto, using(crate::proofs::TaskLemmas::path_more))]
+/// Writes the path of a field of an object over what stands in the buffer, segment by segment, so
+/// that each text is written in the memory of the one that stood there.
+#[tactic(auto, using(crate::proofs::PathLemmas::written_ends))]
 pub(crate) fn write_path<V>(
     alloc: Global,
     held: &Held<'_, V>,
@@ -67,13 +69,53 @@ pub(crate) fn write_path<V>(
 ) -> Made<()>
     ensures { OnOk result (path.new.items ≡ path_with held.now node.now) }
 {
-    path.clear();
-    for step in steps_in(held) {
-        path.push(segment_at(alloc, *step)?)?;
+    let steps = steps_in(held);
+    path.truncate(steps.len() + 1);
+    for (place, step) in steps.iter().enumerate() {
+        write_step(alloc, path, place, *step)?;
     }
-    let key = Text::new(alloc, key_at(node))?;
-    path.push(PathSegment::Field(key))?;
-    Ok(())
+    write_step(alloc, path, steps.len(), Step::Key(key_at(node)))
+}
+
+/// Writes a step at a place of a path, over what stands there, or behind all.
+#[tactic(auto, using(crate::proofs::PathLemmas::written_over))]
+fn write_step(alloc: Global, path: &mut Vec<PathSegment>, place: usize, step: Step<'_>) -> Made<()>
+    requires { place ≤ length path.old.items }
+    ensures { OnOk result (path.new.items
+        ≡ written place (segment_of step.entry) path.old.items) }
+{
+    if place < path.len() {
+        write_over(alloc, &mut path[place], step)
+    } else {
+        path.push(segment_at(alloc, step)?)?;
+        Ok(())
+    }
+}
+
+/// Writes a step over a segment.
+fn write_over(alloc: Global, segment: &mut PathSegment, step: Step<'_>) -> Made<()>
+    ensures { OnOk result (segment.new ≡ segment_of step.entry) }
+{
+    match step {
+        Step::Key(key) => write_key(alloc, segment, key),
+        Step::Index(index) => {
+            *segment = PathSegment::Index(index);
+            Ok(())
+        }
+    }
+}
+
+/// Writes a key over a segment, in the memory of the text that stands there.
+fn write_key(alloc: Global, segment: &mut PathSegment, key: &str) -> Made<()>
+    ensures { OnOk result (segment.new ≡ Field key.now) }
+{
+    match segment {
+        PathSegment::Field(text) => text.set(key),
+        PathSegment::Index(_) => {
+            *segment = PathSegment::Field(Text::new(alloc, key)?);
+            Ok(())
+        }
+    }
 }
 
 /// A step of a path, as it is told.

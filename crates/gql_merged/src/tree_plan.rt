@@ -168,7 +168,7 @@ impl<'a, V: Drop> Plan<V> for TreePlan<'a, V> {
         let mut more = Vec::new(alloc);
         let filled = fill_given(alloc, &self.tasks[number], given, &mut more)?;
         let count = more.len();
-        self.kept.reserve(1)?;
+        self.kept.reserve(count + 1)?;
         self.tasks.append(&mut more)?;
         self.kept.push_reserved(Kept {
             number,

@@ -1,5 +1,5 @@
-use Rattle.std.proofs.Common.{sym, ◌∙◌}
-use Rattle.gql_merged.proofs.AssemblyLemmas.{no_length, part_first, part_last, part_length, part_less, part_number, part_within}
+use Rattle.std.proofs.Common.{subst, sym, ◌∙◌}
+use Rattle.gql_merged.proofs.AssemblyLemmas.{IsPart, no_length, part_first, part_last, part_length, part_less, part_number, part_within}
 use Rattle.gql_merged.proofs.assembling.assemble.Goals as goal
 
 pub kept-init : goal.kept-init
@@ -17,8 +17,9 @@ put_place-requires-clause-first g c =
 
 pub kept-preserved : goal.kept-preserved
 kept-preserved g c =
-    part_less c.args.roots c.args.kept.items c.args.places.now.items c.kept.kept.items c.pop.new.self.items c.in-Some.last c.kept.places.items
-    c.put_place.new.places.items c.in-Some.ensures.items c.in_ok-put_place.ensures c.kept.invariant
+    subst (λ left. IsPart c.args.roots c.args.kept.items c.args.places.now.items left c.put_place.new.places.items) (sym c.give_back.ensures)
+    (part_less c.args.roots c.args.kept.items c.args.places.now.items c.kept.kept.items c.pop.new.self.items c.in-Some.last c.kept.places.items
+    c.put_place.new.places.items c.in-Some.ensures.items c.in_ok-put_place.ensures c.kept.invariant)
 
 pub returns-clause-length : goal.returns-clause-length
 returns-clause-length g c =
