@@ -1,9 +1,9 @@
 -- Places in blocks.
-use Rattle.std.proofs.Common.{ℕ, zero, suc, ◌≡◌, ◌+◌, ◌-◌, ◌<◌, ◌≤◌, List, [], ◌∷◌, ◌++◌, Option, Some, None, length, take, drop, slice_get, slice_set, refl, sym, ap, subst, ◌∙◌, arith, append_assoc, append-nil, length-append}
+use Rattle.std.proofs.Common.{ℕ, zero, suc, ◌≡◌, ◌+◌, ◌-◌, ◌<◌, ◌≤◌, List, [], ◌∷◌, ◌++◌, Some, length, take, drop, slice_get, slice_set, refl, sym, ap, subst, ◌∙◌, arith, append_assoc, append-nil, length-append}
 use Rattle.std.proofs.lemmas.Bool.Decides.{nat_tests}
 use Rattle.std.proofs.lemmas.List.Edits.{remove-append_left, remove-append_right}
 use Rattle.std.specs.List.{remove}
-use Rattle.std.specs.Prelude.{IsSome, OnSome, true, ◌==◌}
+use Rattle.std.specs.Prelude.{true, ◌==◌}
 use Rattle.gql_engine.specs.Waiting.{Block, all_in, IsSpot}
 
 get-left : {X : Type 0} (xs ys : List X) (i : ℕ) → i < length xs → slice_get (xs ++ ys) i ≡ slice_get xs i
@@ -122,11 +122,6 @@ sought-next (c ∷ bs) place (suc block) index b is past sought =
     let at = sought.place_is in
     let step = next.place_is in
     record { place_is = omega arith; left = next.left }
-
--- what was removed
-pub removed : {P : Type 0} (o : Option ℕ) → OnSome o P → IsSome o → P
-removed None gone some = cc
-removed (Some x) gone some = gone
 
 pub no-items : (xs : List ℕ) → length xs ≡ 0 → xs ≡ []
 no-items [] none = refl

@@ -113,9 +113,21 @@ fn take_out(blocks: &mut VecDeque<VecDeque<usize>>, place: usize, spot: Spot)
     requires { IsSpot blocks.old.items place spot.block spot.index }
     ensures { all_in blocks.new.items ≡ remove (all_in blocks.old.items) place }
 {
-    let _ = blocks[spot.block].remove(spot.index);
+    take_from(&mut blocks[spot.block], spot.index);
     if blocks[0].is_empty() {
         let _ = blocks.pop_front();
+    }
+}
+
+/// Takes the number at an index out of a block, the first by the shorter way of a queue.
+fn take_from(block: &mut VecDeque<usize>, index: usize)
+    requires { index < length block.old.items }
+    ensures { block.new.items ≡ remove block.old.items index }
+{
+    if index == 0 {
+        let _ = block.pop_front();
+    } else {
+        let _ = block.remove(index);
     }
 }
 
