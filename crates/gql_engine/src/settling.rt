@@ -41,7 +41,7 @@ pub fn make_tasks<F: Drop>(arena: &mut Arena<F>, count: usize) -> Made<()>
     arena.states.reserve(count)?;
     for i in 0..count {
         arena.waiting.push(arena.states.len())?;
-        arena.states.push(State::Fresh)?;
+        arena.states.push_reserved(State::Fresh);
     }
     Ok(())
 }
