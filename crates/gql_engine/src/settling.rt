@@ -38,6 +38,9 @@ pub fn make_tasks<F: Drop>(arena: &mut Arena<F>, count: usize) -> Made<()>
     ensures waits { OnOk result
         (arena.new.waiting ≡ waiting_from 0 (marks_of arena.new.states.items)) }
 {
+    if count == 0 {
+        return Ok(());
+    }
     arena.states.reserve(count)?;
     for i in 0..count {
         arena.waiting.push(arena.states.len())?;
