@@ -54,14 +54,6 @@ pub drop-first : (bs : List Block) (b : Block) → slice_get bs 0 ≡ Some b →
 drop-first [] b is none = refl
 drop-first (c ∷ bs) b is none = let same : c ≡ b = cc in sym (ap (λ (d : Block). d.items ++ all_in bs) same ∙ ap (λ xs. xs ++ all_in bs) none)
 
-all-append : (bs cs : List Block) → all_in (bs ++ cs) ≡ all_in bs ++ all_in cs
-all-append [] cs = refl
-all-append (b ∷ bs) cs = ap (λ xs. b.items ++ xs) (all-append bs cs) ∙ sym (append_assoc b.items (all_in bs) (all_in cs))
-
--- a block without numbers at the end
-pub add-block : (bs : List Block) (b : Block) → b.items ≡ [] → all_in (bs ++ b ∷ []) ≡ all_in bs
-add-block bs b none = all-append bs (b ∷ []) ∙ ap (λ xs. all_in bs ++ (xs ++ [])) none ∙ append-nil (all_in bs)
-
 -- other numbers in the last block
 pub last-grows : (bs : List Block) (last : ℕ) (b new : Block) (more : List ℕ) → length bs ≡ suc last → slice_get bs last ≡ Some b → new.items ≡ b.items ++ more
     → all_in (slice_set bs last new) ≡ all_in bs ++ more

@@ -138,34 +138,32 @@ fn push_number(blocks: &mut VecDeque<VecDeque<usize>>, number: usize) -> Result<
     ensures same { OnErr result
         (all_in blocks.new.items ≡ all_in blocks.old.items) }
 {
-    if !has_room(blocks) {
-        let block = VecDeque::new(*blocks.allocator());
-        blocks.push_back(block)?;
+    match blocks.back_mut() {
+        Some(block) if block.len() < BLOCK => push_in(block, number),
+        _ => push_block(blocks, number),
     }
-    push_last(blocks, number)
 }
 
-/// Whether there is a last block with room.
-fn has_room(blocks: &VecDeque<VecDeque<usize>>) -> bool
-    ensures { IsTrue result → 0 < length blocks.now.items }
+/// Adds a number to a block.
+fn push_in(block: &mut VecDeque<usize>, number: usize) -> Result<(), AllocError>
+    ensures pushed { OnOk result (block.new.items ≡ block.old.items ++ number ∷ []) }
+    ensures same { OnErr result (block.new.items ≡ block.old.items) }
 {
-    match blocks.back() {
-        Some(block) => block.len() < BLOCK,
-        None => false,
+    match block.push_back(number) {
+        Ok(()) => Ok(()),
+        Err(_) => Err(AllocError),
     }
 }
 
-/// Adds a number to the last block.
-fn push_last(blocks: &mut VecDeque<VecDeque<usize>>, number: usize) -> Result<(), AllocError>
-    requires { 0 < length blocks.old.items }
+/// Adds a number in a new block.
+fn push_block(blocks: &mut VecDeque<VecDeque<usize>>, number: usize) -> Result<(), AllocError>
     ensures pushed { OnOk result
         (all_in blocks.new.items ≡ all_in blocks.old.items ++ number ∷ []) }
     ensures same { OnErr result
         (all_in blocks.new.items ≡ all_in blocks.old.items) }
 {
-    let last = blocks.len() - 1;
-    match blocks[last].push_back(number) {
-        Ok(()) => Ok(()),
-        Err(_) => Err(AllocError),
-    }
+    let mut block = VecDeque::new(*blocks.allocator());
+    push_in(&mut block, number)?;
+    blocks.push_back(block)?;
+    Ok(())
 }
