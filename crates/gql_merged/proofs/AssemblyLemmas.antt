@@ -3,15 +3,16 @@ use Rattle.std.proofs.Common.{◌≡◌, ℕ, zero, suc, ◌<◌, ◌≤◌, Lis
 use Rattle.gql_place.specs.declared.place.Place.{Place}
 use Rattle.gql_resolve.specs.Call.{Call}
 use Rattle.gql_resolve.specs.declared.answer.Answer.{Answer}
-use Rattle.gql_merged.specs.Assembling.{AllHeldSince, ArePlaced, beneath_due, IsFilledDue, IsRight, place_made}
+use Rattle.gql_merged.specs.Assembling.{AllHeldSince, ArePlaced, beneath_due, IsFilledDue, IsRight, place_alone, place_made}
 use Rattle.gql_merged.specs.Entries.{laid}
 use Rattle.gql_merged.specs.Fitting.{entries_in, entry_of}
+use Rattle.gql_merged.specs.Holds.{store_in}
 use Rattle.gql_merged.specs.Jobs.{Job}
-use Rattle.gql_merged.specs.Standing.{OpenSince, Paired, present, put_open}
+use Rattle.gql_merged.specs.Standing.{Paired, present, put_open, stands_for}
 use Rattle.gql_merged.specs.declared.kept.Kept.{Kept}
 use Rattle.gql_merged.proofs.EntryLemmas.{Laid, laid_less}
 use Rattle.gql_merged.proofs.PlacedLemmas.{made_right}
-use Rattle.gql_merged.proofs.StandingLemmas.{all_right, Stands, stands_first, stands_last, stands_less}
+use Rattle.gql_merged.proofs.StandingLemmas.{all_right, Stands, stands_first, stands_last, stands_less, stored_beside}
 use Rattle.gql_merged.proofs.TaskLemmas.{map_append}
 
 take_long : {X : Type 0} (n : ℕ) (xs : List X) → n ≤ length xs → length (take n xs) ≡ n
@@ -36,16 +37,17 @@ module _ {V : Type 0} (roots : ℕ) (all : List (Kept V)) (first : List (Option 
   pub record IsPart (kept : List (Kept V)) (places : List (Option Place)) : Type 0 where
     pub laid_is : laid roots (entries_in kept) ≡ Some (length places)
     pub below : length places ≤ length first
-    pub stands : (base : ℕ) (jobs : List (Job V)) (answer : Call V → Answer V) → base ≤ roots → OpenSince base first → length jobs ≡ length first
-        → AllHeldSince answer base jobs (entries_in all)
+    pub stands : (base : ℕ) (jobs : List (Job V)) (answer : Call V → Answer V) → base ≤ roots → length jobs ≡ length first
+        → AllHeldSince answer base jobs (store_in all first)
         → Stands (IsFilledDue answer) (beneath_due answer) (IsRight answer) jobs base (entries_in kept) places
 
   pub part_first : laid roots (entries_in all) ≡ Some (length first) → IsPart all first
   part_first is = record {
     laid_is = is;
     below = omega arith;
-    stands = λ base jobs answer early open_are same held.
-        stands_first (IsFilledDue answer) (beneath_due answer) (IsRight answer) jobs base (entries_in all) first open_are held;
+    stands = λ base jobs answer early same held.
+        stands_first (IsFilledDue answer) (beneath_due answer) (IsRight answer) jobs base place_alone (store_in all first) held
+        (λ job x fits none. made_right answer job x [] fits (subst (λ js. Paired (IsRight answer) js []) (sym none) tt));
   }
 
   part_laid : (kept front : List (Kept V)) (last : Kept V) (places : List (Option Place)) → kept ≡ front ++ last ∷ [] → IsPart kept places
@@ -74,12 +76,12 @@ module _ {V : Type 0} (roots : ℕ) (all : List (Kept V)) (first : List (Option 
       record {
         laid_is = lies.front_is ∙ ap Some (sym long);
         below = omega arith;
-        stands = λ base jobs answer early open_are same held.
+        stands = λ base jobs answer early same held.
             subst (Stands (IsFilledDue answer) (beneath_due answer) (IsRight answer) jobs base (entries_in front)) (sym put)
             (stands_less (IsFilledDue answer) (beneath_due answer) (IsRight answer) jobs base roots (entries_in front) (entry_of last) places place early
             (ap (laid roots) (sym (ap entries_in is ∙ map_append entry_of front (last ∷ []))) ∙ part.laid_is) (omega arith)
             (subst (λ es. Stands (IsFilledDue answer) (beneath_due answer) (IsRight answer) jobs base es places) (ap entries_in is ∙ map_append entry_of front (last ∷ []))
-            (part.stands base jobs answer early open_are same held))
+            (part.stands base jobs answer early same held))
             (λ job fits right. made_right answer job last.filled (present (drop last.first places)) fits right));
       }
 
@@ -88,11 +90,11 @@ module _ {V : Type 0} (roots : ℕ) (all : List (Kept V)) (first : List (Option 
   part_length kept places none part = (let e : Some roots ≡ Some (length places) = ap (λ ks. laid roots (entries_in ks)) (sym none) ∙ part.laid_is in cc)
 
   pub part_last : (kept : List (Kept V)) (places : List (Option Place)) → kept ≡ [] → IsPart kept places → (base : ℕ) (jobs : List (Job V)) (answer : Call V → Answer V) → base ≤ roots
-      → OpenSince base first → length jobs ≡ length first → AllHeldSince answer base jobs (entries_in all) → ArePlaced answer base jobs places
-  part_last kept places none part base jobs answer early open_are same held = record {
+      → length jobs ≡ length first → AllHeldSince answer base jobs (store_in all first) → ArePlaced answer base jobs places
+  part_last kept places none part base jobs answer early same held = record {
     each = stands_last (IsFilledDue answer) (beneath_due answer) (IsRight answer) jobs base places
         (subst (λ ks. Stands (IsFilledDue answer) (beneath_due answer) (IsRight answer) jobs base (entries_in ks) places) none
-        (part.stands base jobs answer early open_are same held));
+        (part.stands base jobs answer early same held));
   }
 
 -- where all are placed, the places that are there are those of the first tasks
@@ -104,6 +106,8 @@ placed_paired answer roots jobs places long within placed =
 pub zero_low : (n : ℕ) → 0 ≤ n
 zero_low n = omega arith
 
--- no place stands before the first
-pub none_before : {X : Type 0} {xs : List X} → xs ≡ [] → (k : ℕ) → length xs ≤ k
-none_before is k = (let e = ap length is in omega arith)
+-- what is stored stays so where no place changes
+pub held_over : {V : Type 0} (answer : Call V → Answer V) (base : ℕ) (jobs : List (Job V)) (kept : List (Kept V)) (places places' : List (Option Place))
+    → ((k : ℕ) → stands_for places' k ≡ stands_for places k) → AllHeldSince answer base jobs (store_in kept places) → AllHeldSince answer base jobs (store_in kept places')
+held_over answer base jobs kept places places' same held k job above there =
+    stored_beside (IsFilledDue answer) (beneath_due answer) place_alone jobs (store_in kept places) (store_in kept places') k refl (same k) (held k job above there)

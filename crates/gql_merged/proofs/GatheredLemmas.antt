@@ -1,11 +1,10 @@
 -- Places and members, gathered one after another.
-use Rattle.std.proofs.Common.{◌≡◌, ℕ, zero, suc, ◌+◌, ◌<◌, List, [], ◌∷◌, ◌++◌, length, map, drop, get_or, Option, Some, None, slice_get, slice_set, refl, ap, sym, ◌∙◌, append_assoc, inl, inr}
+use Rattle.std.proofs.Common.{◌≡◌, ℕ, zero, suc, ◌+◌, ◌<◌, List, [], ◌∷◌, ◌++◌, length, map, drop, get_or, Option, Some, None, slice_get, slice_set, refl, ap, sym, ◌∙◌, append_assoc}
 use Rattle.std.proofs.lemmas.List.{drop_more}
 use Rattle.std.specs.Prelude.{false, is_some, true}
 use Rattle.std.specs.declared.alloc.Global.{Global}
 use Rattle.std.specs.declared.rc.Rc.{Rc}
 use Rattle.gql_base.specs.Pairs.{values_of}
-use Rattle.gql_select.proofs.SliceLemmas.{get_append}
 use Rattle.gql_meaning.specs.Responses.{Members}
 use Rattle.gql_place.specs.declared.place.Place.{Place}
 use Rattle.gql_merged.specs.Assembled.{members_with, places_behind_all, places_with, united_members}
@@ -13,7 +12,7 @@ use Rattle.gql_merged.specs.Assembling.{members_each}
 use Rattle.gql_merged.specs.KeyNames.{names_in}
 use Rattle.gql_merged.specs.Levels.{asked_behind, members_of}
 use Rattle.gql_merged.specs.Parents.{standing_behind}
-use Rattle.gql_merged.specs.Standing.{OpenSince, present, put_open}
+use Rattle.gql_merged.specs.Standing.{present, put_open}
 use Rattle.gql_merged.specs.declared.level.Level.{Level}
 use Rattle.gql_merged.specs.declared.parent.Parent.{Parent}
 use Rattle.gql_merged.proofs.TaskLemmas.{members_names, members_values}
@@ -29,18 +28,6 @@ present_there old new o place all is some before = sym before ∙ ap present (is
 -- no place at all
 pub present_none : {P : Type 0} (old : List (Option P)) (all : List P) → old ≡ [] → present old ≡ all → all ≡ []
 present_none old all none before = sym before ∙ ap present none
-
--- one more open place
-pub open_more : {P : Type 0} (base : ℕ) (places places' : List (Option P)) → places' ≡ places ++ None ∷ [] → OpenSince base places → OpenSince base places'
-open_more base places places' added before k o above at =
-    elim (get_append places (None ∷ []) k o (ap (λ ps. slice_get ps k) (sym added) ∙ at)) [
-      | inl here ↦ before k o above here
-      | inr later ↦ last later.0 o later.2
-    ]
-  where
-    last : {P : Type 0} (k : ℕ) (o : Option P) → slice_get (None ∷ []) k ≡ Some o → o ≡ None
-    last zero o is = sym (let e : None ≡ o = cc in e)
-    last (suc k) o is = absurd (cc)
 
 -- a place is put where it is open
 pub put_none : {P : Type 0} (place : P) (places : List (Option P)) (n : ℕ) → slice_get places n ≡ Some None → put_open place places n ≡ slice_set places n (Some place)

@@ -28,14 +28,14 @@ use Rattle.gql_resolve.specs.declared.turns.Turns.{Ghosts as Choosing}
 use Rattle.gql_resolve.specs.declared.answer.Answer.{Answer}
 use Rattle.gql_resolve.specs.declared.resolver_set.ResolverSet.{Ghosts as Resolving}
 use Rattle.gql_merged.specs.Assembling.{AllHeldSince, ArePlaced, IsRight}
-use Rattle.gql_merged.specs.Entries.{Entry}
-use Rattle.gql_merged.specs.Fitting.{HoldsSince, IsFilled}
-use Rattle.gql_merged.specs.Jobs.{Job, jobs_beneath}
+use Rattle.gql_merged.specs.Holds.{HoldsSince}
+use Rattle.gql_merged.specs.Jobs.{Job}
 use Rattle.gql_merged.specs.Keys.{HasPlace, KeyCut, KeyOver, PutsLast}
+use Rattle.gql_merged.specs.Standing.{Store}
 use Rattle.gql_merged.specs.Tasks.{IsDeep, job_of_task, jobs_in}
 use Rattle.gql_merged.specs.declared.kept.Filled.{Filled}
 use Rattle.gql_merged.specs.declared.task.Task.{Task}
-use Rattle.gql_merged.proofs.RunLemmas.{at_task, held_since}
+use Rattle.gql_merged.proofs.RunLemmas.{at_task, held_since, stored_due}
 
 set_last : {X : Type 0} (xs : List X) (x y : X) → slice_set (xs ++ x ∷ []) (length (xs ++ x ∷ []) - 1) y ≡ xs ++ y ∷ []
 set_last {X = X} xs x y = ap (λ n. slice_set (xs ++ x ∷ []) n y) (let e = length-append xs (x ∷ []) in let f : length (xs ++ x ∷ []) - 1 ≡ length xs = omega arith in f) ∙ by xs
@@ -179,22 +179,12 @@ right_first {F = F} answers holds tasks states states' number is here = record {
     last zero done = cc
     last (suc k) done = cc
 
--- what is due is kept of all tasks of a phase
-pub phase_held : {V F : Type 0} (answer : Call V → Answer V) (base number : ℕ) (jobs : List (Job V)) (entries : List (Entry (Filled V))) (states : List (State F))
-    → IsRightAt number (λ (job : Job V). answer job.asking.call) (HoldsSince base jobs entries) jobs states
-    → ((k : ℕ) (job : Job V) → slice_get jobs k ≡ Some job → slice_get states k ≡ Some state.Done) → AllHeldSince answer number jobs entries
-phase_held answer base number jobs entries states right done k job above is =
-    let held = held_since base jobs entries k (answer job.asking.call) (right.kept k job above is (done k job is)) in
-    let same : held.job ≡ job = (let e : Some held.job ≡ Some job = sym held.there ∙ is in cc) in
-    record {
-      job = held.job;
-      there = held.there;
-      kept = held.kept;
-      last = held.last;
-      fits = subst (λ (j : Job _). IsFilled held.job (answer j.asking.call) held.kept.filled) (sym same) held.fits;
-      within = held.within;
-      block = held.block ∙ ap (λ (j : Job _). jobs_beneath held.job (answer j.asking.call)) (sym same);
-    }
+-- what is due is stored of all tasks of a phase
+pub phase_held : {V F : Type 0} (answer : Call V → Answer V) (base number : ℕ) (jobs : List (Job V)) (store : Store (Filled V) Place) (states : List (State F))
+    → IsRightAt number (λ (job : Job V). answer job.asking.call) (HoldsSince base jobs store) jobs states
+    → ((k : ℕ) (job : Job V) → slice_get jobs k ≡ Some job → slice_get states k ≡ Some state.Done) → AllHeldSince answer number jobs store
+phase_held answer base number jobs store states right done k job above is =
+    stored_due answer jobs store k job is (held_since base jobs store k (answer job.asking.call) (right.kept k job above is (done k job is)))
 
 -- the task of a root key is one of the first ones
 pub key_within : {V : Type 0} (tasks : List (Task V)) (roots number : ℕ) (job : Job V) → slice_get (jobs_in tasks) number ≡ Some job → length job.path ≡ 1

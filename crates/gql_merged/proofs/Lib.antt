@@ -25,6 +25,7 @@ pub mod NodesLemmas
 pub mod PathLemmas
 pub mod PlacedLemmas
 pub mod PlanLemmas
+pub mod PutLemmas
 pub mod RunLemmas
 pub mod SerialLemmas
 pub mod StandingLemmas

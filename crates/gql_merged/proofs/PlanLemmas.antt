@@ -1,26 +1,40 @@
 -- What a plan keeps as a task is given something.
-use Rattle.std.proofs.Common.{◌≡◌, ℕ, ◌+◌, ◌<◌, ◌≤◌, List, [], ◌∷◌, ◌++◌, length, Some, slice_get, refl, ap, sym, subst, ◌∙◌, arith, length-append, inl, inr}
+use Rattle.std.proofs.Common.{◌≡◌, ℕ, true, ◌+◌, ◌<◌, ◌≤◌, List, [], ◌∷◌, ◌++◌, length, map, Option, Some, None, slice_get, refl, ap, sym, subst, ◌∙◌, arith, length-append, append-nil, inl, inr}
 use Rattle.std.proofs.lemmas.List.{length-map}
-use Rattle.std.specs.List.{AllByRecursion}
+use Rattle.std.specs.Bool.{◌==◌}
+use Rattle.std.specs.List.{AllByRecursion, flat_map}
+use Rattle.gql_select.specs.Collected.{own_selections}
 use Rattle.gql_select.proofs.SliceLemmas.{get_append, get_map, get_within}
 use Rattle.gql_engine.specs.Plan.{HasMade}
 use Rattle.gql_engine.specs.declared.given.Given.{Given}
+use Rattle.gql_engine.specs.declared.given.Given.TheVariants.{Answered, Put}
+use Rattle.gql_place.specs.declared.place.Place.{Place}
 use Rattle.gql_merged.specs.Entries.{laid}
-use Rattle.gql_merged.specs.Fitting.{entries_in, entry_of, HoldsGiven, HoldsSince, IsFilledWith, made_beneath}
-use Rattle.gql_merged.specs.Jobs.{Job}
+use Rattle.gql_merged.specs.Assembling.{place_alone}
+use Rattle.gql_merged.specs.Fitting.{entries_in, entry_of, IsFilledWith, made_beneath}
+use Rattle.gql_merged.specs.Holds.{HoldsGiven, HoldsSince, store_in}
+use Rattle.gql_merged.specs.Jobs.{completed_by, Job, jobs_at}
+use Rattle.gql_merged.specs.Parents.{standing_at, standing_behind}
+use Rattle.gql_merged.specs.Standing.{PutsAt}
+use Rattle.gql_merged.specs.Stored.{spots}
 use Rattle.gql_merged.specs.Tasks.{IsDeep, job_of_task, jobs_in}
+use Rattle.gql_merged.specs.declared.kept.Filled.{Filled}
 use Rattle.gql_merged.specs.declared.kept.Kept.{Kept}
 use Rattle.gql_merged.specs.declared.task.Task.{Task}
+use Rattle.gql_engine.proofs.BlockLemmas.{is-zero}
+use Rattle.gql_merged.proofs.AssemblyLemmas.{no_length}
 use Rattle.gql_merged.proofs.BeneathLemmas.{every_at}
 use Rattle.gql_merged.proofs.EntryLemmas.{laid_more}
-use Rattle.gql_merged.proofs.StandingLemmas.{held_more, held_now}
+use Rattle.gql_merged.proofs.StandingLemmas.{stored_beside, stored_more, stored_now, stored_put}
 use Rattle.gql_merged.proofs.TaskLemmas.{map_append}
 
--- a task was given something: what is kept of it stands behind the rest, and the tasks beneath it behind all tasks
-pub record Completes (V : Type 0) (tasks tasks' : List (Task V)) (kept kept' : List (Kept V)) (k : Kept V) (job : Job V) (given : Given V) : Type 0 where
+-- a task was given something: what is kept of it stands behind the rest, its place is open, and the tasks beneath it stand behind all tasks
+pub record Completes (V : Type 0) (tasks tasks' : List (Task V)) (kept kept' : List (Kept V)) (places places' : List (Option Place)) (k : Kept V) (job : Job V)
+    (given : Given V) : Type 0 where
   pub more : List (Task V)
   pub tasks_is : tasks' ≡ tasks ++ more
   pub kept_is : kept' ≡ kept ++ k ∷ []
+  pub opens : PutsAt None k.number places places'
   pub there : slice_get (jobs_in tasks) k.number ≡ Some job
   pub first_is : k.first ≡ length tasks
   pub count_is : k.count ≡ length more
@@ -28,8 +42,8 @@ pub record Completes (V : Type 0) (tasks tasks' : List (Task V)) (kept kept' : L
   pub filled_is : IsFilledWith given job k.filled
   pub deep : AllByRecursion IsDeep (made_beneath given job)
 
-module _ {V : Type 0} {tasks tasks' : List (Task V)} {kept kept' : List (Kept V)} {k : Kept V} {job : Job V} {given : Given V}
-    (done : Completes V tasks tasks' kept kept' k job given) where
+module _ {V : Type 0} {tasks tasks' : List (Task V)} {kept kept' : List (Kept V)} {places places' : List (Option Place)} {k : Kept V} {job : Job V} {given : Given V}
+    (done : Completes V tasks tasks' kept kept' places places' k job given) where
   pub completes_made : jobs_in tasks' ≡ jobs_in tasks ++ made_beneath given job
   completes_made = ap jobs_in done.tasks_is ∙ map_append job_of_task tasks done.more ∙ ap (λ js. jobs_in tasks ++ js) done.beneath_is
 
@@ -65,38 +79,38 @@ module _ {V : Type 0} {tasks tasks' : List (Task V)} {kept kept' : List (Kept V)
             (ap (λ js. slice_get js later.0) (sym done.beneath_is) ∙ get_map job_of_task done.more later.0 task later.2)
       ]
 
-  pub completes_holds : HoldsGiven (jobs_in tasks') (entries_in kept') k.number given
+  pub completes_holds : HoldsGiven (jobs_in tasks') (store_in kept' places') k.number given
   completes_holds =
-      subst (λ js. HoldsGiven js (entries_in kept') k.number given) (sym completes_made)
-      (subst (λ es. HoldsGiven (jobs_in tasks ++ made_beneath given job) es k.number given) (sym entries_are)
-      (held_now (jobs_in tasks) (made_beneath given job) (entries_in kept) (entry_of k) job done.there done.filled_is
-      (done.first_is ∙ sym (length-map tasks job_of_task)) completes_count refl))
+      subst (λ js. HoldsGiven js (store_in kept' places') k.number given) (sym completes_made)
+      (stored_now (IsFilledWith given) (made_beneath given) place_alone (jobs_in tasks) (made_beneath given job) (store_in kept places) (store_in kept' places') (entry_of k) job done.there
+      done.filled_is (done.first_is ∙ sym (length-map tasks job_of_task)) completes_count refl entries_are done.opens.here)
 
-  pub completes_keeps : (other : ℕ) (g : Given V) → (other ≡ k.number → ⊥) → HoldsGiven (jobs_in tasks) (entries_in kept) other g
-      → HoldsGiven (jobs_in tasks') (entries_in kept') other g
+  pub completes_keeps : (other : ℕ) (g : Given V) → (other ≡ k.number → ⊥) → HoldsGiven (jobs_in tasks) (store_in kept places) other g
+      → HoldsGiven (jobs_in tasks') (store_in kept' places') other g
   completes_keeps other g differs held =
-      subst (λ js. HoldsGiven js (entries_in kept') other g) (sym completes_made)
-      (subst (λ es. HoldsGiven (jobs_in tasks ++ made_beneath given job) es other g) (sym entries_are)
-      (held_more (jobs_in tasks) (made_beneath given job) (entries_in kept) (entry_of k) other differs held))
+      subst (λ js. HoldsGiven js (store_in kept' places') other g) (sym completes_made)
+      (stored_more (IsFilledWith g) (made_beneath g) place_alone (jobs_in tasks) (made_beneath given job) (store_in kept places) (store_in kept' places') (entry_of k) other differs
+      entries_are (done.opens.others other differs) held)
 
   -- also where that of earlier phases was given away
-  pub completes_keeps_since : (base other : ℕ) (g : Given V) → (other ≡ k.number → ⊥) → HoldsSince base (jobs_in tasks) (entries_in kept) other g
-      → HoldsSince base (jobs_in tasks') (entries_in kept') other g
+  pub completes_keeps_since : (base other : ℕ) (g : Given V) → (other ≡ k.number → ⊥) → HoldsSince base (jobs_in tasks) (store_in kept places) other g
+      → HoldsSince base (jobs_in tasks') (store_in kept' places') other g
   completes_keeps_since base other g differs held = elim held [
     | inl away ↦ inl away
     | inr kept_one ↦ inr (completes_keeps other g differs kept_one)
   ]
 
 -- what was made for a task
-pub completes_task : {V : Type 0} (tasks tasks' more : List (Task V)) (kept kept' : List (Kept V)) (k : Kept V) (task : Task V) (given : Given V)
-    → slice_get tasks k.number ≡ Some task → tasks' ≡ tasks ++ more → kept' ≡ kept ++ k ∷ [] → k.first ≡ length tasks → k.count ≡ length more
+pub completes_task : {V : Type 0} (tasks tasks' more : List (Task V)) (kept kept' : List (Kept V)) (places places' : List (Option Place)) (k : Kept V) (task : Task V) (given : Given V)
+    → slice_get tasks k.number ≡ Some task → tasks' ≡ tasks ++ more → kept' ≡ kept ++ k ∷ [] → PutsAt None k.number places places' → k.first ≡ length tasks → k.count ≡ length more
     → jobs_in more ≡ made_beneath given (job_of_task task) → IsFilledWith given (job_of_task task) k.filled → AllByRecursion IsDeep (made_beneath given (job_of_task task))
-    → Completes V tasks tasks' kept kept' k (job_of_task task) given
-completes_task tasks tasks' more kept kept' k task given there tasks_is kept_is first_is count_is beneath_is filled_is deep =
+    → Completes V tasks tasks' kept kept' places places' k (job_of_task task) given
+completes_task tasks tasks' more kept kept' places places' k task given there tasks_is kept_is opens first_is count_is beneath_is filled_is deep =
     record {
       more = more;
       tasks_is = tasks_is;
       kept_is = kept_is;
+      opens = opens;
       there = get_map job_of_task tasks k.number task there;
       first_is = first_is;
       count_is = count_is;
@@ -104,3 +118,63 @@ completes_task tasks tasks' more kept kept' k task given there tasks_is kept_is 
       filled_is = filled_is;
       deep = deep;
     }
+
+-- a task was given what came to no object: its place is put
+pub record PutsAlone (V : Type 0) (tasks : List (Task V)) (places places' : List (Option Place)) (number : ℕ) (filled : Filled V) (job : Job V) (given : Given V) : Type 0 where
+  pub there : slice_get (jobs_in tasks) number ≡ Some job
+  pub filled_is : IsFilledWith given job filled
+  pub none : made_beneath given job ≡ []
+  pub puts : PutsAt (Some (place_alone filled)) number places places'
+
+module _ {V : Type 0} {tasks : List (Task V)} {places places' : List (Option Place)} {number : ℕ} {filled : Filled V} {job : Job V} {given : Given V}
+    (done : PutsAlone V tasks places places' number filled job given) where
+  pub alone_has : (other : Job V) → slice_get (jobs_in tasks) number ≡ Some other → HasMade (jobs_in tasks) (jobs_in tasks) (made_beneath given other) 0
+  alone_has other is =
+      let same : job ≡ other = (let e : Some job ≡ Some other = sym done.there ∙ is in cc) in
+      let none : made_beneath given other ≡ [] = ap (made_beneath given) (sym same) ∙ done.none in
+      (sym (append-nil (jobs_in tasks)) ∙ ap (λ js. jobs_in tasks ++ js) (sym none), ap length (sym none))
+
+  pub alone_holds : (kept : List (Kept V)) → HoldsGiven (jobs_in tasks) (store_in kept places') number given
+  alone_holds kept =
+      stored_put (IsFilledWith given) (made_beneath given) place_alone (jobs_in tasks) (store_in kept places') number job filled done.there done.filled_is done.none done.puts.here
+
+  pub alone_keeps_since : (kept : List (Kept V)) (base other : ℕ) (g : Given V) → (other ≡ number → ⊥) → HoldsSince base (jobs_in tasks) (store_in kept places) other g
+      → HoldsSince base (jobs_in tasks) (store_in kept places') other g
+  alone_keeps_since kept base other g differs held = elim held [
+    | inl away ↦ inl away
+    | inr stored ↦ inr (stored_beside (IsFilledWith g) (made_beneath g) place_alone (jobs_in tasks) (store_in kept places) (store_in kept places') other refl
+        (done.puts.others other differs) stored)
+  ]
+
+  -- where nothing else of the plan changes
+  pub alone_keeps : {tasks' : List (Task V)} {kept kept' : List (Kept V)} (base base' : ℕ) → tasks' ≡ tasks → kept' ≡ kept → base' ≡ base → (other : ℕ) (g : Given V) → (other ≡ number → ⊥)
+      → HoldsSince base (jobs_in tasks) (store_in kept places) other g → HoldsSince base' (jobs_in tasks') (store_in kept' places') other g
+  alone_keeps {tasks' = tasks'} {kept = kept} {kept' = kept'} base base' tasks_is kept_is base_is other g differs held =
+      subst (λ b. HoldsSince b (jobs_in tasks') (store_in kept' places') other g) (sym base_is)
+      (subst (λ ts. HoldsSince base (jobs_in ts) (store_in kept' places') other g) (sym tasks_is)
+      (subst (λ ks. HoldsSince base (jobs_in tasks) (store_in ks places') other g) (sym kept_is) (alone_keeps_since kept base other g differs held)))
+
+-- a list of which a test says that it has no items
+pub no_items : {X : Type 0} (xs : List X) (n : ℕ) → n ≡ length xs → true ≡ (n == 0) → xs ≡ []
+no_items xs n long is = no_length xs (sym long ∙ is-zero n is)
+
+map_none : {A B : Type 0} (f : A → B) (xs : List A) → map f xs ≡ [] → xs ≡ []
+map_none f [] none = refl
+map_none f (x ∷ xs) none = absurd (cc)
+
+-- where what a task was given came to no object, no tasks are made beneath it
+none_made : {V : Type 0} (given : Given V) (job : Job V) (filled : Filled V) → IsFilledWith given job filled → filled.parents.items ≡ [] → made_beneath given job ≡ []
+none_made (Answered answer) job filled fits none =
+    ap (flat_map (jobs_at job.basis (own_selections job.field)))
+    (map_none (standing_at job.basis (own_selections job.field)) (spots (completed_by job answer) job.path) (sym fits.parents_are ∙ ap (map standing_behind) none))
+none_made (Put put) job filled fits none = refl
+
+pub puts_alone : {V : Type 0} (tasks : List (Task V)) (places places' : List (Option Place)) (number : ℕ) (filled : Filled V) (task : Task V) (given : Given V)
+    → slice_get tasks number ≡ Some task → IsFilledWith given (job_of_task task) filled → filled.parents.items ≡ [] → PutsAt (Some (place_alone filled)) number places places'
+    → PutsAlone V tasks places places' number filled (job_of_task task) given
+puts_alone tasks places places' number filled task given there filled_is none puts = record {
+  there = get_map job_of_task tasks number task there;
+  filled_is = filled_is;
+  none = none_made given (job_of_task task) filled filled_is none;
+  puts = puts;
+}

@@ -34,13 +34,13 @@ use Rattle.gql_resolve.specs.declared.record_entry.RecordEntry.{RecordEntry}
 use Rattle.gql_resolve.specs.declared.resolver_set.ResolverSet.{Ghosts as Resolving}
 use Rattle.gql_resolve.specs.declared.turns.Turns.{Ghosts as Choosing}
 use Rattle.gql_merged.specs.Assembled.{members_with, places_with, united_members}
-use Rattle.gql_merged.specs.Assembling.{AllHeld, IsAssembled, IsRight}
+use Rattle.gql_merged.specs.Assembling.{AllHeld, beneath_due, IsAssembled, IsFilledDue, IsRight, place_alone}
 use Rattle.gql_merged.specs.Basis.{setting_by}
 use Rattle.gql_merged.specs.Counted.{count_by}
-use Rattle.gql_merged.specs.Entries.{Entry}
 use Rattle.gql_merged.specs.FieldsWithin.{collected}
 use Rattle.gql_merged.specs.Grouped.{groups_in}
-use Rattle.gql_merged.specs.Fitting.{HoldsGiven, HoldsSince, IsFilled}
+use Rattle.gql_merged.specs.Fitting.{IsFilled}
+use Rattle.gql_merged.specs.Holds.{HoldsGiven, HoldsSince}
 use Rattle.gql_merged.specs.Jobs.{Job, jobs_at_as, jobs_beneath, jobs_by_as}
 use Rattle.gql_merged.specs.KeyNames.{names_in}
 use Rattle.gql_merged.specs.Levels.{asked_behind, asked_in_as, members_of}
@@ -49,7 +49,7 @@ use Rattle.gql_merged.specs.Run.{basis_by, job_subject, Nests, own_jobs_by, resp
 use Rattle.gql_merged.specs.Keys.{IsKey}
 use Rattle.gql_merged.specs.NeverRoots.{jobs_as}
 use Rattle.gql_merged.specs.Serial.{key_jobs_by}
-use Rattle.gql_merged.specs.Standing.{Paired}
+use Rattle.gql_merged.specs.Standing.{IsStored, Paired, Store}
 use Rattle.gql_merged.specs.Tasks.{IsDeep, job_of_task, jobs_in}
 use Rattle.gql_merged.specs.Within.{AllNest}
 use Rattle.gql_merged.specs.declared.basis.Grouping.{Grouping}
@@ -187,13 +187,42 @@ module _ {V : Type 0} (how : Grouping) (scene : Scene V) where
       (root_right answer (basis_by how scene) n (root_selections scene) (root_spot scene) front.more assembled.own
       (nests_within (setting_by (basis_by how scene)) n (operation_set scene.env.now.operation) nests) right)
 
--- what is kept of an answer wasn't given away
-pub held_since : {V : Type 0} (base : ℕ) (jobs : List (Job V)) (entries : List (Entry (Filled V))) (number : ℕ) (answer : Answer V)
-    → HoldsSince base jobs entries number (Answered answer) → HoldsGiven jobs entries number (Answered answer)
-held_since base jobs entries number answer held = elim held [
+-- what is stored of an answer wasn't given away
+pub held_since : {V : Type 0} (base : ℕ) (jobs : List (Job V)) (store : Store (Filled V) Place) (number : ℕ) (answer : Answer V)
+    → HoldsSince base jobs store number (Answered answer) → HoldsGiven jobs store number (Answered answer)
+held_since base jobs store number answer held = elim held [
   | inl away ↦ (let e = away.1 in absurd (cc))
   | inr kept ↦ kept
 ]
+
+-- what is stored of an answer that is due
+pub stored_due : {V : Type 0} (answer : Call V → Answer V) (jobs : List (Job V)) (store : Store (Filled V) Place) (k : ℕ) (job : Job V) → slice_get jobs k ≡ Some job
+    → HoldsGiven jobs store k (Answered (answer job.asking.call)) → IsStored (IsFilledDue answer) (beneath_due answer) place_alone jobs store k
+stored_due answer jobs store k job is (inl p) =
+    let same : p.job ≡ job = (let e : Some p.job ≡ Some job = sym p.there ∙ is in cc) in
+    inl (record {
+      job = p.job;
+      there = p.there;
+      filled = p.filled;
+      fits = subst (λ (j : Job _). IsFilled p.job (answer j.asking.call) p.filled) (sym same) p.fits;
+      none = ap (λ (j : Job _). jobs_beneath p.job (answer j.asking.call)) same ∙ p.none;
+      put = p.put;
+    })
+stored_due answer jobs store k job is (inr l) =
+    let held = l.held in
+    let same : held.job ≡ job = (let e : Some held.job ≡ Some job = sym held.there ∙ is in cc) in
+    inr (record {
+      held = record {
+        job = held.job;
+        there = held.there;
+        kept = held.kept;
+        last = held.last;
+        fits = subst (λ (j : Job _). IsFilled held.job (answer j.asking.call) held.kept.filled) (sym same) held.fits;
+        within = held.within;
+        block = held.block ∙ ap (λ (j : Job _). jobs_beneath held.job (answer j.asking.call)) (sym same);
+      };
+      stays = l.stays;
+    })
 
 -- the execution of a scene, from its plan to its place
 module _ {R Own World Future P : Type 0} (set : Resolving R Own World Future) (turns : Choosing P) (how : Grouping) (scene : Scene Own) (old : Seen R P) where
@@ -215,12 +244,12 @@ module _ {R Own World Future P : Type 0} (set : Resolving R Own World Future) (t
     pub n_is : n ≡ length first
 
   -- the plan and the arena as they stand in the end
-  pub record Finishes (new : Seen R P) (first last : List (Job Own)) (entries entries' : List (Entry (Filled Own))) (states states' : List (State Future)) : Type 0 where
+  pub record Finishes (new : Seen R P) (first last : List (Job Own)) (store store' : Store (Filled Own) Place) (states states' : List (State Future)) : Type 0 where
     pub lengths : length states' ≡ length last
     pub whole : waiting_from 0 (marks_of states') ≡ []
     pub base : ℕ
     pub base' : ℕ
-    pub right : IsRightAt 0 answers_due (HoldsSince base first entries) first states → IsRightAt 0 answers_due (HoldsSince base' last entries') last states'
+    pub right : IsRightAt 0 answers_due (HoldsSince base first store) first states → IsRightAt 0 answers_due (HoldsSince base' last store') last states'
     pub ran : Ran (choice_by turns) (story_at set turns job_subject old) (stage_of set turns (made_of first states) old)
         (stage_of set turns (made_of last states') new)
 
@@ -258,8 +287,8 @@ module _ {R Own World Future P : Type 0} (set : Resolving R Own World Future) (t
           paces = λ pace before some. asks_pace whole.entries (paces before whole.entries pace some whole.told_is);
         }
 
-    module _ (new : Seen R P) (last : List (Job Own)) (entries entries' : List (Entry (Filled Own))) (states' : List (State Future))
-        (finishes : Finishes new first last entries entries' states states') where
+    module _ (new : Seen R P) (last : List (Job Own)) (store store' : Store (Filled Own) Place) (states' : List (State Future))
+        (finishes : Finishes new first last store store' states states') where
       pub whole_ran : Ran (choice_by turns) (story_at set turns job_subject old) (stage_of set turns (fresh (root_jobs_by how scene)) old)
           (stage_of set turns (made_of last states') new)
       whole_ran = subst (λ m. Ran (choice_by turns) (story_at set turns job_subject old) (stage_of set turns m old)
@@ -300,29 +329,18 @@ module _ {R Own World Future P : Type 0} (set : Resolving R Own World Future) (t
           finishes.whole n nests in
           omega (arith, stepped, none, all, long, count)
 
-      held_due : (k : ℕ) (job : Job Own) → slice_get last k ≡ Some job → HoldsGiven last entries' k (Answered (answers_due job))
+      held_due : (k : ℕ) (job : Job Own) → slice_get last k ≡ Some job → HoldsGiven last store' k (Answered (answers_due job))
       held_due k job is =
-          let right = finishes.right (first_right Own (Job Own) Future answers_due (HoldsSince finishes.base first entries) first states begins.n begins.states_is) in
+          let right = finishes.right (first_right Own (Job Own) Future answers_due (HoldsSince finishes.base first store) first states begins.n begins.states_is) in
           let within = get_within last k job is in
           let m = finishes.lengths in
           let at = get_at states' k (omega arith) in
           let done = all_done Own (Job Own) Future states' finishes.whole k at.0 at.1 in
-          held_since finishes.base' last entries' k (answers_due job) (right.kept k job (omega arith) is (at.1 ∙ ap Some (sym done)))
+          held_since finishes.base' last store' k (answers_due job) (right.kept k job (omega arith) is (at.1 ∙ ap Some (sym done)))
 
-      -- in the end the answers that are due are kept of all tasks
-      pub all_held : AllHeld (due_by set old.set) last entries'
-      all_held = λ k job is.
-          let held = held_due k job is in
-          let same : held.job ≡ job = (let e : Some held.job ≡ Some job = sym held.there ∙ is in cc) in
-          record {
-            job = held.job;
-            there = held.there;
-            kept = held.kept;
-            last = held.last;
-            fits = subst (λ j. IsFilled held.job (answers_due j) held.kept.filled) (sym same) held.fits;
-            within = held.within;
-            block = held.block ∙ ap (λ j. jobs_beneath held.job (answers_due j)) (sym same);
-          }
+      -- in the end the answers that are due are stored of all tasks
+      pub all_held : AllHeld (due_by set old.set) last store'
+      all_held = λ k job is. stored_due (due_by set old.set) last store' k job is (held_due k job is)
 
 -- no task stands behind the first ones
 pub none_deep : {V : Type 0} (tasks : List (Task V)) (roots : ℕ) → roots ≡ length tasks → (k : ℕ) (task : Task V) → roots ≤ k → slice_get tasks k ≡ Some task

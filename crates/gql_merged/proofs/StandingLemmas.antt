@@ -1,9 +1,10 @@
 -- Places of tasks, put together from the last task that was answered to the first.
-use Rattle.std.proofs.Common.{◌≡◌, ℕ, zero, suc, ◌+◌, ◌<◌, ◌≤◌, Bool, true, false, eqb, List, [], ◌∷◌, ◌++◌, length, take, drop, Option, Some, None, slice_get, refl, sym, ap, subst, ◌∙◌, arith, eqb-true, false-eqb, length-append}
+use Rattle.std.proofs.Common.{◌≡◌, ℕ, zero, suc, ◌+◌, ◌<◌, ◌≤◌, Bool, true, false, eqb, List, [], ◌∷◌, ◌++◌, length, take, drop, Option, Some, None, slice_get, refl, sym, ap, subst, ◌∙◌, arith, eqb-true, false-eqb, inl, inr, length-append}
 use Rattle.std.specs.Prelude.{◌-◌}
 use Rattle.gql_merged.specs.Entries.{Entry, laid, latest}
-use Rattle.gql_merged.specs.Standing.{IsHeld, OpenSince, Paired, present, put_open}
+use Rattle.gql_merged.specs.Standing.{IsHeld, IsStored, Paired, present, put_open, stands_for, Store}
 use Rattle.gql_merged.proofs.EntryLemmas.{laid_grows, laid_less, latest_other, latest_same, latest_within}
+use Rattle.gql_merged.proofs.PutLemmas.{put_get}
 
 get_drop : {X : Type 0} (n : ℕ) (xs : List X) (k : ℕ) → slice_get (drop n xs) k ≡ slice_get xs (n + k)
 get_drop zero xs k = ap (slice_get xs) (let e : k ≡ 0 + k = omega arith in e)
@@ -75,6 +76,39 @@ module _ {J X : Type 0} {Fits : J → X → Type 0} {beneath : J → List J} whe
     within = (let e = length-append jobs more in omega arith);
     block = (λ i. take (count i) (drop (first i) (jobs ++ more))) ∙ ap (take (length more)) (drop_all jobs more) ∙ take_all more ∙ made;
   }
+
+module _ {J X P : Type 0} (Fits : J → X → Type 0) (beneath : J → List J) (made : X → P) (jobs : List J) where
+  -- the place of a task with none beneath it is put
+  pub stored_put : (store : Store X P) (number : ℕ) (job : J) (x : X) → slice_get jobs number ≡ Some job → Fits job x → beneath job ≡ [] → stands_for store.places number ≡ Some (made x)
+      → IsStored Fits beneath made jobs store number
+  stored_put store number job x there fits none put = inl (record { job = job; there = there; filled = x; fits = fits; none = none; put = put })
+
+  -- what is stored of a task stays where its own place does
+  pub stored_beside : (store store' : Store X P) (number : ℕ) → store'.entries ≡ store.entries → stands_for store'.places number ≡ stands_for store.places number
+      → IsStored Fits beneath made jobs store number → IsStored Fits beneath made jobs store' number
+  stored_beside store store' number kept same (inl p) = inl (record { job = p.job; there = p.there; filled = p.filled; fits = p.fits; none = p.none; put = same ∙ p.put })
+  stored_beside store store' number kept same (inr l) = inr (record { held = subst (λ es. IsHeld Fits beneath jobs es number) (sym kept) l.held; stays = same ∙ l.stays })
+
+  -- also where tasks are added, and one more is kept
+  pub stored_more : (more : List J) (store store' : Store X P) (k : Entry X) (number : ℕ) → (number ≡ k.number → ⊥) → store'.entries ≡ store.entries ++ k ∷ []
+      → stands_for store'.places number ≡ stands_for store.places number → IsStored Fits beneath made jobs store number → IsStored Fits beneath made (jobs ++ more) store' number
+  stored_more more store store' k number differs kept same (inl p) =
+      inl (record { job = p.job; there = get_left jobs more number p.job p.there; filled = p.filled; fits = p.fits; none = p.none; put = same ∙ p.put })
+  stored_more more store store' k number differs kept same (inr l) =
+      inr (record {
+        held = subst (λ es. IsHeld Fits beneath (jobs ++ more) es number) (sym kept) (held_more jobs more store.entries k number differs l.held);
+        stays = same ∙ l.stays;
+      })
+
+  -- what a task was given last is kept, and its place is open
+  pub stored_now : (more : List J) (store store' : Store X P) (k : Entry X) (job : J) → slice_get jobs k.number ≡ Some job → Fits job k.filled → k.first ≡ length jobs
+      → k.count ≡ length more → more ≡ beneath job → store'.entries ≡ store.entries ++ k ∷ [] → stands_for store'.places k.number ≡ None
+      → IsStored Fits beneath made (jobs ++ more) store' k.number
+  stored_now more store store' k job there fits first count is kept stays =
+      inr (record {
+        held = subst (λ es. IsHeld Fits beneath (jobs ++ more) es k.number) (sym kept) (held_now jobs more store.entries k job there fits first count is);
+        stays = stays;
+      })
 
 below_first : {X : Type 0} (n m : ℕ) (ks : List (Entry X)) (k l : Entry X) → laid n ks ≡ Some k.first → k.number < k.first → latest (ks ++ k ∷ []) m ≡ Some l → m < k.first
 below_first n m ks k l is under found = by (eqb m k.number) refl
@@ -192,11 +226,17 @@ module _ {J X P : Type 0} (Fits : J → X → Type 0) (beneath : J → List J) (
       }
 
   -- before any place is put together
-  pub stands_first : (ks : List (Entry X)) (places : List (Option P)) → OpenSince base places
-      → ((k : ℕ) (job : J) → base ≤ k → slice_get jobs k ≡ Some job → IsHeld Fits beneath jobs ks k) → Stands ks places
-  stands_first ks places none held = record {
-    each = λ k job o above there stands. subst (IsDue ks k job) (sym (none k o above stands)) (held k job above there);
+  pub stands_first : (made : X → P) (store : Store X P) → ((k : ℕ) (job : J) → base ≤ k → slice_get jobs k ≡ Some job → IsStored Fits beneath made jobs store k)
+      → ((job : J) (x : X) → Fits job x → beneath job ≡ [] → Right job (made x)) → Stands store.entries store.places
+  stands_first made store stored finishes = record {
+    each = λ k job o above there stands. due k job o there (put_get store.places k o stands) (stored k job above there);
   }
+    where
+      due : (k : ℕ) (job : J) (o : Option P) → slice_get jobs k ≡ Some job → stands_for store.places k ≡ o → IsStored Fits beneath made jobs store k → IsDue store.entries k job o
+      due k job o there at (inl p) =
+          let same : p.job ≡ job = (let e : Some p.job ≡ Some job = sym p.there ∙ there in cc) in
+          placed store.entries k job o (made p.filled) (sym at ∙ p.put) (subst (λ j. Right j (made p.filled)) same (finishes p.job p.filled p.fits p.none))
+      due k job o there at (inr l) = subst (IsDue store.entries k job) (sym (sym at ∙ l.stays)) l.held
 
   -- all places are put together
   pub stands_last : (places : List (Option P)) → Stands [] places → (j : ℕ) (job : J) (o : Option P) → base ≤ j → slice_get jobs j ≡ Some job → slice_get places j ≡ Some o

@@ -9,13 +9,12 @@ use Rattle.gql_select.specs.Collected.{own_selections}
 use Rattle.gql_base.specs.Pairs.{values_of}
 use Rattle.gql_merged.specs.Assembled.{members_with, places_behind_all}
 use Rattle.gql_merged.specs.Basis.{setting_by}
-use Rattle.gql_merged.specs.Entries.{Entry}
 use Rattle.gql_merged.specs.Filling.{tree_with}
 use Rattle.gql_merged.specs.Fitting.{IsFilled}
 use Rattle.gql_merged.specs.Jobs.{Job, jobs_beneath}
 use Rattle.gql_merged.specs.Merged.{place_by}
 use Rattle.gql_merged.specs.Parents.{Standing, standing_behind}
-use Rattle.gql_merged.specs.Standing.{IsHeld, Paired}
+use Rattle.gql_merged.specs.Standing.{IsStored, Paired, Store}
 use Rattle.gql_merged.specs.Within.{IsWithin}
 use Rattle.gql_merged.specs.declared.kept.Filled.{Filled}
 
@@ -39,6 +38,10 @@ module _ {V : Type 0} where
         (members_each (map standing_behind filled.parents.items) places);
   }
 
+  -- the place of what a task came to, with no tasks beneath it
+  abbrev pub place_alone : Filled V → Place
+  place_alone filled = place_made filled []
+
   module _ (answer : Call V → Answer V) where
     -- what a task came to with the answer that is due
     abbrev pub IsFilledDue : Job V → Filled V → Type 0
@@ -48,17 +51,17 @@ module _ {V : Type 0} where
     abbrev pub beneath_due : Job V → List (Job V)
     beneath_due job = jobs_beneath job (answer job.asking.call)
 
-    -- the answers that are due are kept of all tasks
-    abbrev pub AllHeld : List (Job V) → List (Entry (Filled V)) → Type 0
-    AllHeld jobs entries =
+    -- the answers that are due are stored of all tasks
+    abbrev pub AllHeld : List (Job V) → Store (Filled V) Place → Type 0
+    AllHeld jobs store =
         (k : ℕ) (job : Job V) → slice_get jobs k ≡ Some job
-        → IsHeld IsFilledDue beneath_due jobs entries k
+        → IsStored IsFilledDue beneath_due place_alone jobs store k
 
     -- the same of all from a number on
-    abbrev pub AllHeldSince : ℕ → List (Job V) → List (Entry (Filled V)) → Type 0
-    AllHeldSince base jobs entries =
+    abbrev pub AllHeldSince : ℕ → List (Job V) → Store (Filled V) Place → Type 0
+    AllHeldSince base jobs store =
         (k : ℕ) (job : Job V) → base ≤ k → slice_get jobs k ≡ Some job
-        → IsHeld IsFilledDue beneath_due jobs entries k
+        → IsStored IsFilledDue beneath_due place_alone jobs store k
 
     -- a place is that of merged execution, for all levels within which the field's set nests
     abbrev pub IsRight : Job V → Place → Type 0

@@ -1,5 +1,5 @@
 -- What is kept of tasks, and what fits it.
-use Rattle.std.specs.Prelude.{◌≡◌, ◌<◌, ◌⊎◌, ℕ, not, List, Option, Some, None, Result, Ok, Err, map}
+use Rattle.std.specs.Prelude.{◌≡◌, not, List, Option, Some, None, Result, Ok, Err, map}
 use Rattle.gql_base.specs.TypeRef.{is_nullable}
 use Rattle.gql_base.specs.declared.error.Error.{Error}
 use Rattle.gql_base.specs.declared.value.Value.{Value}
@@ -12,7 +12,6 @@ use Rattle.gql_select.specs.Collected.{own_selections}
 use Rattle.gql_merged.specs.Entries.{Entry}
 use Rattle.gql_merged.specs.Jobs.{completed_by, Job, jobs_beneath}
 use Rattle.gql_merged.specs.Parents.{standing_at, standing_behind}
-use Rattle.gql_merged.specs.Standing.{IsHeld}
 use Rattle.gql_merged.specs.Stored.{Bare, bare, spots}
 use Rattle.gql_merged.specs.declared.kept.Filled.{Filled}
 use Rattle.gql_merged.specs.declared.kept.Kept.{Kept}
@@ -52,14 +51,3 @@ module _ {V : Type 0} where
   -- all of it
   abbrev pub entries_in : List (Kept V) → List (Entry (Filled V))
   entries_in kept = map entry_of kept
-
-  -- what a task was given last is kept, or it was given away: then it is of an earlier phase
-  abbrev pub HoldsSince : ℕ → List (Job V) → List (Entry (Filled V)) → ℕ → Given V → Type 0
-  HoldsSince base jobs entries number given =
-      ((number < base) × (given ≡ Put (Ok None)))
-      ⊎ IsHeld (IsFilledWith given) (made_beneath given) jobs entries number
-
-  -- what a task was given last is kept
-  abbrev pub HoldsGiven : List (Job V) → List (Entry (Filled V)) → ℕ → Given V → Type 0
-  HoldsGiven jobs entries number given =
-      IsHeld (IsFilledWith given) (made_beneath given) jobs entries number

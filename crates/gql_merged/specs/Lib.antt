@@ -12,6 +12,7 @@ pub mod Filling
 pub mod Fitting
 pub mod Grouped
 pub mod Groups
+pub mod Holds
 pub mod Jobs
 pub mod KeyNames
 pub mod Keys

@@ -1,6 +1,6 @@
 -- Places of tasks, as they are put together from the last task that was answered to the first.
 use Rattle.std.specs.Prelude.{◌≡◌, ℕ, zero, suc, ◌+◌, ◌≤◌, List, [], ◌∷◌, Option, Some, None, take}
-use Rattle.std.specs.Prelude.{drop, length, slice_get}
+use Rattle.std.specs.Prelude.{◌⊎◌, drop, length, slice_get}
 use Rattle.gql_merged.specs.Entries.{Entry, latest}
 
 -- the places that are there
@@ -16,10 +16,17 @@ put_open place (None ∷ others) zero = Some place ∷ others
 put_open place (Some other ∷ others) zero = Some other ∷ others
 put_open place (one ∷ others) (suc number) = one ∷ put_open place others number
 
--- no place is there from a number on
-abbrev pub OpenSince : {P : Type 0} → ℕ → List (Option P) → Type 0
-OpenSince {P = P} base places = (k : ℕ) (o : Option P) → base ≤ k → slice_get places k ≡ Some o
-    → o ≡ None
+-- the place of a number, if it is there
+abbrev pub stands_for : {P : Type 0} → List (Option P) → ℕ → Option P
+stands_for [] number = None
+stands_for (o ∷ others) zero = o
+stands_for (o ∷ others) (suc number) = stands_for others number
+
+-- the place of a number is there, or open, and those of others are as they were
+pub record PutsAt {P : Type 0} (o : Option P) (number : ℕ) (places places' : List (Option P))
+    : Type 0 where
+  pub here : stands_for places' number ≡ o
+  pub others : (k : ℕ) → (k ≡ number → ⊥) → stands_for places' k ≡ stands_for places k
 
 -- two lists whose items stand in a relation, one by one
 abbrev pub Paired : {X Y : Type 0} → (X → Y → Type 0) → List X → List Y → Type 0
@@ -38,3 +45,28 @@ pub record IsHeld {J X : Type 0} (Fits : J → X → Type 0) (beneath : J → Li
   pub fits : Fits job kept.filled
   pub within : kept.first + kept.count ≤ length jobs
   pub block : take kept.count (drop kept.first jobs) ≡ beneath job
+
+-- what is stored of tasks: what is kept of some, and the places so far
+pub record Store (X P : Type 0) : Type 0 where
+  pub entries : List (Entry X)
+  pub places : List (Option P)
+
+module _ {J X P : Type 0} (Fits : J → X → Type 0) (beneath : J → List J) where
+  -- a task's place is still open, and what it is made of is kept
+  pub record IsLeft (jobs : List J) (store : Store X P) (number : ℕ) : Type 0 where
+    pub held : IsHeld Fits beneath jobs store.entries number
+    pub stays : stands_for store.places number ≡ None
+
+  module _ (made : X → P) where
+    -- a task has no tasks beneath it, and its place is made of what it came to
+    pub record IsPut (jobs : List J) (places : List (Option P)) (number : ℕ) : Type 0 where
+      pub job : J
+      pub there : slice_get jobs number ≡ Some job
+      pub filled : X
+      pub fits : Fits job filled
+      pub none : beneath job ≡ []
+      pub put : stands_for places number ≡ Some (made filled)
+
+    -- one of the two
+    abbrev pub IsStored : List J → Store X P → ℕ → Type 0
+    IsStored jobs store number = IsPut jobs store.places number ⊎ IsLeft jobs store number

@@ -1,13 +1,15 @@
 //! The places of tasks, put together from the one that was answered last to the first. So the
 //! places beneath a task stand behind all others when it is its turn, and are moved into its own.
-ghost use Rattle.std.specs.Prelude.{ℕ, ◌≡◌, ◌<◌, ◌≤◌, List, Some};
+ghost use Rattle.std.specs.Prelude.{ℕ, ◌≡◌, ◌<◌, ◌≤◌, [], List, None, Some};
 ghost use Rattle.std.specs.Prelude.{drop, length, map, take, IfOk, OnOk};
-ghost use Rattle.gql_merged.specs.Assembling.{AllHeldSince, ArePlaced, members_each, place_made};
+ghost use Rattle.gql_merged.specs.Assembling.{AllHeldSince, ArePlaced, members_each, place_alone};
+ghost use Rattle.gql_merged.specs.Assembling.{place_made};
 ghost use Rattle.gql_merged.specs.Entries.{laid};
 ghost use Rattle.gql_merged.specs.Fitting.{entries_in};
+ghost use Rattle.gql_merged.specs.Holds.{store_in};
 ghost use Rattle.gql_merged.specs.Jobs.{Job};
 ghost use Rattle.gql_merged.specs.Parents.{standing_behind};
-ghost use Rattle.gql_merged.specs.Standing.{OpenSince, present, put_open};
+ghost use Rattle.gql_merged.specs.Standing.{present, stands_for, put_open, PutsAt};
 ghost use Rattle.gql_resolve.specs.Call.{Call};
 ghost use Rattle.gql_resolve.specs.declared.answer.Answer.{Answer};
 
@@ -25,7 +27,7 @@ use std::rc::Rc;
 /// How much room a list of what is kept may have without giving it back.
 const ROOM: usize = 1024;
 
-/// Puts together the places of the tasks of which something is kept, and leaves the first ones.
+/// Puts together the open places, each of what is kept of its task, and leaves the first ones.
 pub(crate) fn assemble<'a, V: Drop>(
     alloc: Global,
     kept: Vec<Kept<'a, V>>,
@@ -35,8 +37,8 @@ pub(crate) fn assemble<'a, V: Drop>(
     requires { laid roots (entries_in kept.items) ≡ Some (length places.old.items) }
     ensures length { OnOk result (length places.new.items ≡ roots) }
     ensures placed { (base : ℕ) (jobs : List (Job V)) (answer : Call V → Answer V)
-        → base ≤ roots → OpenSince base places.old.items → length jobs ≡ length places.old.items
-        → AllHeldSince answer base jobs (entries_in kept.entry.items)
+        → base ≤ roots → length jobs ≡ length places.old.items
+        → AllHeldSince answer base jobs (store_in kept.entry.items places.old.items)
         → OnOk result (ArePlaced answer base jobs places.new.items) }
 {
     let mut kept = kept;
@@ -58,16 +60,46 @@ fn give_back<'a, V: Drop>(kept: &mut Vec<Kept<'a, V>>)
 }
 
 /// Adds open places up to this count.
-#[tactic(auto, using(crate::proofs::GatheredLemmas::open_more))]
+#[tactic(auto, using(crate::proofs::PutLemmas::put_more))]
 pub(crate) fn add_open(places: &mut Vec<Option<Place>>, count: usize) -> Made<()>
     requires { length places.old.items ≤ count }
     ensures length { OnOk result (length places.new.items ≡ count) }
-    ensures open { OnOk result (OpenSince (length places.old.items) places.new.items) }
+    ensures within { length places.new.items ≤ count }
+    ensures same { OnOk result
+        ((k : ℕ) → stands_for places.new.items k ≡ stands_for places.old.items k) }
 {
     for i in places.len()..count {
         places.push(None)?;
     }
     Ok(())
+}
+
+/// Puts the place of a task, whatever stood there.
+
+pub(crate) fn put_place_at(places: &mut Vec<Option<Place>>, number: usize, place: Place) -> Made<()>
+    ensures puts { OnOk result
+        (PutsAt (Some place) number places.old.items places.new.items) }
+    ensures within { (n : ℕ) → number < n → length places.old.items ≤ n
+        → length places.new.items ≤ n }
+{
+    if number < places.len() {
+        places[number] = Some(place);
+        return Ok(());
+    }
+    add_open(places, number)?;
+    places.push(Some(place))?;
+    Ok(())
+}
+
+/// Leaves the place of a task open, whatever stood there.
+#[tactic(auto, using(crate::proofs::PutLemmas::puts_none))]
+pub(crate) fn open_place(places: &mut Vec<Option<Place>>, number: usize)
+    ensures opens { PutsAt None number places.old.items places.new.items }
+    ensures length { length places.new.items ≡ length places.old.items }
+{
+    if number < places.len() {
+        places[number] = None;
+    }
 }
 
 /// Puts the place of a task where it is open, of the places beneath it, which stand behind all
@@ -147,6 +179,29 @@ fn split_behind(places: &mut Vec<Option<Place>>, first: usize) -> Made<VecDeque<
 {
     let behind = places.split_off(first)?;
     Ok(VecDeque::from_vec(behind))
+}
+
+/// The place of what a task came to, where it came to no object.
+pub(crate) fn place_alone<'a, V: Drop>(alloc: Global, filled: Filled<'a, V>) -> Made<Place>
+    requires { filled.parents.items ≡ [] }
+    ensures { IfOk result (λ place. place ≡ place_alone filled.entry) }
+{
+    let Filled {
+        pos,
+        non_null,
+        added,
+        headers,
+        shape,
+        parents: _,
+    } = filled;
+    let tree = fill(alloc, shape, pos, &mut VecDeque::new(alloc))?;
+    Ok(Place {
+        pos,
+        non_null,
+        added,
+        headers,
+        tree,
+    })
 }
 
 /// The place of what a task came to, of the places beneath it.

@@ -8,7 +8,7 @@ ghost use Rattle.gql_engine.specs.Phases.{CutInTurn, InTurn, serving_by};
 ghost use Rattle.gql_engine.specs.Record.{waiting_from};
 ghost use Rattle.gql_engine.specs.declared.given.Given.TheVariants.{Put};
 ghost use Rattle.gql_merged.specs.Assembling.{AllHeldSince};
-ghost use Rattle.gql_merged.specs.Fitting.{entries_in, HoldsSince};
+ghost use Rattle.gql_merged.specs.Holds.{HoldsSince, store_in};
 ghost use Rattle.gql_merged.specs.Jobs.{Job};
 ghost use Rattle.gql_merged.specs.Keys.{HasPlace, IsKey, KeyCut, KeyOver, PutsLast};
 ghost use Rattle.gql_merged.specs.Serial.{answer_in_phase, PlacedInTurn};
@@ -34,7 +34,6 @@ pub(crate) fn answer_key<'a, R: ResolverSet, H: Rounds, P: Turns, S: Ledger>(
     task: Task<'a, R::Own>,
     plan: &mut TreePlan<'a, R::Own>,
     arena: &mut Arena<R::Future>,
-    places: &mut Vec<Option<Place>>,
     own: &mut Vec<Option<Place>>,
     resolvers: &mut R,
     hooks: &mut H,
@@ -44,7 +43,6 @@ pub(crate) fn answer_key<'a, R: ResolverSet, H: Rounds, P: Turns, S: Ledger>(
     requires root { (job_of_task task).asking.call.is_root ≡ true }
     requires short { length (job_of_task task).path ≡ 1 }
     requires closed { plan.old.kept.items ≡ [] }
-    requires places { length places.old.items ≤ length plan.old.tasks.items }
     requires between { InTurn
         (root_parts R.ResolverSet ⟦<TreePlan<'a, R::Own> as Plan<R::Own>>⟧ H.Rounds P.Turns)
         (at plan.old arena.old (outside resolvers.old hooks.old turns.old steps.old))
@@ -63,7 +61,6 @@ pub(crate) fn answer_key<'a, R: ResolverSet, H: Rounds, P: Turns, S: Ledger>(
         (answer_in_phase (serving_by R.ResolverSet resolvers.old) (R.world resolvers.old)
         (job_of_task task.entry)) (job_of_task task.entry) own.old.items own.new.items) }
     ensures closed { OnOk result (plan.new.kept.items ≡ []) }
-    ensures places { OnOk result (length places.new.items ≤ length plan.new.tasks.items) }
     ensures own { OnOk result (length own.new.items ≡ length own.old.items + 1) }
 {
     let keys = own.len() as u64;
@@ -76,7 +73,7 @@ pub(crate) fn answer_key<'a, R: ResolverSet, H: Rounds, P: Turns, S: Ledger>(
         Ok(()) => {}
         Err(want) => return Err(behind_keys(keys, own.len() as u64, want)),
     }
-    match keep_key(alloc, number, plan, places, own) {
+    match keep_key(alloc, number, plan, own) {
         Ok(()) => Ok(()),
         Err(_) => Err(NoMemory {
             roots: own.len() as u64,
@@ -108,8 +105,8 @@ fn open_key<'a, V: Drop, F: Drop>(
     ensures tasks { OnOk result (jobs_in plan.new.tasks.items
         ≡ jobs_in plan.old.tasks.items ++ job_of_task task.entry ∷ []) }
     ensures held { OnOk result ((number : ℕ) → number < length (jobs_in plan.old.tasks.items)
-        → HoldsSince plan.new.base (jobs_in plan.new.tasks.items) (entries_in plan.new.kept.items)
-        number (Put (Ok None))) }
+        → HoldsSince plan.new.base (jobs_in plan.new.tasks.items)
+        (store_in plan.new.kept.items plan.new.places.items) number (Put (Ok None))) }
     ensures states { OnOk result
         (arena.new.states.items ≡ arena.old.states.items ++ fresh_states 1) }
     ensures waits { OnOk result
@@ -128,27 +125,25 @@ fn keep_key<'a, V: Drop>(
     alloc: Global,
     number: usize,
     plan: &mut TreePlan<'a, V>,
-    places: &mut Vec<Option<Place>>,
     own: &mut Vec<Option<Place>>,
 ) -> Made<()>
     requires within { number < plan.old.roots }
-    requires late { length places.old.items ≤ number }
     requires some { 0 < length own.old.items }
     ensures tasks { OnOk result (plan.new.tasks ≡ plan.old.tasks) }
     ensures closed { OnOk result (plan.new.kept.items ≡ []) }
-    ensures places { OnOk result (length places.new.items ≤ length plan.new.tasks.items) }
     ensures placed { (job : Job V) (answer : Call V → Answer V)
         → slice_get (jobs_in plan.old.tasks.items) number ≡ Some job
         → AllHeldSince answer number (jobs_in plan.old.tasks.items)
-        (entries_in plan.old.kept.items)
+        (store_in plan.old.kept.items plan.old.places.items)
         → OnOk result (PutsLast answer job own.old.items own.new.items) }
     ensures own { length own.new.items ≡ length own.old.items }
 {
     let roots = plan.roots;
-    let kept = plan.close(alloc);
-    add_open(places, plan.tasks.len())?;
-    assemble(alloc, kept, roots, places)?;
+    let (kept, mut places) = plan.close(alloc);
+    add_open(&mut places, plan.tasks.len())?;
+    assemble(alloc, kept, roots, &mut places)?;
     put_last(own, places[number].take());
+    plan.places = places;
     Ok(())
 }
 
@@ -195,20 +190,10 @@ pub(crate) fn answer_keys<'a, R: ResolverSet, H: Rounds, P: Turns, S: Ledger>(
     ensures count { IfOk result (λ own. length own.items ≡ length (jobs_in tasks.entry.items)) }
 {
     let mut tasks = tasks;
-    let mut places = Vec::new(alloc);
     let mut own = Vec::new(alloc);
     'keys: while let Some(task) = tasks.pop_front() {
         answer_key(
-            alloc,
-            task,
-            plan,
-            arena,
-            &mut places,
-            &mut own,
-            resolvers,
-            hooks,
-            turns,
-            steps,
+            alloc, task, plan, arena, &mut own, resolvers, hooks, turns, steps,
         )?;
     }
     Ok(own)

@@ -10,8 +10,8 @@ ghost use Rattle.gql_resolve.specs.Call.{Call, is_mutation};
 ghost use Rattle.gql_resolve.specs.declared.answer.Answer.{Answer};
 ghost use Rattle.gql_merged.specs.Assembling.{AllHeld, IsAssembled};
 ghost use Rattle.gql_merged.specs.Counted.{count_by};
-ghost use Rattle.gql_merged.specs.Fitting.{entries_in};
 ghost use Rattle.gql_merged.specs.Grouped.{grouping_at};
+ghost use Rattle.gql_merged.specs.Holds.{store_in};
 ghost use Rattle.gql_merged.specs.Jobs.{asked_by_job};
 ghost use Rattle.gql_merged.specs.Levels.{asked_in_as, members_of};
 ghost use Rattle.gql_merged.specs.Parents.{jobs_here, standing_at_as, standing_behind};
@@ -186,13 +186,14 @@ fn plan_of<'a, V: Drop>(alloc: Global, root: &Rc<Parent<'a, V>>) -> Made<TreePla
     Ok(TreePlan {
         tasks,
         kept: Vec::new(alloc),
+        places: Vec::new(alloc),
         path: Vec::new(alloc),
         base: 0,
         roots,
     })
 }
 
-/// The place of the root, of what is kept of all tasks.
+/// The place of the root, of what is stored of all tasks.
 fn place_of_root<'a, V: Drop>(
     alloc: Global,
     pos: Pos,
@@ -200,18 +201,20 @@ fn place_of_root<'a, V: Drop>(
     plan: TreePlan<'a, V>,
 ) -> Made<Place>
     ensures { (answer : Call V → Answer V)
-        → AllHeld answer (jobs_in plan.entry.tasks.items) (entries_in plan.entry.kept.items)
+        → AllHeld answer (jobs_in plan.entry.tasks.items)
+        (store_in plan.entry.kept.items plan.entry.places.items)
         → IfOk result (IsAssembled answer pos (standing_behind root.entry.now)
         (take plan.entry.roots (jobs_in plan.entry.tasks.items))) }
 {
     let TreePlan {
         tasks,
         kept,
+        places,
         path: _,
         base: _,
         roots,
     } = plan;
-    let mut places = Vec::with_capacity(alloc, tasks.len())?;
+    let mut places = places;
     add_open(&mut places, tasks.len())?;
     assemble(alloc, kept, roots, &mut places)?;
     let mut own = VecDeque::from_vec(places);

@@ -1,4 +1,4 @@
-ghost use Rattle.std.specs.Prelude.{ℕ, ◌≡◌, ◌≤◌, Some, length, map, slice_get};
+ghost use Rattle.std.specs.Prelude.{ℕ, ◌≡◌, ◌≤◌, Some, length, slice_get};
 ghost use Rattle.std.specs.Option.{option_copied};
 ghost use Rattle.gql_engine.specs.Plan.{alias_in};
 ghost use Rattle.gql_merged.specs.Entries.{laid};
@@ -7,8 +7,9 @@ ghost use Rattle.gql_merged.specs.Groups.{united};
 ghost use Rattle.gql_merged.specs.Tasks.{IsDeep, job_of_task};
 ghost use Rattle.gql_merged.specs.declared.task.Task.{Task as TaskOf};
 
+use crate::assembling::{open_place, place_alone, put_place_at};
 use crate::giving::fill_given;
-use crate::kept::Kept;
+use crate::kept::{Filled, Kept};
 use crate::level::Node;
 use crate::paths::{value_in, write_path};
 use crate::task::Task;
@@ -16,30 +17,37 @@ use gql_base::{Made, PathSegment};
 use gql_doc::Field;
 use gql_engine::{Given, Plan};
 use gql_input::ObjectAccessor;
+use gql_place::Place;
 use gql_request::{QueryPathNode, ResolveInfo};
 use gql_resolve::ResolverContext;
 use std::alloc::Global;
+use std::mem;
 
-/// The tasks of merged execution, what is kept of those that were given something, in that order,
-/// and the path of one of them. The first so many are those of the root. What was kept of the tasks
-/// below the base is given away: they are of earlier phases, and of such a phase of a mutation the
-/// last of the first ones is the root key.
+/// The tasks of merged execution, what is stored of those that were given something, and the path
+/// of one of them. What came to no object has its place at once, by its number; of the others it is
+/// kept what they came to, in the order of answers. The first so many tasks are those of the root.
+/// What was stored of the tasks below the base is given away: they are of earlier phases, and of
+/// such a phase of a mutation the last of the first ones is the root key.
 #[derive(Drop)]
 pub struct TreePlan<'a, V> {
     pub tasks: Vec<Task<'a, V>>,
     pub kept: Vec<Kept<'a, V>>,
+    pub places: Vec<Option<Place>>,
     pub path: Vec<PathSegment>,
     pub base: usize,
     pub roots: usize,
     pub ghost laid: { laid roots (entries_in kept.items) ≡ Some (length tasks.items) },
     pub ghost deep: { (k : ℕ) (task : TaskOf V) → roots ≤ k → slice_get tasks.items k ≡ Some task
         → IsDeep (job_of_task task) },
+    pub ghost within: { length places.items ≤ length tasks.items },
 }
 
 impl<'a, V: Drop> TreePlan<'a, V> {
-    ghost use Rattle.std.specs.Prelude.{ℕ, ◌≡◌, ◌<◌, ◌++◌, ◌∷◌, [], Ok, None, length, OnOk};
+    ghost use Rattle.std.specs.Prelude.{ℕ, ◌≡◌, ◌<◌, ◌++◌, ◌∷◌, [], Ok, None, Some, length, OnOk};
     ghost use Rattle.gql_engine.specs.declared.given.Given.TheVariants.{Put};
-    ghost use Rattle.gql_merged.specs.Fitting.{entries_in, HoldsSince};
+    ghost use Rattle.gql_merged.specs.Assembling.{place_alone};
+    ghost use Rattle.gql_merged.specs.Holds.{HoldsSince, store_in};
+    ghost use Rattle.gql_merged.specs.Standing.{PutsAt};
     ghost use Rattle.gql_merged.specs.Tasks.{job_of_task, jobs_in};
 
     /// A plan without tasks.
@@ -50,6 +58,7 @@ impl<'a, V: Drop> TreePlan<'a, V> {
         TreePlan {
             tasks: Vec::new(alloc),
             kept: Vec::new(alloc),
+            places: Vec::new(alloc),
             path: Vec::new(alloc),
             base: 0,
             roots: 0,
@@ -65,7 +74,7 @@ impl<'a, V: Drop> TreePlan<'a, V> {
         ensures held { OnOk result ((number : ℕ)
             → number < length (jobs_in self.old.tasks.items)
             → HoldsSince self.new.base (jobs_in self.new.tasks.items)
-            (entries_in self.new.kept.items) number (Put (Ok None))) }
+            (store_in self.new.kept.items self.new.places.items) number (Put (Ok None))) }
     {
         let base = self.tasks.len();
         self.tasks.push(task)?;
@@ -74,15 +83,32 @@ impl<'a, V: Drop> TreePlan<'a, V> {
         Ok(())
     }
 
-    /// Ends a phase: what is kept of its tasks is given away.
-    pub(crate) fn close(&mut self, alloc: Global) -> Vec<Kept<'a, V>>
-        ensures kept { result ≡ self.old.kept }
+    /// Ends a phase: what is stored of its tasks is given away.
+    pub(crate) fn close(&mut self, alloc: Global) -> (Vec<Kept<'a, V>>, Vec<Option<Place>>)
+        ensures kept { result.0 ≡ self.old.kept }
+        ensures places { result.1 ≡ self.old.places }
         ensures tasks { self.new.tasks ≡ self.old.tasks }
         ensures closed { self.new.kept.items ≡ [] }
     {
         self.base = self.tasks.len();
         self.roots = self.tasks.len();
-        std::mem::replace(&mut self.kept, Vec::new(alloc))
+        let kept = mem::replace(&mut self.kept, Vec::new(alloc));
+        let places = mem::replace(&mut self.places, Vec::new(alloc));
+        (kept, places)
+    }
+
+    /// Puts the place of a task that came to no object.
+    fn put_alone(&mut self, alloc: Global, number: usize, filled: Filled<'a, V>) -> Made<()>
+        requires within { number < length self.old.tasks.items }
+        requires alone { filled.parents.items ≡ [] }
+        ensures tasks { self.new.tasks ≡ self.old.tasks }
+        ensures kept { self.new.kept ≡ self.old.kept }
+        ensures base { self.new.base ≡ self.old.base }
+        ensures puts { OnOk result (PutsAt (Some (place_alone filled.entry)) number
+            self.old.places.items self.new.places.items) }
+    {
+        let place = place_alone(alloc, filled)?;
+        put_place_at(&mut self.places, number, place)
     }
 }
 
@@ -91,7 +117,7 @@ impl<'a, V: Drop> Plan<V> for TreePlan<'a, V> {
     ghost use Rattle.gql_engine.specs.Given.{beneath_given};
     ghost use Rattle.gql_engine.specs.Plan.{HasMade};
     ghost use Rattle.gql_engine.specs.declared.given.Given.{Given as GivenTo};
-    ghost use Rattle.gql_merged.specs.Fitting.{entries_in, HoldsSince};
+    ghost use Rattle.gql_merged.specs.Holds.{HoldsSince, store_in};
     ghost use Rattle.gql_merged.specs.Jobs.{asked_by_job, Job, jobs_beneath};
     ghost use Rattle.gql_merged.specs.Tasks.{IsAimed, jobs_in};
     ghost use Rattle.gql_merged.specs.NeverRoots.{none_is_root};
@@ -105,7 +131,8 @@ impl<'a, V: Drop> Plan<V> for TreePlan<'a, V> {
     ghost beneath = { λ task answer. jobs_beneath task answer };
 
     ghost holds = { λ plan number given.
-        HoldsSince plan.base (jobs_in plan.tasks.items) (entries_in plan.kept.items) number given };
+        HoldsSince plan.base (jobs_in plan.tasks.items)
+        (store_in plan.kept.items plan.places.items) number given };
 
     ghost aims = { λ plan number. IsAimed plan.tasks.items plan.path.items number };
 
@@ -157,19 +184,24 @@ impl<'a, V: Drop> Plan<V> for TreePlan<'a, V> {
             → IfOk result (HasMade (jobs_in self.old.tasks.items) (jobs_in self.new.tasks.items)
             (beneath_given jobs_beneath task given)) }
         ensures holds { OnOk result (HoldsSince self.new.base (jobs_in self.new.tasks.items)
-            (entries_in self.new.kept.items) number given) }
+            (store_in self.new.kept.items self.new.places.items) number given) }
         ensures keeps { OnOk result ((other : ℕ) (g : GivenTo V) → (other ≡ number → ⊥)
             → HoldsSince self.old.base (jobs_in self.old.tasks.items)
-            (entries_in self.old.kept.items) other g
+            (store_in self.old.kept.items self.old.places.items) other g
             → HoldsSince self.new.base (jobs_in self.new.tasks.items)
-            (entries_in self.new.kept.items) other g) }
+            (store_in self.new.kept.items self.new.places.items) other g) }
     {
         let first = self.tasks.len();
         let mut more = Vec::new(alloc);
         let filled = fill_given(alloc, &self.tasks[number], given, &mut more)?;
+        if filled.parents.is_empty() {
+            self.put_alone(alloc, number, filled)?;
+            return Ok(0);
+        }
         let count = more.len();
-        self.kept.reserve(count + 1)?;
+        self.kept.reserve(1)?;
         self.tasks.append(&mut more)?;
+        open_place(&mut self.places, number);
         self.kept.push_reserved(Kept {
             number,
             first,

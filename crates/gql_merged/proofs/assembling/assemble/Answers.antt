@@ -27,6 +27,6 @@ returns-clause-length g c =
     part_length c.args.roots c.args.kept.items c.args.places.now.items c.kept.kept.items c.kept.places.items none c.kept.invariant
 
 pub returns-clause-placed : goal.returns-clause-placed
-returns-clause-placed g c = λ base jobs answer early open_are same held.
+returns-clause-placed g c = λ base jobs answer early same held.
     let none = no_length c.kept.kept.items (sym c.kept.kept.ok.0 ∙ c.in_default.ensures.cases.0) in
-    part_last c.args.roots c.args.kept.items c.args.places.now.items c.kept.kept.items c.kept.places.items none c.kept.invariant base jobs answer early open_are same held
+    part_last c.args.roots c.args.kept.items c.args.places.now.items c.kept.kept.items c.kept.places.items none c.kept.invariant base jobs answer early same held

@@ -6,7 +6,7 @@ use Rattle.gql_engine.proofs.RunLemmas.{all_answered}
 use Rattle.gql_engine.specs.Parts.{at, outside, root_parts}
 use Rattle.gql_engine.specs.Phases.{NextRoot, serving_by}
 use Rattle.gql_engine.specs.declared.given.Given.TheVariants.{Put}
-use Rattle.gql_merged.specs.Fitting.{entries_in}
+use Rattle.gql_merged.specs.Holds.{store_in}
 use Rattle.gql_merged.specs.Serial.{answer_in_phase}
 use Rattle.gql_merged.specs.Tasks.{job_of_task, jobs_in}
 use Rattle.gql_merged.proofs.KeyLemmas.{has_place, key_cut_before, key_cut_behind, key_cut_within, key_over, key_within, last_there, phase_held, right_first}
@@ -128,7 +128,7 @@ returns-in-Ok-keep_key-clause-placed g c = λ law calm.
     let progress = over.progress law calm root (next_root opens c.requires.between) in
     let right = progress.right c.len-number.result
     (right_first _ _ _ c.args.arena.now.states.items c.open_key.new.arena.states.items c.len-number.result c.in-Ok.ensures.states (number ∙ sym c.requires.between.lengths)) in
-    let held = phase_held answer c.run_phase.new.plan.base c.len-number.result jobs (entries_in c.run_phase.new.plan.kept.items) c.run_phase.new.arena.states.items right
+    let held = phase_held answer c.run_phase.new.plan.base c.len-number.result jobs (store_in c.run_phase.new.plan.kept.items c.run_phase.new.plan.places.items) c.run_phase.new.arena.states.items right
     (all_answered over.sound over.none) in
     has_place answer root c.args.own.now.items c.open_key.new.own.items c.keep_key.new.own.items c.in-Ok.ensures.own (c.in-Ok-keep_key.ensures.placed root answer there held)
 

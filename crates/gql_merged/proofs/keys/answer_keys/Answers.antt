@@ -35,7 +35,6 @@ keys-preserved g c =
       within = (let w = drop_within n all root rest next in let l = long in omega arith);
       keys = (subst (λ (ts : List (Task g.row.R-Own.Denot)). AllByRecursion IsKey (jobs_in ts)) c.in-Some.ensures.items c.keys.invariant.keys).1;
       closed = c.in_ok-answer_key.ensures.closed;
-      places = c.in_ok-answer_key.ensures.places;
       placed = λ law calm.
           let serving = serving_by g.R.ResolverSet c.args.resolvers.now in
           let world = g.R.ResolverSet.world c.args.resolvers.now in

@@ -16,7 +16,6 @@ invariant-keys g l = record {
   within : length l.own.items ≤ length (jobs_in l.initial.tasks.items);
   keys : AllByRecursion IsKey (jobs_in l.tasks.items);
   closed : l.plan.kept.items ≡ [];
-  places : length l.places.items ≤ length l.plan.tasks.items;
   placed : g.R.ResolverSet.is_lawful l.initial.resolvers → g.H.Rounds.are_quiet l.initial.hooks
       → PlacedInTurn (serving_by g.R.ResolverSet l.initial.resolvers) (g.R.ResolverSet.world l.initial.resolvers) (take (length l.own.items) (jobs_in l.initial.tasks.items)) l.own.items;
 }

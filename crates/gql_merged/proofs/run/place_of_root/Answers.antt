@@ -9,14 +9,14 @@ use Rattle.gql_merged.specs.Standing.{Paired, present}
 use Rattle.gql_merged.specs.Tasks.{job_of_task, jobs_in}
 use Rattle.gql_merged.specs.declared.level.Level.{Level}
 use Rattle.gql_merged.specs.declared.parent.Parent.{Parent}
-use Rattle.gql_merged.proofs.AssemblyLemmas.{none_before, placed_paired, zero_low}
+use Rattle.gql_merged.proofs.AssemblyLemmas.{held_over, placed_paired, zero_low}
 use Rattle.gql_merged.proofs.EntryLemmas.{laid_grows}
 use Rattle.gql_merged.proofs.RunLemmas.{root_assembled}
 use Rattle.gql_merged.proofs.run.place_of_root.Goals as goal
 
 pub assemble-requires : goal.assemble-requires
 assemble-requires g c =
-    c.args.plan.laid ∙ ap Some (sym (c.in_ok-add_open.ensures.length ∙ c.len-2.ensures ∙ c.args.plan.tasks.ok.0))
+    c.args.plan.laid ∙ ap Some (sym (c.in_ok-add_open.ensures.length ∙ c.len.ensures ∙ c.args.plan.tasks.ok.0))
 
 pub returns : goal.returns
 returns g c = λ answer held.
@@ -25,9 +25,9 @@ returns g c = λ answer held.
     let own = present c.from_vec-own.result.items in
     let jobs = jobs_in c.args.plan.tasks.items in
     let same = length-map c.args.plan.tasks.items job_of_task in
-    let count = c.in_ok-add_open.ensures.length ∙ c.len-2.ensures ∙ c.args.plan.tasks.ok.0 in
-    let placed = c.in_ok-assemble.ensures.placed 0 jobs answer (zero_low c.args.plan.roots)
-    (λ k o above is. c.in_ok-add_open.ensures.open k o (none_before c.in_ok-places.ensures.items k) is) (same ∙ sym count) (λ k job above is. held k job is) in
+    let count = c.in_ok-add_open.ensures.length ∙ c.len.ensures ∙ c.args.plan.tasks.ok.0 in
+    let placed = c.in_ok-assemble.ensures.placed 0 jobs answer (zero_low c.args.plan.roots) (same ∙ sym count)
+    (held_over answer 0 jobs c.args.plan.kept.items c.args.plan.places.items c.add_open.new.places.items c.in_ok-add_open.ensures.same (λ k job above is. held k job is)) in
     root_assembled answer c.args.pos c.args.root.now.value _ own c.in_ok-members.members _
     (subst (λ os. Paired (IsRight answer) (take c.args.plan.roots jobs) (present os)) (sym c.from_vec-own.ensures.items)
     (placed_paired answer c.args.plan.roots jobs c.assemble.new.places.items c.in_ok-assemble.ensures.length

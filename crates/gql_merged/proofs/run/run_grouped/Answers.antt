@@ -8,7 +8,7 @@ use Rattle.gql_engine.proofs.RunLemmas.{all_answered, first_sound}
 use Rattle.gql_engine.specs.Parts.{at, due_by, outside}
 use Rattle.gql_engine.specs.Progress.{seen}
 use Rattle.gql_engine.specs.Rounds.{KeepNumbers, RoundsStopped, RoundsWhole}
-use Rattle.gql_merged.specs.Fitting.{entries_in}
+use Rattle.gql_merged.specs.Holds.{store_in}
 use Rattle.gql_merged.specs.Jobs.{asked_by_job, Job}
 use Rattle.gql_merged.specs.NeverRoots.{no_roots}
 use Rattle.gql_merged.specs.Parents.{standing_behind}
@@ -89,9 +89,9 @@ returns-in_err-place_of_root-clause-stopped g c = λ law calm.
     let went = c.in_ok-finish.ensures.stretch.went in
     let progress = went.passed.progress law calm (answers_due g.R.ResolverSet g.P.Turns c.args.by c.args.scene.now old) (due_agrees g.R.ResolverSet g.P.Turns c.args.by c.args.scene.now old) in
     let last = jobs_in c.finish.new.plan.tasks.items in
-    let entries = entries_in c.in_ok-plan.plan.kept.items in
-    let entries' = entries_in c.finish.new.plan.kept.items in
-    let finishes : Finishes g.R.ResolverSet g.P.Turns c.args.by c.args.scene.now old new first last entries entries' c.in_ok-arena.arena.states.items c.finish.new.arena.states.items = record {
+    let store = store_in c.in_ok-plan.plan.kept.items c.in_ok-plan.plan.places.items in
+    let store' = store_in c.finish.new.plan.kept.items c.finish.new.plan.places.items in
+    let finishes : Finishes g.R.ResolverSet g.P.Turns c.args.by c.args.scene.now old new first last store store' c.in_ok-arena.arena.states.items c.finish.new.arena.states.items = record {
       lengths = went.sound.lengths;
       whole = sym went.sound.waits ∙ c.in_ok-finish.ensures.answered;
       base = c.in_ok-plan.plan.base;
@@ -99,7 +99,7 @@ returns-in_err-place_of_root-clause-stopped g c = λ law calm.
       right = progress.right 0;
       ran = progress.ran;
     } in
-    on_err c.from_residual-in_err-place_of_root.result _ (stopped_whole g.R.ResolverSet g.P.Turns c.args.by c.args.scene.now old first c.in_ok-arena.arena.states.items begins new last entries entries'
+    on_err c.from_residual-in_err-place_of_root.result _ (stopped_whole g.R.ResolverSet g.P.Turns c.args.by c.args.scene.now old first c.in_ok-arena.arena.states.items begins new last store store'
     c.finish.new.arena.states.items finishes
     (λ before entries pace some told_is. each_so_far before entries c.len.result (so_far_whole (went.passed.paces pace calm)) some told_is c.in_ok-arena.ensures.states))
 
@@ -121,9 +121,9 @@ returns-clause-places g c = λ law calm n nests.
     let went = c.in_ok-finish.ensures.stretch.went in
     let progress = went.passed.progress law calm (answers_due g.R.ResolverSet g.P.Turns c.args.by c.args.scene.now old) (due_agrees g.R.ResolverSet g.P.Turns c.args.by c.args.scene.now old) in
     let last = jobs_in c.finish.new.plan.tasks.items in
-    let entries = entries_in c.in_ok-plan.plan.kept.items in
-    let entries' = entries_in c.finish.new.plan.kept.items in
-    let finishes : Finishes g.R.ResolverSet g.P.Turns c.args.by c.args.scene.now old new first last entries entries' c.in_ok-arena.arena.states.items c.finish.new.arena.states.items = record {
+    let store = store_in c.in_ok-plan.plan.kept.items c.in_ok-plan.plan.places.items in
+    let store' = store_in c.finish.new.plan.kept.items c.finish.new.plan.places.items in
+    let finishes : Finishes g.R.ResolverSet g.P.Turns c.args.by c.args.scene.now old new first last store store' c.in_ok-arena.arena.states.items c.finish.new.arena.states.items = record {
       lengths = went.sound.lengths;
       whole = sym went.sound.waits ∙ c.in_ok-finish.ensures.answered;
       base = c.in_ok-plan.plan.base;
@@ -136,7 +136,7 @@ returns-clause-places g c = λ law calm n nests.
     c.in_ok-place_of_root.field-0 n (c.in_ok-root.ensures.stands ∙ query_stands c.args.by c.args.scene.now c.requires) keeps
     (roots_enough c.args.by c.args.scene.now c.finish.new.plan.tasks.items c.finish.new.plan.roots keeps c.finish.new.plan.deep)
     (c.in_ok-place_of_root.ensures (due_by g.R.ResolverSet c.args.resolvers.now)
-    (all_held g.R.ResolverSet g.P.Turns c.args.by c.args.scene.now old first c.in_ok-arena.arena.states.items begins new last entries entries' c.finish.new.arena.states.items finishes)) nests
+    (all_held g.R.ResolverSet g.P.Turns c.args.by c.args.scene.now old first c.in_ok-arena.arena.states.items begins new last store store' c.finish.new.arena.states.items finishes)) nests
 
 pub returns-clause-record : goal.returns-clause-record
 returns-clause-record g c = λ law calm.
@@ -156,9 +156,9 @@ returns-clause-record g c = λ law calm.
     let went = c.in_ok-finish.ensures.stretch.went in
     let progress = went.passed.progress law calm (answers_due g.R.ResolverSet g.P.Turns c.args.by c.args.scene.now old) (due_agrees g.R.ResolverSet g.P.Turns c.args.by c.args.scene.now old) in
     let last = jobs_in c.finish.new.plan.tasks.items in
-    let entries = entries_in c.in_ok-plan.plan.kept.items in
-    let entries' = entries_in c.finish.new.plan.kept.items in
-    let finishes : Finishes g.R.ResolverSet g.P.Turns c.args.by c.args.scene.now old new first last entries entries' c.in_ok-arena.arena.states.items c.finish.new.arena.states.items = record {
+    let store = store_in c.in_ok-plan.plan.kept.items c.in_ok-plan.plan.places.items in
+    let store' = store_in c.finish.new.plan.kept.items c.finish.new.plan.places.items in
+    let finishes : Finishes g.R.ResolverSet g.P.Turns c.args.by c.args.scene.now old new first last store store' c.in_ok-arena.arena.states.items c.finish.new.arena.states.items = record {
       lengths = went.sound.lengths;
       whole = sym went.sound.waits ∙ c.in_ok-finish.ensures.answered;
       base = c.in_ok-plan.plan.base;
@@ -166,8 +166,8 @@ returns-clause-record g c = λ law calm.
       right = progress.right 0;
       ran = progress.ran;
     } in
-    let ran = whole_ran g.R.ResolverSet g.P.Turns c.args.by c.args.scene.now old first c.in_ok-arena.arena.states.items begins new last entries entries' c.finish.new.arena.states.items finishes in
-    runs_whole g.R.ResolverSet g.P.Turns c.args.by c.args.scene.now old first c.in_ok-arena.arena.states.items begins new last entries entries' c.finish.new.arena.states.items finishes
+    let ran = whole_ran g.R.ResolverSet g.P.Turns c.args.by c.args.scene.now old first c.in_ok-arena.arena.states.items begins new last store store' c.finish.new.arena.states.items finishes in
+    runs_whole g.R.ResolverSet g.P.Turns c.args.by c.args.scene.now old first c.in_ok-arena.arena.states.items begins new last store store' c.finish.new.arena.states.items finishes
     (λ pace before some. each_paced before ran.entries c.len.result (went.passed.paces pace calm) some ran.told_is c.in_ok-arena.ensures.states (all_answered went.sound c.in_ok-finish.ensures.answered))
 
 pub returns-clause-asked : goal.returns-clause-asked
@@ -188,9 +188,9 @@ returns-clause-asked g c = λ law calm n nests.
     let went = c.in_ok-finish.ensures.stretch.went in
     let progress = went.passed.progress law calm (answers_due g.R.ResolverSet g.P.Turns c.args.by c.args.scene.now old) (due_agrees g.R.ResolverSet g.P.Turns c.args.by c.args.scene.now old) in
     let last = jobs_in c.finish.new.plan.tasks.items in
-    let entries = entries_in c.in_ok-plan.plan.kept.items in
-    let entries' = entries_in c.finish.new.plan.kept.items in
-    let finishes : Finishes g.R.ResolverSet g.P.Turns c.args.by c.args.scene.now old new first last entries entries' c.in_ok-arena.arena.states.items c.finish.new.arena.states.items = record {
+    let store = store_in c.in_ok-plan.plan.kept.items c.in_ok-plan.plan.places.items in
+    let store' = store_in c.finish.new.plan.kept.items c.finish.new.plan.places.items in
+    let finishes : Finishes g.R.ResolverSet g.P.Turns c.args.by c.args.scene.now old new first last store store' c.in_ok-arena.arena.states.items c.finish.new.arena.states.items = record {
       lengths = went.sound.lengths;
       whole = sym went.sound.waits ∙ c.in_ok-finish.ensures.answered;
       base = c.in_ok-plan.plan.base;
@@ -198,7 +198,7 @@ returns-clause-asked g c = λ law calm n nests.
       right = progress.right 0;
       ran = progress.ran;
     } in
-    steps_end g.R.ResolverSet g.P.Turns c.args.by c.args.scene.now old first c.in_ok-arena.arena.states.items begins new last entries entries' c.finish.new.arena.states.items finishes
+    steps_end g.R.ResolverSet g.P.Turns c.args.by c.args.scene.now old first c.in_ok-arena.arena.states.items begins new last store store' c.finish.new.arena.states.items finishes
     n nests c.args.steps.now c.finish.new.steps (went.passed.stepped calm)
 
 pub returns-in_err-finish-clause-unfinished : goal.returns-in_err-finish-clause-unfinished

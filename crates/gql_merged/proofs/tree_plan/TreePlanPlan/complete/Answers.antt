@@ -1,11 +1,50 @@
-use Rattle.std.proofs.Common.{◌∙◌, ◌<◌, ◌++◌, inr, ◌∷◌, [], ap, arith, length, refl}
+use Rattle.std.proofs.Common.{◌∙◌, ◌<◌, ◌++◌, inr, ◌∷◌, [], List, ap, arith, length, length-append, refl, subst, sym}
 use Rattle.std.proofs.lemmas.List.{length-map}
 use Rattle.std.proofs.lemmas.Option.{slice_get_read}
+use Rattle.gql_engine.specs.Plan.{HasMade}
 use Rattle.gql_merged.specs.Fitting.{made_beneath}
+use Rattle.gql_merged.specs.Holds.{HoldsGiven, store_in}
 use Rattle.gql_merged.specs.Tasks.{job_of_task, jobs_in}
 use Rattle.gql_merged.specs.declared.kept.Kept.{Kept}
-use Rattle.gql_merged.proofs.PlanLemmas.{Completes, completes_deep, completes_has, completes_holds, completes_keeps_since, completes_laid, completes_task}
+use Rattle.gql_merged.specs.declared.task.Task.{Task}
+use Rattle.gql_merged.proofs.PlanLemmas.{alone_has, alone_holds, Completes, completes_deep, completes_has, completes_holds, completes_keeps_since, completes_laid, completes_task, alone_keeps, no_items, puts_alone, PutsAlone}
 use Rattle.gql_merged.proofs.tree_plan.TreePlanPlan.complete.Goals as goal
+
+pub put_alone-requires-clause-alone : goal.put_alone-requires-clause-alone
+put_alone-requires-clause-alone g c =
+    no_items c.in_ok-filled.filled.parents.items (Rattle.std.specs.Vec.vec_len c.in_ok-filled.filled.parents) c.in_ok-filled.filled.parents.ok.0 c.if-is_empty.ensures
+
+pub put_alone-requires-clause-within : goal.put_alone-requires-clause-within
+put_alone-requires-clause-within g c = (let l = length-map c.args.self.now.tasks.items job_of_task in let r = c.requires in omega arith)
+
+-- what came to no object has its place
+alone : (g : _) (c : goal.After-drop-more-then-is_empty g)
+    → PutsAlone g.row.V.Denot c.args.self.now.tasks.items c.args.self.now.places.items c.put_alone.new.self.places.items c.args.number c.in_ok-filled.filled
+    (job_of_task c.index.result.now) c.args.given
+alone g c =
+    let tasks = c.args.self.now.tasks.items in
+    let task = c.index.result.now in
+    let within : c.args.number < length tasks = (let l = length-map tasks job_of_task in let r = c.requires in omega arith) in
+    puts_alone tasks c.args.self.now.places.items c.put_alone.new.self.places.items c.args.number c.in_ok-filled.filled task c.args.given
+    (slice_get_read tasks (length tasks) c.args.number task refl within c.index.ensures)
+    c.in_ok-filled.ensures.filled
+    (no_items c.in_ok-filled.filled.parents.items (Rattle.std.specs.Vec.vec_len c.in_ok-filled.filled.parents) c.in_ok-filled.filled.parents.ok.0 c.if-is_empty.ensures)
+    c.in_ok-put_alone.ensures.puts
+
+pub returns-then-is_empty-clause-made : goal.returns-then-is_empty-clause-made
+returns-then-is_empty-clause-made g c = λ task is.
+    subst (λ (ts : List (Task g.row.V.Denot)). HasMade (jobs_in c.args.self.now.tasks.items) (jobs_in ts) (made_beneath c.args.given task) 0)
+    (sym (ap (λ v. v.items) c.in_ok-put_alone.ensures.tasks)) (alone_has (alone g c) task is)
+
+pub returns-then-is_empty-clause-holds : goal.returns-then-is_empty-clause-holds
+returns-then-is_empty-clause-holds g c =
+    inr (subst (λ (ts : List (Task g.row.V.Denot)). HoldsGiven (jobs_in ts) (store_in c.put_alone.new.self.kept.items c.put_alone.new.self.places.items) c.args.number c.args.given)
+    (sym (ap (λ v. v.items) c.in_ok-put_alone.ensures.tasks)) (alone_holds (alone g c) c.put_alone.new.self.kept.items))
+
+pub returns-then-is_empty-clause-keeps : goal.returns-then-is_empty-clause-keeps
+returns-then-is_empty-clause-keeps g c = λ other given differs held.
+    alone_keeps (alone g c) c.args.self.now.base c.put_alone.new.self.base (ap (λ v. v.items) c.in_ok-put_alone.ensures.tasks) (ap (λ v. v.items) c.in_ok-put_alone.ensures.kept)
+    c.in_ok-put_alone.ensures.base other given differs held
 
 pub invariant_of-self-2 : goal.invariant_of-self-2
 invariant_of-self-2 g c =
@@ -16,10 +55,12 @@ invariant_of-self-2 g c =
     = record { number = c.args.number; first = c.len-first.result; count = c.len-count.result; filled = c.in_ok-filled.filled } in
     let within : c.args.number < length tasks = (let l = length-map tasks job_of_task in let r = c.requires in omega arith) in
     let done =
-    completes_task tasks c.append.new.self.items c.fill_given.new.tasks.items c.args.self.now.kept.items c.push_reserved.new.self.items k task given
+    completes_task tasks c.append.new.self.items c.fill_given.new.tasks.items c.args.self.now.kept.items c.push_reserved.new.self.items
+    c.args.self.now.places.items c.open_place.new.places.items k task given
     (slice_get_read tasks (length tasks) c.args.number task refl within c.index.ensures)
     c.in_ok-append.ensures.items
     (c.push_reserved.ensures.items ∙ ap (λ ks. ks ++ k ∷ []) c.in_ok-reserve.ensures.items)
+    c.open_place.ensures.opens
     (c.len-first.ensures ∙ c.args.self.now.tasks.ok.0)
     (c.len-count.ensures ∙ c.fill_given.new.tasks.ok.0)
     (c.in_ok-filled.ensures.tasks ∙ ap (λ ts. jobs_in ts ++ made_beneath given (job_of_task task)) c.new-more.ensures.items)
@@ -27,11 +68,18 @@ invariant_of-self-2 g c =
     record {
       laid = completes_laid done c.args.self.now.roots c.args.self.now.laid;
       deep = completes_deep done c.args.self.now.roots c.args.self.now.deep;
+      within =
+          let l = c.open_place.ensures.length in
+          let w = c.args.self.now.within in
+          let a = ap length c.in_ok-append.ensures.items in
+          let b = length-append tasks c.fill_given.new.tasks.items in
+          omega arith;
     }
 
 -- what was made for the task
 completed : (g : _) (c : goal.After-drop-more-2 g)
     → Completes g.row.V.Denot c.args.self.now.tasks.items c.append.new.self.items c.args.self.now.kept.items c.push_reserved.new.self.items
+    c.args.self.now.places.items c.open_place.new.places.items
     (record { number = c.args.number; first = c.len-first.result; count = c.len-count.result; filled = c.in_ok-filled.filled })
     (job_of_task c.index.result.now) c.args.given
 completed g c =
@@ -41,10 +89,12 @@ completed g c =
     let k : Kept g.row.V.Denot
     = record { number = c.args.number; first = c.len-first.result; count = c.len-count.result; filled = c.in_ok-filled.filled } in
     let within : c.args.number < length tasks = (let l = length-map tasks job_of_task in let r = c.requires in omega arith) in
-    completes_task tasks c.append.new.self.items c.fill_given.new.tasks.items c.args.self.now.kept.items c.push_reserved.new.self.items k task given
+    completes_task tasks c.append.new.self.items c.fill_given.new.tasks.items c.args.self.now.kept.items c.push_reserved.new.self.items
+    c.args.self.now.places.items c.open_place.new.places.items k task given
     (slice_get_read tasks (length tasks) c.args.number task refl within c.index.ensures)
     c.in_ok-append.ensures.items
     (c.push_reserved.ensures.items ∙ ap (λ ks. ks ++ k ∷ []) c.in_ok-reserve.ensures.items)
+    c.open_place.ensures.opens
     (c.len-first.ensures ∙ c.args.self.now.tasks.ok.0)
     (c.len-count.ensures ∙ c.fill_given.new.tasks.ok.0)
     (c.in_ok-filled.ensures.tasks ∙ ap (λ ts. jobs_in ts ++ made_beneath given (job_of_task task)) c.new-more.ensures.items)
