@@ -1,10 +1,13 @@
 -- What a task comes to with its answer, and the tasks beneath it.
-use Rattle.std.proofs.Common.{◌≡◌, not, Bool, List, [], ◌∷◌, ◌++◌, map, refl, ap, sym, ◌∙◌}
+use Rattle.std.proofs.Common.{rules, ◌≡◌, not, Bool, List, [], ◌∷◌, ◌++◌, map, refl, ap, sym, ◌∙◌}
 use Rattle.std.specs.List.{AllByRecursion, flat_map}
 use Rattle.gql_base.specs.TypeRef.{is_nullable}
+use Rattle.gql_base.specs.declared.value.Value.{Value}
 use Rattle.gql_doc.specs.declared.document.Field.{Field}
 use Rattle.gql_doc.specs.declared.document.Positioned.{Positioned}
 use Rattle.gql_meaning.specs.Completion.{Completed, shape_of}
+use Rattle.gql_place.specs.declared.shape.Shape.{the_lemmas}
+use Rattle.gql_place.specs.declared.shape.Shape.TheVariants as shape
 use Rattle.gql_resolve.specs.declared.answer.Answer.{Answer}
 use Rattle.gql_schema.specs.Table.{types_of}
 use Rattle.gql_select.specs.Collected.{own_selections}
@@ -15,7 +18,8 @@ use Rattle.gql_merged.specs.Fitting.{IsFilled}
 use Rattle.gql_merged.specs.Groups.{united}
 use Rattle.gql_merged.specs.Jobs.{completed_by, Job, jobs_beneath}
 use Rattle.gql_merged.specs.Parents.{jobs_of_standing, spot_found, standing_at, standing_behind}
-use Rattle.gql_merged.specs.Stored.{bare, spots}
+use Rattle.gql_merged.specs.Completing.{IsLeaf}
+use Rattle.gql_merged.specs.Stored.{Bare, bare, spots}
 use Rattle.gql_merged.specs.Tasks.{IsDeep, job_with, path_with}
 use Rattle.gql_merged.specs.declared.group.Group.{Group}
 use Rattle.gql_merged.specs.declared.kept.Filled.{Filled}
@@ -23,6 +27,7 @@ use Rattle.gql_merged.specs.declared.level.Node.{Node}
 use Rattle.gql_merged.specs.declared.parent.Found.{Found}
 use Rattle.gql_merged.specs.declared.parent.Parent.{Parent}
 use Rattle.gql_merged.proofs.BeneathLemmas.{deep_found, placed_jobs}
+use Rattle.gql_merged.proofs.StoredLemmas.{spots-Leaf}
 
 pos_with_others : (f : Positioned Field) (gs : List (Positioned Field)) → (with_others f gs).pos ≡ f.pos
 pos_with_others f [] = refl
@@ -37,6 +42,17 @@ module _ {V : Type 0} (parent : Parent V) (node : Node) (answer : Answer V) wher
   pub record Takes (whole : Completed V) (found : List (Found V)) : Type 0 where
     pub whole_is : whole ≡ shape_of (types_of node.basis.types.now) (type_in node.asks) answer.result
     pub found_is : map spot_found found ≡ spots whole (path_with parent.held node)
+
+  module _ (left : Bare) (leaf : IsLeaf (shape_of (types_of node.basis.types.now) (type_in node.asks) answer.result) left) where
+    -- an answer that is a leaf as it stands has no objects
+    pub leaf_takes : Takes (shape.Leaf leaf.value) []
+    leaf_takes = record { whole_is = sym leaf.whole_is; found_is = sym (spots-Leaf V leaf.value (path_with parent.held node)) }
+
+    bare-Leaf : (value : Value) → bare {V = V} (shape.Leaf value) ≡ shape.Leaf value
+    bare-Leaf value = search (rules, the_lemmas)
+
+    pub leaf_bare : left ≡ bare {V = V} (shape.Leaf leaf.value)
+    leaf_bare = leaf.left_is ∙ sym (bare-Leaf leaf.value)
 
   module _ (whole : Completed V) (found : List (Found V)) (takes : Takes whole found) where
     spots_are : map spot_found found ≡ spots (completed_by (job_with parent node) answer) (path_with parent.held node)

@@ -17,6 +17,7 @@ pub mod GroupingLemmas
 pub mod JobLemmas
 pub mod JoiningLemmas
 pub mod KeyLemmas
+pub mod LeafLemmas
 pub mod LevelLemmas
 pub mod MergedLemmas
 pub mod MovingLemmas

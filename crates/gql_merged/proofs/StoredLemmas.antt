@@ -19,7 +19,7 @@ module _ (V : Type 0) where
   spots-Absent : (path : List PathSegment) → spots {V = V} shape.Absent path ≡ []
   spots-Absent path = search (rules, the_lemmas)
 
-  spots-Leaf : (leaf : Value) (path : List PathSegment) → spots {V = V} (shape.Leaf leaf) path ≡ []
+  pub spots-Leaf : (leaf : Value) (path : List PathSegment) → spots {V = V} (shape.Leaf leaf) path ≡ []
   spots-Leaf leaf path = search (rules, the_lemmas)
 
   spots-Fault : (error : Error) (path : List PathSegment) → spots {V = V} (shape.Fault error) path ≡ []

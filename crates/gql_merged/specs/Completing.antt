@@ -1,11 +1,26 @@
 -- What values come to at a type, part by part (GraphQL, October 2021, section 6.4.3).
-use Rattle.std.specs.Prelude.{ℕ, List, Some, if◌then◌else◌}
+use Rattle.std.specs.Prelude.{◌≡◌, ℕ, true, false, List, Option, Some, None, Result, Ok, Err, if◌then◌else◌}
 use Rattle.gql_base.specs.Kinds.{enum_name_of, is_null}
+use Rattle.gql_base.specs.declared.error.Error.{Error}
 use Rattle.gql_base.specs.declared.value.Value.{Value}
-use Rattle.gql_meaning.specs.Completion.{at_enum, at_items, at_scalar, Completed, Completing}
+use Rattle.gql_meaning.specs.Completion.{at_enum, at_items, at_scalar, Completed, Completing, shown}
 use Rattle.gql_place.specs.declared.shape.Shape.TheVariants as shape
+use Rattle.gql_resolve.specs.FieldValue.{value_in}
 use Rattle.gql_resolve.specs.declared.field_value.FieldValue.{FieldValue}
+use Rattle.gql_schema.specs.ScalarRule.{takes}
 use Rattle.gql_schema.specs.declared.scalar_rule.ScalarRule.{ScalarRule}
+use Rattle.gql_merged.specs.Stored.{Bare}
+
+-- a value as a leaf, as it stands
+abbrev pub leaf_of : Option Value → Bare
+leaf_of None = shape.Absent
+leaf_of (Some value) = shape.Leaf value
+
+-- a value is a leaf of the scalar of this name and rule as it stands
+pub record IsShown (name : List ℕ) (rule : ScalarRule) (value : Value) : Type 0 where
+  pub some : is_null value ≡ false
+  pub taken : takes rule value ≡ true
+  pub same : shown name value ≡ value
 
 module _ {V : Type 0} where
   -- a list of these items, each completed
@@ -23,3 +38,19 @@ module _ {V : Type 0} where
   -- a value at the enum of this name and items
   abbrev pub item_at : List ℕ → List (List ℕ) → Value → Completed V
   item_at name items value = absent_if_null value (at_enum name items (enum_name_of value))
+
+  -- the value of what is given as a leaf, if anything is
+  abbrev pub leaf_given : Option (FieldValue V) → Bare
+  leaf_given None = shape.Absent
+  leaf_given (Some given) = leaf_of (value_in given)
+
+  -- the same of what a resolver's result gives
+  abbrev pub leaf_in : Result (Option (FieldValue V)) Error → Bare
+  leaf_in (Err error) = shape.Absent
+  leaf_in (Ok given) = leaf_given given
+
+  -- what is given comes to the leaf that it is as it stands
+  pub record IsLeaf (whole : Completed V) (left : Bare) : Type 0 where
+    pub value : Value
+    pub whole_is : whole ≡ shape.Leaf value
+    pub left_is : left ≡ shape.Leaf value

@@ -11,6 +11,7 @@ ghost use Rattle.gql_merged.specs.Tasks.{IsDeep, job_of_task, jobs_in, job_with,
 use crate::completing::complete_known;
 use crate::kept::Filled;
 use crate::known::Known;
+use crate::leaves::{is_leaf, leaf_in};
 use crate::level::Node;
 use crate::parent::{Found, Held, Parent};
 use crate::paths::steps_with;
@@ -72,6 +73,16 @@ fn fill_answer<'a, V: Drop>(
         name: ty.type_name(),
         ty: node.ty,
     };
+    if is_leaf(&known, ty, &result) {
+        return Ok(Filled {
+            pos: node.group.first.pos,
+            non_null: !ty.is_nullable(),
+            added,
+            headers,
+            shape: leaf_in(result),
+            parents: Vec::new(alloc),
+        });
+    }
     let whole = complete_known(alloc, &known, ty, result)?;
     let mut found = Vec::new(alloc);
     let shape = take_apart(alloc, &parent.held, node, whole, &mut found)?;

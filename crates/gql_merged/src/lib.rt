@@ -23,6 +23,7 @@ mod key_names;
 mod keys;
 mod known;
 pub mod laws;
+mod leaves;
 mod level;
 mod levels;
 mod members;

@@ -210,7 +210,7 @@ fn is_object(ty: Option<&SchemaType>) -> bool
     }
 }
 
-fn is_null_value(value: &Value) -> bool
+pub(crate) fn is_null_value(value: &Value) -> bool
     ensures { result ≡ is_null value.now }
 {
     matches!(value, Value::Null)
