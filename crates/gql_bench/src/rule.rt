@@ -3,7 +3,7 @@ ghost use Rattle.std.specs.Prelude.{◌≡◌, IfOk};
 ghost use Rattle.gql_bench.specs.Rule.{entity_rule, kind_of, rule_of};
 
 use crate::given::given_from;
-use gql_base::{Copied, Items, Made, Name, Text};
+use gql_base::{Items, Made, Name, Text};
 use gql_form::{AnswerForm, Path, RuleForm};
 use gql_request::HeaderOp;
 use gql_resolve::FieldValue;
@@ -89,45 +89,4 @@ fn kind_from(alloc: Global, form: RuleForm) -> Made<RuleKind>
         RuleForm::Read(cell) => Ok(RuleKind::Read(cell.place)),
         RuleForm::Bump(cell) => Ok(RuleKind::Bump(cell.place)),
     }
-}
-
-impl Copied for Rule {
-    fn try_clone(&self, alloc: Global) -> Made<Rule> {
-        let added = self.added.try_clone(alloc)?;
-        let headers = self.headers.try_clone(alloc)?;
-        let kind = self.kind.try_clone(alloc)?;
-        Ok(Rule {
-            delay: self.delay,
-            added,
-            headers,
-            kind,
-        })
-    }
-}
-
-impl Copied for RuleKind {
-    fn try_clone(&self, alloc: Global) -> Made<RuleKind> {
-        match self {
-            RuleKind::Const(given) => Ok(RuleKind::Const(given.try_clone(alloc)?)),
-            RuleKind::None => Ok(RuleKind::None),
-            RuleKind::Fail(message) => Ok(RuleKind::Fail(message.try_clone(alloc)?)),
-            RuleKind::Member(name) => Ok(RuleKind::Member(name.try_clone(alloc)?)),
-            RuleKind::Arg(name) => Ok(RuleKind::Arg(name.try_clone(alloc)?)),
-            RuleKind::Sum(paths) => Ok(RuleKind::Sum(copied_paths(alloc, paths.as_slice())?)),
-            RuleKind::Entities => Ok(RuleKind::Entities),
-            RuleKind::Read(place) => Ok(RuleKind::Read(*place)),
-            RuleKind::Bump(place) => Ok(RuleKind::Bump(*place)),
-        }
-    }
-}
-
-fn copied_paths(alloc: Global, paths: &[Path]) -> Made<Items<Path>>
-    ensures { IfOk result (λ copies. copies ≡ paths.now) }
-{
-    let mut copies = Items::with_capacity(alloc, paths.len())?;
-    for path in paths {
-        let names = path.names.try_clone(alloc)?;
-        copies.push(Path { names })?;
-    }
-    Ok(copies)
 }

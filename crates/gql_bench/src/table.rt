@@ -7,7 +7,6 @@ ghost use Rattle.gql_bench.specs.Cells.{AreBelow, kind_below};
 ghost use Rattle.gql_bench.specs.Table.{table_effect};
 
 use crate::answering::answer_of;
-use crate::bench::Bench;
 use crate::built::bumps;
 use crate::bump::{bumped, is_root};
 use crate::rule::{Rule, RuleKind};
@@ -38,31 +37,32 @@ pub struct TableFuture {
 
 impl Table {
     ghost use Rattle.std.specs.Prelude.{◌≡◌, ◌++◌, ◌∷◌, [], Some, IfOk, IfSome, OnOk, OnErr};
-    ghost use Rattle.std.specs.Prelude.{slice_get};
+    ghost use Rattle.std.specs.Prelude.{length, slice_get};
     ghost use Rattle.gql_resolve.specs.Lawful.{plain_answer};
     ghost use Rattle.gql_resolve.specs.Call.{call_of};
     ghost use Rattle.gql_resolve.specs.Record.{entry_of};
     ghost use Rattle.gql_bench.specs.Rule.{rule_delay};
     ghost use Rattle.gql_bench.specs.Bump.{rule_bumps};
+    ghost use Rattle.gql_bench.specs.Cells.{AreBelow};
     ghost use Rattle.gql_bench.specs.Table.{table_answer, table_effect};
 
-    /// The resolver set of a bench, which has begun nothing.
-    pub fn of(alloc: Global, bench: &Bench) -> Made<Table>
-        ensures lawful { IfOk result ⟦<Table as ResolverSet>⟧.is_lawful }
-        ensures paced { IfOk result ⟦<Table as ResolverSet>⟧.is_paced }
-        ensures rules { IfOk result
-            (λ table. ⟦<Table as ResolverSet>⟧.rules table ≡ bench.now.rules) }
-        ensures world { IfOk result
-            (λ table. ⟦<Table as ResolverSet>⟧.world table ≡ bench.now.cells) }
-        ensures told { IfOk result (λ table. ⟦<Table as ResolverSet>⟧.told table ≡ Some []) }
-        ensures begun { IfOk result (λ table. ⟦<Table as ResolverSet>⟧.begun table ≡ Some []) }
+    /// The resolver set of these rules over these cells, which has begun nothing. Each cell that a
+    /// rule names is one of them.
+    pub fn of(alloc: Global, rules: Items<Rule>, cells: Items<i64>) -> Table
+        requires { AreBelow (length cells) rules }
+        ensures lawful { ⟦<Table as ResolverSet>⟧.is_lawful result }
+        ensures paced { ⟦<Table as ResolverSet>⟧.is_paced result }
+        ensures rules { ⟦<Table as ResolverSet>⟧.rules result ≡ rules }
+        ensures world { ⟦<Table as ResolverSet>⟧.world result ≡ cells }
+        ensures told { ⟦<Table as ResolverSet>⟧.told result ≡ Some [] }
+        ensures begun { ⟦<Table as ResolverSet>⟧.begun result ≡ Some [] }
     {
-        Ok(Table {
-            rules: bench.rules.try_clone(alloc)?,
-            cells: bench.cells.try_clone(alloc)?,
+        Table {
+            rules,
+            cells,
             told: Items::new(alloc),
             begun: Vec::new(alloc),
-        })
+        }
     }
 
     /// The record so far.

@@ -1,9 +1,11 @@
 //! What makes the resolver sets of benches, and holds the last one.
 ghost use Rattle.std.specs.Prelude.{◌≡◌, ℕ, ℤ, List, [], Some, None, IfOk, IfSome, MatchOption};
+ghost use Rattle.std.specs.Prelude.{length};
 ghost use Rattle.gql_resolve.specs.Call.{Call};
+ghost use Rattle.gql_bench.specs.Cells.{AreBelow};
 ghost use Rattle.gql_bench.specs.Table.{table_answer, table_effect, table_delay};
 
-use crate::bench::Bench;
+use crate::rule::Rule;
 use crate::table::Table;
 use gql_base::{Items, Made};
 use gql_resolve::{RecordEntry, ResolverSet};
@@ -18,20 +20,22 @@ pub trait Tables {
     /// The set that is held, if any.
     ghost held: { Self → Option Self.Set };
 
-    /// The resolver set of a bench.
-    fn make(&mut self, alloc: Global, bench: &Bench) -> Made<Self::Set>
+    /// The resolver set of a bench's rules over its cells, which it takes. Each cell that a rule
+    /// names is one of them.
+    fn make(&mut self, alloc: Global, rules: Items<Rule>, cells: Items<i64>) -> Made<Self::Set>
+        requires { AreBelow (length cells) rules }
         ensures held { held self.new ≡ held self.old }
         ensures lawful { IfOk result Self.Set.is_lawful }
         ensures paced { IfOk result Self.Set.is_paced }
-        ensures world { IfOk result (λ set. Self.Set.world set ≡ bench.now.cells) }
-        ensures answer { IfOk result (λ set. (call : Call ℤ) (cells : List ℤ)
-            → Self.Set.answer (Self.Set.rules set) call cells
-            ≡ table_answer bench.now.rules call cells) }
-        ensures effect { IfOk result (λ set. (call : Call ℤ) (cells : List ℤ)
-            → Self.Set.effect (Self.Set.rules set) call cells
-            ≡ table_effect bench.now.rules call cells) }
+        ensures world { IfOk result (λ set. Self.Set.world set ≡ cells) }
+        ensures answer { IfOk result (λ set. (call : Call ℤ) (world : List ℤ)
+            → Self.Set.answer (Self.Set.rules set) call world
+            ≡ table_answer rules call world) }
+        ensures effect { IfOk result (λ set. (call : Call ℤ) (world : List ℤ)
+            → Self.Set.effect (Self.Set.rules set) call world
+            ≡ table_effect rules call world) }
         ensures delay { IfOk result (λ set. (resolver : ℕ)
-            → Self.Set.delay (Self.Set.rules set) resolver ≡ table_delay bench.now.rules resolver) }
+            → Self.Set.delay (Self.Set.rules set) resolver ≡ table_delay rules resolver) }
         ensures told { IfOk result (λ set. Self.Set.told set ≡ Some []) }
         ensures begun { IfOk result (λ set. Self.Set.begun set ≡ Some []) };
 
@@ -65,8 +69,8 @@ impl Tables for TableMaker {
 
     ghost held = { λ maker. maker.held };
 
-    fn make(&mut self, alloc: Global, bench: &Bench) -> Made<Table> {
-        Table::of(alloc, bench)
+    fn make(&mut self, alloc: Global, rules: Items<Rule>, cells: Items<i64>) -> Made<Table> {
+        Ok(Table::of(alloc, rules, cells))
     }
 
     fn take_back(&mut self, set: Table) {

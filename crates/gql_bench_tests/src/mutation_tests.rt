@@ -27,18 +27,21 @@ fn bench_text(alloc: Global, query: &str) -> Made<String> {
     )
 }
 
-/// A schema, a request over it, and the turns of its tasks.
+/// A schema, a request over it, the turns of its tasks, and the table that answers.
 #[derive(Drop)]
 struct Asked {
     schema: Schema,
     request: DynamicRequest<i64>,
     turns: ListTurns,
+    table: Table,
 }
 
 /// What a bench asks, where its schema is sound.
 fn asked_in(alloc: Global, bench: Bench) -> Made<Option<Asked>> {
     let Bench {
         builder,
+        rules,
+        cells,
         requests,
         turns,
         ..
@@ -53,15 +56,17 @@ fn asked_in(alloc: Global, bench: Bench) -> Made<Option<Asked>> {
         schema,
         request: inner.root_value(FieldValue::NULL),
         turns: ListTurns::new(turns),
+        table: Table::of(alloc, rules, cells),
     }))
 }
 
-/// Executes a request over a table.
-fn execute(alloc: Global, asked: &mut Asked, table: &mut Table) -> Made<()> {
+/// Executes a request over its table.
+fn execute(alloc: Global, asked: &mut Asked) -> Made<()> {
     let Asked {
         schema,
         request,
         turns,
+        table,
     } = asked;
     let mut hooks = Hooks::none(alloc);
     match schema.execute(alloc, table, &mut hooks, request, turns) {
@@ -70,19 +75,16 @@ fn execute(alloc: Global, asked: &mut Asked, table: &mut Table) -> Made<()> {
     }
 }
 
-/// The cells of a table behind a request.
-fn cells_after(alloc: Global, mut asked: Asked, mut table: Table) -> Made<Items<i64>> {
-    let executed = execute(alloc, &mut asked, &mut table);
-    drop(asked);
-    executed?;
-    table.snapshot(alloc)
+/// The cells of a table behind its request.
+fn cells_after(alloc: Global, mut asked: Asked) -> Made<Items<i64>> {
+    execute(alloc, &mut asked)?;
+    asked.table.snapshot(alloc)
 }
 
 /// The cells behind the request of a bench, where its schema is sound.
 fn cells_behind(alloc: Global, bench: Bench) -> Made<Option<Items<i64>>> {
-    let table = Table::of(alloc, &bench)?;
     match asked_in(alloc, bench)? {
-        Some(asked) => Ok(Some(cells_after(alloc, asked, table)?)),
+        Some(asked) => Ok(Some(cells_after(alloc, asked)?)),
         None => Ok(None),
     }
 }

@@ -3,7 +3,7 @@ use crate::asking::told;
 use crate::bench_tests::bench;
 use crate::parts::Parts;
 use gql_base::{Items, Made, Pairs, Value, from_json};
-use gql_bench::{ListTurns, Table};
+use gql_bench::{Bench, ListTurns, Table};
 use gql_form::Command;
 use gql_resolve::{ResolverSet, Turns};
 use serde_json::Value as Json;
@@ -76,7 +76,7 @@ fn bench_text(alloc: Global, answer: &str) -> Made<String> {
 fn table(alloc: Global, answer: &str) -> Made<Option<Table>> {
     let text = bench_text(alloc, answer)?;
     match bench(alloc, Command::Execute, text.as_str())? {
-        Some(bench) => Ok(Some(Table::of(alloc, &bench)?)),
+        Some(Bench { rules, cells, .. }) => Ok(Some(Table::of(alloc, rules, cells))),
         None => Ok(None),
     }
 }

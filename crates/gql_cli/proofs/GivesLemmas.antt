@@ -9,11 +9,13 @@ use Rattle.gql_bench.specs.declared.bench.Bench.{Bench}
 use Rattle.gql_bench.specs.declared.list_turns.ListTurns.{ListTurns}
 use Rattle.gql_cli.proofs.ExecutionLemmas.{all_executed, Stands}
 use Rattle.gql_cli.proofs.LawLemmas.{if-response}
-use Rattle.gql_cli.specs.Answer.{IsResponseTo}
+use Rattle.gql_cli.specs.Answer.{IsAnswerOver, IsAnswerTo, IsResponseTo}
 use Rattle.gql_cli.specs.Command.{form_command}
 use Rattle.gql_cli.specs.Execution.{first_of}
 use Rattle.gql_cli.specs.Gives.{BenchGives, errors_in, Gives, HoldsTold, IsAnswer, JsonGives, json_of, outcome_for, response_text, WithRecord}
 use Rattle.gql_cli.specs.Request.{AreAlike, requests_for}
+use Rattle.gql_cli.specs.declared.answer.Answer.{Answer}
+use Rattle.gql_cli.specs.declared.answer.Answer.TheVariants as answer
 use Rattle.gql_cli.specs.declared.command.Command.{Command}
 use Rattle.gql_cli.specs.declared.outcome.Outcome.{Outcome}
 use Rattle.gql_cli.specs.declared.outcome.Outcome.TheVariants.{Answered, BadSchema, BadShape, HasErrors, Loaded, NotBuilt, NotJson, ReadFault, TooLong, Usage}
@@ -33,6 +35,20 @@ pub response_to : {S F : Type 0} (set : Resolving S ℤ (List ℤ) F) (bench : B
 response_to set bench start new at schema made response alike executes =
     let (entries, told, is) = all_executed set bench schema (requests_for bench) (responses_of response) [] (first_of bench) start new at executes in
     record { schema = schema; is = made; alike = alike; entries = entries; is_told = told; executed = is }
+
+-- the answer to the requests of a bench, over such a set, which is held behind it
+module _ {S F : Type 0} (set : Resolving S ℤ (List ℤ) F) (bench : Bench) (start new : Seen S ListTurns) (at : Stands set bench [] (first_of bench) start) where
+  abbrev Over : Answer → Type 0
+  Over = IsAnswerOver set ghosts bench.builder bench.requests bench.root start new
+
+  answer-to : (answered : Answer) → Over answered → IsAnswerTo bench (set.told new.set) answered
+  answer-to (answer.Response response) is = response_to set bench start new at is.schema is.is response is.alike is.executed
+  answer-to (answer.BadSchema text) is = is
+
+  pub answer_held : {E : Type 0} (held : Option S) → held ≡ Some new.set → (result : Result Answer E) → IfOk result Over
+      → IfOk result (λ answered. (s : S) × (held ≡ Some s) × IsAnswerTo bench (set.told s) answered)
+  answer_held held is (Ok answered) over = (new.set, is, answer-to answered over)
+  answer_held held is (Err want) over = tt
 
 -- what is shown of the set that is held is what it told
 pub shown-told : {S : Type 0} (told : S → Option (List RecordEntry)) (held : Option S) (set : S) → held ≡ Some set → (shown entries : List RecordEntry)

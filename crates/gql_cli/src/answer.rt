@@ -1,9 +1,7 @@
 //! The answer to a bench's requests.
 ghost use Rattle.std.specs.Prelude.{◌≡◌, IfOk, Some};
-ghost use Rattle.gql_bench.specs.TableMaker.{IsSetOf};
-ghost use Rattle.gql_cli.specs.Answer.{IsAnswerTo};
+ghost use Rattle.gql_cli.specs.Answer.{IsAnswerOver, IsAnswerTo};
 ghost use Rattle.gql_cli.specs.Request.{AreAlike, rooted_with};
-ghost use Rattle.gql_engine.specs.Phases.{serving_by};
 ghost use Rattle.gql_engine.specs.Progress.{seen};
 ghost use Rattle.gql_exec.specs.Batch.{ExecutesAll, ExecutesOne};
 ghost use Rattle.gql_request.specs.BatchRequest.{requests_of};
@@ -11,7 +9,7 @@ ghost use Rattle.gql_request.specs.BatchResponse.{responses_of};
 
 use gql_base::{Copied, Items, Made, Text};
 use gql_bench::{Bench, ListTurns, Tables};
-use gql_exec::{DynamicRequest, DynamicRequestExt, Schema};
+use gql_exec::{DynamicRequest, DynamicRequestExt, Schema, SchemaBuilder};
 use gql_request::{BatchRequest, BatchResponse, Hooks, Request, Response};
 use gql_resolve::{FieldValue, ResolverSet, Turns};
 use std::alloc::{AllocError, Global};
@@ -25,45 +23,45 @@ pub(crate) enum Answer {
     BadSchema(Text),
 }
 
-/// The answer to the requests of a bench, over a set that `tables` makes, and that is given back to
-/// them.
+/// The answer to the requests of a bench, over a set that `tables` makes of the bench's rules and
+/// cells, and that is given back to them.
 pub(crate) fn answer_by<M: Tables>(alloc: Global, bench: Bench, tables: &mut M) -> Made<Answer>
     ensures { IfOk result (λ answer. (set : M.Set) × (M.held tables.new ≡ Some set)
         × IsAnswerTo bench (M.Set.told set) answer) }
 {
-    let mut set = tables.make(alloc, &bench)?;
-    let answer = answer_to(alloc, bench, &mut set);
-    tables.take_back(set);
-    answer
-}
-
-/// The answer to the requests of a bench, over a set that is made for the bench, whose rules are let
-/// go of first: the set has its own.
-fn answer_to<S: ResolverSet<Own = i64, World = Items<i64>>>(
-    alloc: Global,
-    bench: Bench,
-    set: &mut S,
-) -> Made<Answer>
-    requires set { IsSetOf bench (S.is_lawful set.old) (serving_by S.ResolverSet set.old)
-        (S.told set.old) }
-    requires world { S.world set.old ≡ bench.cells }
-    ensures { IfOk result (IsAnswerTo bench (S.told set.new)) }
-{
     let Bench {
         builder,
         rules,
+        cells,
         root,
         turns,
         requests,
         ..
     } = bench;
-    drop(rules);
+    let mut set = tables.make(alloc, rules, cells)?;
+    let mut turns = ListTurns::new(turns);
+    let answer = answer_over(alloc, builder, requests, root, &mut set, &mut turns);
+    tables.take_back(set);
+    answer
+}
+
+/// The answer to requests over the schema of a builder. The root of each has this value.
+fn answer_over<S: ResolverSet<Own = i64>>(
+    alloc: Global,
+    builder: SchemaBuilder,
+    requests: BatchRequest,
+    root: FieldValue<i64>,
+    set: &mut S,
+    turns: &mut ListTurns,
+) -> Made<Answer>
+    ensures { IfOk result (IsAnswerOver S.ResolverSet ⟦<ListTurns as Turns>⟧ builder requests root
+        (seen set.old turns.old) (seen set.new turns.new)) }
+{
     let schema = match builder.finish(alloc)? {
         Ok(schema) => schema,
         Err(error) => return Ok(Answer::BadSchema(error.text)),
     };
-    let mut turns = ListTurns::new(turns);
-    let response = answers_over(alloc, &schema, requests, root, set, &mut turns)?;
+    let response = answers_over(alloc, &schema, requests, root, set, turns)?;
     Ok(Answer::Response(response))
 }
 
