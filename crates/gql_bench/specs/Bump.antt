@@ -1,5 +1,5 @@
 -- The rule `bump`: a root of a mutation raises a cell by its argument `by`.
-use Rattle.std.specs.Prelude.{ℕ, Bool, false, ℤ, pos, ◌+ℤ◌, List, codes, get_or, slice_set, Option, Some, None}
+use Rattle.std.specs.Prelude.{◌≡◌, ℕ, false, ℤ, pos, ◌+ℤ◌, List, [], codes, get_or, slice_set, Option, Some, None}
 use Rattle.std.specs.Prelude.{if◌then◌else◌, option_map}
 use Rattle.gql_base.specs.Kinds.{is_null}
 use Rattle.gql_base.specs.Pairs.{under}
@@ -59,7 +59,9 @@ abbrev pub rule_effect : Option Rule → Call ℤ → List ℤ → List ℤ
 rule_effect None call cells = cells
 rule_effect (Some rule) call cells = kind_effect rule.kind call cells
 
--- whether a rule, if any, may change a cell
-abbrev pub rule_bumps : Option Rule → Bool
-rule_bumps None = false
-rule_bumps (Some rule) = bumps rule
+-- a rule gives what it gives at once and nothing else, and changes no cell
+pub record IsPlainRule (rule : Rule) : Type 0 where
+  pub at_once : rule.delay ≡ 0
+  pub none_added : rule.added ≡ []
+  pub no_headers : rule.headers ≡ []
+  pub stays : bumps rule ≡ false

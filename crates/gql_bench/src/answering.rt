@@ -1,14 +1,18 @@
 //! What a resolver answers to a call in a world of cells, by its rule.
-ghost use Rattle.std.specs.Prelude.{◌≡◌, ◌<◌, [], map, option_and_then, IfOk, IsTrue, length};
+ghost use Rattle.std.specs.Prelude.{◌≡◌, ◌<◌, [], map, option_and_then, IfOk, IfSome, IsTrue};
+ghost use Rattle.std.specs.Prelude.{length};
 ghost use Rattle.std.specs.Option.{option_copied};
 ghost use Rattle.gql_base.specs.Kinds.{object_of};
 ghost use Rattle.gql_resolve.specs.Call.{call_of};
 ghost use Rattle.gql_resolve.specs.FieldValue.{value_in};
+ghost use Rattle.gql_resolve.specs.Lawful.{plain_answer};
 ghost use Rattle.gql_bench.specs.Answer.{answer_by, bump_or_read, cell_at, given_under};
 ghost use Rattle.gql_bench.specs.Answer.{kind_outcome, parent_member, parent_members};
+ghost use Rattle.gql_bench.specs.Bump.{IsPlainRule, kind_effect};
 ghost use Rattle.gql_bench.specs.Cells.{kind_below, rule_below};
 ghost use Rattle.gql_bench.specs.Outcome.{plain_error};
 
+use crate::built::bumps;
 use crate::bump::{bump_of, is_root};
 use crate::entities::entities_of;
 use crate::rule::{Rule, RuleKind};
@@ -37,6 +41,36 @@ pub(crate) fn answer_of(
         added,
         headers,
     })
+}
+
+/// The value by a rule, if any, where the rule gives it at once and nothing else, and changes no
+/// cell. A cell that the rule names is one of these.
+#[tactic(auto, using(crate::proofs::PlainRuleLemmas::plain_is, crate::proofs::PlainRuleLemmas::plain_stays))]
+pub(crate) fn value_of(
+    alloc: Global,
+    rule: &Rule,
+    call: &ResolverContext<'_, i64>,
+    cells: &[i64],
+) -> Made<Option<Option<FieldValue<i64>>>>
+    requires { IsTrue (rule_below (length cells.now) rule.now) }
+    ensures value { IfOk result (λ found. IfSome found (λ value. (rule.now.delay ≡ 0)
+        × (plain_answer value ≡ answer_by rule.now (call_of call.now) cells.now))) }
+    ensures effect { IfOk result (λ found. IfSome found (λ value.
+        kind_effect rule.now.kind (call_of call.now) cells.now ≡ cells.now)) }
+{
+    if !is_plain(rule) {
+        return Ok(None);
+    }
+    let outcome = outcome_of(alloc, &rule.kind, call, cells)?;
+    Ok(outcome.ok())
+}
+
+/// Whether a rule gives a value or an error at once and nothing else, and changes no cell.
+fn is_plain(rule: &Rule) -> bool
+    ensures { IsTrue result → IsPlainRule rule.now }
+{
+    let alone = rule.added.is_empty() && rule.headers.is_empty();
+    rule.delay == 0 && alone && !bumps(rule)
 }
 
 /// Errors with these messages.

@@ -1,13 +1,11 @@
 //! The program's resolver set: the rules of a bench, over its cells.
-ghost use Rattle.std.specs.Prelude.{◌≡◌, ◌<◌, IfSome, IsTrue, length};
+ghost use Rattle.std.specs.Prelude.{◌≡◌, ◌<◌, IsTrue, length};
 ghost use Rattle.gql_resolve.specs.Call.{call_of};
-ghost use Rattle.gql_resolve.specs.Lawful.{plain_answer};
 ghost use Rattle.gql_bench.specs.Bump.{bump_effect, kind_effect};
 ghost use Rattle.gql_bench.specs.Cells.{AreBelow, kind_below};
 ghost use Rattle.gql_bench.specs.Table.{table_effect};
 
-use crate::answering::answer_of;
-use crate::built::bumps;
+use crate::answering::{answer_of, value_of};
 use crate::bump::{bumped, is_root};
 use crate::rule::{Rule, RuleKind};
 use gql_base::{Copied, Items, Made};
@@ -42,7 +40,6 @@ impl Table {
     ghost use Rattle.gql_resolve.specs.Call.{call_of};
     ghost use Rattle.gql_resolve.specs.Record.{entry_of};
     ghost use Rattle.gql_bench.specs.Rule.{rule_delay};
-    ghost use Rattle.gql_bench.specs.Bump.{rule_bumps};
     ghost use Rattle.gql_bench.specs.Cells.{AreBelow};
     ghost use Rattle.gql_bench.specs.Table.{table_answer, table_effect};
 
@@ -97,35 +94,23 @@ impl Table {
         }
     }
 
-    /// Whether a resolver may change a cell.
-    fn may_bump(&self, resolver: u32) -> bool
-        ensures { result ≡ rule_bumps (slice_get self.now.rules resolver) }
-    {
-        match self.rules.get(resolver as usize) {
-            Some(rule) => bumps(rule),
-            None => false,
-        }
-    }
-
-    /// The value of a resolver with this delay, if any, where it answers at once and nothing else,
-    /// and changes no cell.
-    #[tactic(auto, using(crate::proofs::BumpLemmas::no_bump))]
+    /// The value of a resolver, if any, where it answers at once and nothing else, and changes no
+    /// cell.
     fn value_at_once(
         &self,
         alloc: Global,
         call: &ResolverContext<'_, i64>,
-        delay: u64,
     ) -> Made<Option<Option<FieldValue<i64>>>>
-        ensures value { IfOk result (λ found. IfSome found (λ value. (delay ≡ 0)
-            × (plain_answer value
+        ensures value { IfOk result (λ found. IfSome found (λ value.
+            (rule_delay (slice_get self.now.rules call.now.resolver) ≡ 0) × (plain_answer value
             ≡ table_answer self.now.rules (call_of call.now) self.now.cells))) }
         ensures effect { IfOk result (λ found. IfSome found (λ value.
             table_effect self.now.rules (call_of call.now) self.now.cells ≡ self.now.cells)) }
     {
-        if delay > 0 || self.may_bump(call.resolver) {
-            return Ok(None);
+        match self.rules.get(call.resolver as usize) {
+            Some(rule) => value_of(alloc, rule, call, self.cells.as_slice()),
+            None => Ok(Some(None)),
         }
-        Ok(value_alone(self.answer_to(alloc, call)?))
     }
 
     /// Adds an entry to the record.
@@ -137,21 +122,6 @@ impl Table {
     {
         self.told.push(RecordEntry::of(alloc, call, ready)?)
     }
-}
-
-/// The value of an answer, if any, where the answer is nothing else.
-fn value_alone(answer: Answer<i64>) -> Option<Option<FieldValue<i64>>>
-    ensures { IfSome result (λ value. plain_answer value ≡ answer) }
-{
-    let Answer {
-        result,
-        added,
-        headers,
-    } = answer;
-    if !added.is_empty() || !headers.is_empty() {
-        return None;
-    }
-    result.ok()
 }
 
 /// Changes the cells by the effect of a call.
@@ -227,8 +197,7 @@ impl ResolverSet for Table {
         alloc: Global,
         call: &ResolverContext<'_, i64>,
     ) -> Made<FieldFuture<i64, TableFuture>> {
-        let delay = self.delay_of(call.resolver);
-        match self.value_at_once(alloc, call, delay)? {
+        match self.value_at_once(alloc, call)? {
             Some(value) => {
                 self.begun.reserve(1)?;
                 self.tell(alloc, call, true)?;
@@ -236,10 +205,11 @@ impl ResolverSet for Table {
                 Ok(FieldFuture::Value(value))
             }
             None => {
+                let left = self.delay_of(call.resolver);
                 self.begun.push(call.task)?;
                 Ok(FieldFuture::Future(TableFuture {
                     resolver: call.resolver,
-                    left: delay,
+                    left,
                 }))
             }
         }
