@@ -1,5 +1,5 @@
 -- What was run of a request's scene is the execution of the request.
-use Rattle.std.proofs.Common.{◌≡◌, ◌⊎◌, ℕ, Bool, Result, Ok, Err, IfErr, IfOk, inl, inr, refl, ap, sym, ◌∙◌, subst}
+use Rattle.std.proofs.Common.{◌≡◌, ◌⊎◌, ℕ, Bool, [], Result, Ok, Err, IfErr, IfOk, inl, inr, refl, ap, sym, ◌∙◌, subst}
 use Rattle.gql_base.specs.declared.no_memory.NoMemory.{NoMemory}
 use Rattle.gql_engine.specs.Progress.{Seen}
 use Rattle.gql_engine.specs.declared.scene.Scene.{Scene}
@@ -9,11 +9,20 @@ use Rattle.gql_exec.specs.PlaceResponse.{response_at}
 use Rattle.gql_exec.specs.Ready.{IsMadeReady}
 use Rattle.gql_exec.specs.Root.{root_for}
 use Rattle.gql_merged.specs.declared.basis.Grouping.{Grouping}
+use Rattle.gql_place.specs.Alike.{Same}
+use Rattle.gql_place.specs.declared.place.Place.{Place}
+use Rattle.gql_place.proofs.PieceLemmas.{told_same}
 use Rattle.gql_request.specs.declared.query_env.QueryEnv.{QueryEnv}
 use Rattle.gql_request.specs.declared.response.Response.{Response}
 use Rattle.gql_resolve.specs.declared.resolver_set.ResolverSet.{Ghosts as Resolving}
 use Rattle.gql_resolve.specs.declared.turns.Turns.{Ghosts as Choosing}
 use Rattle.gql_schema.specs.declared.object.Object.{Object}
+
+-- places that are the same have one response
+pub response_same : (whole : Bool) (a b : Place) → Same whole a b → response_at a ≡ response_at b
+response_same whole a b same =
+    let told = told_same whole a b same in
+    λ i. record { result = told.0 i; extensions = []; errors = told.1 i; headers = told.2 i }
 
 module _ {R Own World Future P : Type 0} (set : Resolving R Own World Future) (turns : Choosing P) (old new : Seen R P) (by : Grouping) (ask : Ask Own) where
   -- a request that is ready, its object, and the machine's scene of it

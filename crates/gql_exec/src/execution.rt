@@ -14,7 +14,7 @@ ghost use Rattle.gql_merged.specs.Run.{AgreesInside};
 ghost use Rattle.gql_request.specs.QueryEnv.{levels_of};
 
 use crate::dynamic_request::DynamicRequest;
-use crate::place_response::response_at;
+use crate::place_response::response_of;
 use crate::schema::Schema;
 use gql_base::{Items, Made, NoMemory, ServerError, Steps};
 use gql_doc::OperationType;
@@ -279,7 +279,7 @@ fn respond_at_once<R: ResolverSet, P: Turns, S: Ledger>(
         + tasks_by R.ResolverSet resolvers.old by (mutates scene.now) scene.now) }
 {
     let place = run_grouped(alloc, by, scene, resolvers, hooks, turns, steps)?;
-    match response_at(alloc, place) {
+    match response_of(alloc, place) {
         Ok(response) => Ok(response),
         Err(_) => Err(NoMemory { roots: 0 }),
     }
@@ -311,7 +311,7 @@ fn respond_in_turn<R: ResolverSet, P: Turns, S: Ledger>(
         + tasks_by R.ResolverSet resolvers.old by (mutates scene.now) scene.now) }
 {
     let (place, roots) = run_mutation_grouped(alloc, by, scene, resolvers, hooks, turns, steps)?;
-    match response_at(alloc, place) {
+    match response_of(alloc, place) {
         Ok(response) => Ok(response),
         Err(_) => Err(NoMemory { roots }),
     }

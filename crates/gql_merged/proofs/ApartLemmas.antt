@@ -20,7 +20,7 @@ use Rattle.gql_merged.specs.Run.{AgreesInside, apart_response, basis_of, merged_
 use Rattle.gql_merged.specs.Serial.{root_asked, serial_apart_response, serial_response, serial_response_by}
 use Rattle.gql_merged.specs.declared.basis.Grouping.{Grouping}
 use Rattle.gql_merged.specs.declared.basis.Grouping.TheVariants as grouping
-use Rattle.gql_merged.proofs.GroupingLemmas.{by_key_is_merged, each_is_apart, serial_by_key, serial_each}
+use Rattle.gql_merged.proofs.GroupingLemmas.{by_key_is_merged, by_key_whole_is_merged, each_is_apart, serial_by_key, serial_by_key_whole, serial_each}
 
 -- answers hang on what a field asks alone, by whatever fragments the fields are read
 answers_alike : {V : Type 0} (is_root : Bool) (execution : Execution) (answer : Call V → Answer V)
@@ -47,6 +47,7 @@ module _ {V : Type 0} (scene : Scene V) where
   -- so it is for any grouping
   pub alike_by : (by : Grouping) (answer : Call V → Answer V) (n : ℕ) → AgreesInside scene n → response_by by scene answer n ≡ merged_response scene answer n
   alike_by grouping.ByKey answer n agree = by_key_is_merged scene answer n
+  alike_by grouping.ByKeyWhole answer n agree = by_key_whole_is_merged scene answer n
   alike_by grouping.Each answer n agree = each_is_apart scene answer n ∙ apart_is_merged answer n agree
 
   module _ {W : Type 0} (answer : Call V → W → Answer V) (effect : Call V → W → W) (world : W) where
@@ -65,4 +66,5 @@ module _ {V : Type 0} (scene : Scene V) where
     pub serial_alike_by : (by : Grouping) (n : ℕ) → AgreesInside scene n
         → serial_response_by scene answer effect by world n ≡ serial_response scene answer effect world n
     serial_alike_by grouping.ByKey n agree = serial_by_key scene answer effect world n
+    serial_alike_by grouping.ByKeyWhole n agree = serial_by_key_whole scene answer effect world n
     serial_alike_by grouping.Each n agree = serial_each scene answer effect world n ∙ serial_apart_is_merged n agree

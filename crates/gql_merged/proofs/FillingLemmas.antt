@@ -8,6 +8,7 @@ use Rattle.gql_base.specs.declared.pos.Pos.{Pos}
 use Rattle.gql_base.specs.declared.value.Value.{Value}
 use Rattle.gql_meaning.specs.Completion.{Completed}
 use Rattle.gql_meaning.specs.Responses.{Members}
+use Rattle.gql_place.specs.Alike.{Same, SameItems, SameTree}
 use Rattle.gql_place.specs.Filled.{fill, fill_step, item_of}
 use Rattle.gql_place.specs.declared.place.Place.{Place}
 use Rattle.gql_place.specs.declared.place.Tree.{Tree}
@@ -16,6 +17,7 @@ use Rattle.gql_place.specs.declared.shape.Shape.{roll-Shape, the_lemmas}
 use Rattle.gql_place.specs.declared.shape.Shape.TheFolds.{fold-roll-Shape, ind-Shape, map-Shape}
 use Rattle.gql_place.specs.declared.shape.Shape.TheOpen.{Shape-F}
 use Rattle.gql_place.specs.declared.shape.Shape.TheVariants as shape
+use Rattle.gql_place.proofs.PieceLemmas.{item_same, items_cons, items_of, items_refl, items_trans, list_same, same_refl, same_trans, tree_trans}
 use Rattle.gql_resolve.specs.declared.field_value.FieldValue.{FieldValue}
 use Rattle.gql_merged.specs.Filling.{all_trees, AllMade, left_after, left_after_all, Made, made_all, made_of, tree_with}
 use Rattle.gql_merged.specs.Stored.{Bare, bare, bare_step, numbered, Spot, spots, spots_step}
@@ -101,16 +103,25 @@ module _ {V : Type 0} (pos : Pos) (below : List ℕ → FieldValue V → Members
   unfolding Fills
   filled_is c path rest = fills c path rest
 
+-- one place among others that stand in both lists
+pub items_at : (whole : Bool) (ps : List Place) (a b : Place) (rest : List Place) → Same whole a b → SameItems whole (ps ++ a ∷ rest) (ps ++ b ∷ rest)
+items_at whole [] a b rest same = items_cons whole a b rest rest same (items_refl whole rest)
+items_at whole (p ∷ ps) a b rest same = items_cons whole p p (ps ++ a ∷ rest) (ps ++ b ∷ rest) (same_refl whole p) (items_at whole ps a b rest same)
+
 -- one more item gets its members
-pub filled_more : (pos : Pos) (non_null : Bool) (places places' all : List Place) (its rest : List Bare) (item : Bare) (members members' : List Members) (t : Tree) (place : Place)
-    → its ≡ item ∷ rest → t ≡ tree_with pos item members → members' ≡ left_after pos item members → place ≡ item_of pos non_null t
-    → places' ≡ places ++ place ∷ [] → places ++ all_trees pos non_null its members ≡ all → places' ++ all_trees pos non_null rest members' ≡ all
-filled_more pos non_null places places' all its rest item members members' t place is tree_is left_is place_is added before =
-    (λ i. added i ++ all_trees pos non_null rest (left_is i))
-    ∙ append_assoc places (place ∷ []) (all_trees pos non_null rest (left_after pos item members))
-    ∙ ap (λ p. places ++ p ∷ all_trees pos non_null rest (left_after pos item members)) (place_is ∙ ap (item_of pos non_null) tree_is)
-    ∙ ap (λ xs. places ++ all_trees pos non_null xs members) (sym is)
-    ∙ before
+pub filled_more : (pos : Pos) (non_null whole : Bool) (places places' all : List Place) (its rest : List Bare) (item : Bare) (members members' : List Members) (t : Tree) (place : Place)
+    → its ≡ item ∷ rest → SameTree whole t (tree_with pos item members) → members' ≡ left_after pos item members → Same whole place (item_of pos non_null t)
+    → places' ≡ places ++ place ∷ [] → SameItems whole (places ++ all_trees pos non_null its members) all → SameItems whole (places' ++ all_trees pos non_null rest members') all
+filled_more pos non_null whole places places' all its rest item members members' t place is tree_is left_is place_is added before =
+    let next = item_of pos non_null (tree_with pos item members) in
+    let others = all_trees pos non_null rest (left_after pos item members) in
+    let now : places' ++ all_trees pos non_null rest members' ≡ places ++ place ∷ others
+    = (λ i. added i ++ all_trees pos non_null rest (left_is i)) ∙ append_assoc places (place ∷ []) others in
+    items_trans whole (places' ++ all_trees pos non_null rest members') (places ++ next ∷ others) all
+    (subst (λ xs. SameItems whole xs (places ++ next ∷ others)) (sym now)
+    (items_at whole places place next others
+    (same_trans whole place (item_of pos non_null t) next place_is (item_same whole pos non_null t (tree_with pos item members) tree_is))))
+    (subst (λ xs. SameItems whole (places ++ all_trees pos non_null xs members) all) is before)
 
 pub left_more : (pos : Pos) (all : List Members) (its rest : List Bare) (item : Bare) (members members' : List Members)
     → its ≡ item ∷ rest → members' ≡ left_after pos item members → left_after_all pos its members ≡ all → left_after_all pos rest members' ≡ all
@@ -130,10 +141,23 @@ left_list pos non_null items members =
     left_same pos non_null (map (made_of pos) items) members ∙ sym (ap (λ (m : Made). m.left) (made-List pos non_null items members))
 
 -- all items got theirs
-pub filled_all : (pos : Pos) (non_null : Bool) (places : List Place) (its items : List Bare) (members first : List Members) → its ≡ []
-    → places ++ all_trees pos non_null its members ≡ all_trees pos non_null items first → places ≡ all_trees pos non_null items first
-filled_all pos non_null places its items members first none whole =
-    sym (append-nil places) ∙ ap (λ xs. places ++ all_trees pos non_null xs members) (sym none) ∙ whole
+pub filled_all : (pos : Pos) (non_null whole : Bool) (places all : List Place) (its : List Bare) (members : List Members) → its ≡ []
+    → SameItems whole (places ++ all_trees pos non_null its members) all → SameItems whole places all
+filled_all pos non_null whole places all its members none filled =
+    subst (λ xs. SameItems whole xs all) (ap (λ xs. places ++ all_trees pos non_null xs members) none ∙ append-nil places) filled
+
+-- none has any yet
+pub filled_none : (whole : Bool) (places none all : List Place) → none ≡ [] → places ≡ all → SameItems whole (none ++ places) all
+filled_none whole places none all is same = items_of whole (none ++ places) all (ap (λ xs. xs ++ places) is ∙ same)
+
+-- what stands at the place of a list, of its items
+pub list_made : (pos : Pos) (non_null whole : Bool) (items : List Bare) (members : List Members) (places : List Place) (t : Tree)
+    → SameTree whole t (tree.List places) → SameItems whole places (all_trees pos non_null items members)
+    → SameTree whole t (tree_with pos (shape.List non_null items) members)
+list_made pos non_null whole items members places t listed filled =
+    tree_trans whole t (tree.List places) (tree_with pos (shape.List non_null items) members) listed
+    (subst (SameTree whole (tree.List places)) (sym (ap (λ (m : Made). m.tree) (made-List pos non_null items members)))
+    (list_same whole places (all_trees pos non_null items members) filled))
 
 pub left_all : (pos : Pos) (its items : List Bare) (members first : List Members) → its ≡ []
     → left_after_all pos its members ≡ left_after_all pos items first → members ≡ left_after_all pos items first

@@ -14,6 +14,7 @@ use Rattle.gql_select.specs.Collected.{own_selections}
 use Rattle.gql_select.specs.Documents.{both, with_others}
 use Rattle.gql_merged.specs.Asks.{type_in}
 use Rattle.gql_select.specs.Behind.{all_behind}
+use Rattle.gql_merged.specs.Grouped.{keeps_whole}
 use Rattle.gql_merged.specs.Fitting.{IsFilled}
 use Rattle.gql_merged.specs.Groups.{united}
 use Rattle.gql_merged.specs.Jobs.{completed_by, Job, jobs_beneath}
@@ -60,14 +61,15 @@ module _ {V : Type 0} (parent : Parent V) (node : Node) (answer : Answer V) wher
 
     pub takes_filled : (filled : Filled V) (nullable : Bool)
         → filled.pos ≡ node.group.first.now.pos → nullable ≡ is_nullable (type_in node.asks) → filled.non_null ≡ not nullable
-        → filled.added ≡ answer.added → filled.headers ≡ answer.headers → filled.shape ≡ bare whole
-        → map standing_behind filled.parents.items ≡ map (standing_at node.basis (own_selections (united node.group))) (map spot_found found)
+        → filled.added ≡ answer.added → filled.headers ≡ answer.headers → filled.whole ≡ keeps_whole node.basis.grouping
+        → filled.shape ≡ bare whole → map standing_behind filled.parents.items ≡ map (standing_at node.basis (own_selections (united node.group))) (map spot_found found)
         → IsFilled (job_with parent node) answer filled
-    takes_filled filled nullable pos_is nullable_is non_null_is added_is headers_is shape_is parents_are = record {
+    takes_filled filled nullable pos_is nullable_is non_null_is added_is headers_is whole_is shape_is parents_are = record {
       pos_is = pos_is ∙ pos_united node.group;
       non_null_is = non_null_is ∙ ap not nullable_is;
       added_is = added_is;
       headers_is = headers_is;
+      whole_is = whole_is;
       shape_is = shape_is ∙ ap bare takes.whole_is;
       parents_are = parents_are ∙ ap (map (standing_at node.basis (own_selections (united node.group)))) spots_are;
     }

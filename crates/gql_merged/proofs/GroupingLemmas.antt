@@ -59,8 +59,8 @@ alone_more setting members members' all its rest f is added before =
 
 -- Places under keys.
 
-module _ {T : Type 0} where
-  absent_zip : (k : List ℕ) (keys : List (List ℕ × Unit {0})) (values : List T) → under k keys ≡ None → under k (zip (names_of keys) values) ≡ None
+module _ {A T : Type 0} where
+  absent_zip : (k : List ℕ) (keys : List (List ℕ × A)) (values : List T) → under k keys ≡ None → under k (zip (names_of keys) values) ≡ None
   absent_zip k [] values none = refl
   absent_zip k (p ∷ keys) [] none = refl
   absent_zip k (p ∷ keys) (v ∷ values) none =
@@ -69,7 +69,8 @@ module _ {T : Type 0} where
       (λ e. let past : under k (p ∷ keys) ≡ under k keys = rw e refl in
       let rest : under k (zip (names_of keys) values) ≡ None = absent_zip k keys values (sym past ∙ none) in rw e rest)
 
-  distinct_zip : (keys : List (List ℕ × Unit {0})) (values : List T) → HasDistinctNames keys → HasDistinctNames (zip (names_of keys) values)
+  -- values under distinct names
+  pub distinct_zip : (keys : List (List ℕ × A)) (values : List T) → HasDistinctNames keys → HasDistinctNames (zip (names_of keys) values)
   distinct_zip [] values d = tt
   distinct_zip (p ∷ keys) [] d = tt
   distinct_zip (p ∷ keys) (v ∷ values) d = (absent_zip p.0 keys values d.0, distinct_zip keys values d.1)
@@ -112,6 +113,11 @@ module _ {V : Type 0} (scene : Scene V) where
   by_key_is_merged answer n =
       ap (place_at_root scene) (by_merged_groups (placing_in scene answer) join n (root_spot scene).object (root_spot scene).parent (root_selections scene))
 
+  -- so it is where places are kept whole
+  pub by_key_whole_is_merged : (answer : Call V → Answer V) (n : ℕ) → response_by grouping.ByKeyWhole scene answer n ≡ merged_response scene answer n
+  by_key_whole_is_merged answer n =
+      ap (place_at_root scene) (by_merged_groups (placing_in scene answer) join n (root_spot scene).object (root_spot scene).parent (root_selections scene))
+
   -- of each occurrence alone: apart execution
   pub each_is_apart : (answer : Call V → Answer V) (n : ℕ) → response_by grouping.Each scene answer n ≡ apart_response scene answer n
   each_is_apart answer n = refl
@@ -119,6 +125,14 @@ module _ {V : Type 0} (scene : Scene V) where
   module _ {W : Type 0} (answer : Call V → W → Answer V) (effect : Call V → W → W) where
     pub serial_by_key : (world : W) (n : ℕ) → serial_response_by scene answer effect grouping.ByKey world n ≡ serial_response scene answer effect world n
     serial_by_key world n =
+        λ i. place_at_root scene
+        (in_turn (answering scene answer effect).effect
+        (λ before behind field. (answering scene answer effect).root before (root_spot scene).object (root_spot scene).parent field
+        (λ object parent. by_merged_groups (below_root (answering scene answer effect) behind) join (levels_beneath n) object parent (own_selections field) i))
+        world (keys_of scene))
+
+    pub serial_by_key_whole : (world : W) (n : ℕ) → serial_response_by scene answer effect grouping.ByKeyWhole world n ≡ serial_response scene answer effect world n
+    serial_by_key_whole world n =
         λ i. place_at_root scene
         (in_turn (answering scene answer effect).effect
         (λ before behind field. (answering scene answer effect).root before (root_spot scene).object (root_spot scene).parent field

@@ -21,7 +21,7 @@ use Rattle.gql_engine.specs.Rounds.{IsOneOf}
 use Rattle.gql_engine.specs.declared.arena.State.{State}
 use Rattle.gql_engine.specs.declared.arena.State.TheVariants as state
 use Rattle.gql_engine.specs.declared.given.Given.{Given}
-use Rattle.gql_place.specs.declared.place.Place.{Place}
+use Rattle.gql_place.specs.declared.piece.Piece.{Piece}
 use Rattle.gql_resolve.specs.Call.{Call}
 use Rattle.gql_resolve.specs.declared.record_entry.RecordEntry.{RecordEntry}
 use Rattle.gql_resolve.specs.declared.turns.Turns.{Ghosts as Choosing}
@@ -180,7 +180,7 @@ right_first {F = F} answers holds tasks states states' number is here = record {
     last (suc k) done = cc
 
 -- what is due is stored of all tasks of a phase
-pub phase_held : {V F : Type 0} (answer : Call V → Answer V) (base number : ℕ) (jobs : List (Job V)) (store : Store (Filled V) Place) (states : List (State F))
+pub phase_held : {V F : Type 0} (answer : Call V → Answer V) (base number : ℕ) (jobs : List (Job V)) (store : Store (Filled V) Piece) (states : List (State F))
     → IsRightAt number (λ (job : Job V). answer job.asking.call) (HoldsSince base jobs store) jobs states
     → ((k : ℕ) (job : Job V) → slice_get jobs k ≡ Some job → slice_get states k ≡ Some state.Done) → AllHeldSince answer number jobs store
 phase_held answer base number jobs store states right done k job above is =
@@ -200,7 +200,7 @@ key_within tasks roots number job there short deep = by (ltb number roots) refl
         absurd (omega (arith, short))
 
 -- the last place was room for that of the root key
-pub has_place : {V : Type 0} (answer : Call V → Answer V) (root : Job V) (own before own' : List (Option Place)) → before ≡ own ++ None ∷ [] → PutsLast answer root before own'
+pub has_place : {V : Type 0} (answer : Call V → Answer V) (root : Job V) (own before own' : List (Option Piece)) → before ≡ own ++ None ∷ [] → PutsLast answer root before own'
     → HasPlace answer root own own'
 has_place answer root own before own' is puts = record {
   place = puts.place;
@@ -209,7 +209,7 @@ has_place answer root own before own' is puts = record {
 }
 
 -- the place of a root key is put at the end
-pub puts_last : {V : Type 0} (answer : Call V → Answer V) (root : Job V) (jobs : List (Job V)) (places : List (Option Place)) (number : ℕ) (o : Option Place) (own own' : List (Option Place))
+pub puts_last : {V : Type 0} (answer : Call V → Answer V) (root : Job V) (jobs : List (Job V)) (places : List (Option Piece)) (number : ℕ) (o : Option Piece) (own own' : List (Option Piece))
     → ArePlaced answer number jobs places → slice_get jobs number ≡ Some root → slice_get places number ≡ Some o → own' ≡ slice_set own (length own - 1) o → PutsLast answer root own own'
 puts_last answer root jobs places number o own own' placed there at puts =
     let here = placed.each number root o (omega arith) there at in
@@ -249,7 +249,7 @@ take_drop (suc n) [] left is = is
 take_drop (suc n) (x ∷ xs) left is = ap (λ ys. x ∷ ys) (take_drop n xs left is)
 
 -- a place that is right in the world of its phase
-pub right_there : {R V W F : Type 0} (set : Resolving R V W F) (rules rules' : set.Rules) (world world' : W) (root : Job V) (place : Place) → rules ≡ rules' → world ≡ world'
+pub right_there : {R V W F : Type 0} (set : Resolving R V W F) (rules rules' : set.Rules) (world world' : W) (root : Job V) (place : Piece) → rules ≡ rules' → world ≡ world'
     → IsRight (answer_between (set.answer rules) world (set.effect rules root.asking.call world)) root place
     → IsRight (answer_between (set.answer rules') world' (set.effect rules' root.asking.call world')) root place
 right_there set rules rules' world world' root place rules_is world_is right =

@@ -1,5 +1,5 @@
 -- Answers that come to the leaf that they are as they stand.
-use Rattle.std.proofs.Common.{rules, ◌≡◌, ℕ, cond, List, [], Option, Some, refl, ap, sym, ◌∙◌}
+use Rattle.std.proofs.Common.{rules, ◌≡◌, ℕ, cond, List, Option, Some, ap, ◌∙◌}
 use Rattle.gql_base.specs.declared.type_ref.TypeRef.{TypeRef, the_lemmas as type_lemmas}
 use Rattle.gql_base.specs.declared.type_ref.TypeRef.TheVariants as ref
 use Rattle.gql_base.specs.declared.value.Value.{Value}

@@ -28,6 +28,7 @@ pub mod PlacedLemmas
 pub mod PlanLemmas
 pub mod PutLemmas
 pub mod RunLemmas
+pub mod SeenLemmas
 pub mod SerialLemmas
 pub mod StandingLemmas
 pub mod StoredLemmas

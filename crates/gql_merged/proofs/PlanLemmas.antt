@@ -8,9 +8,9 @@ use Rattle.gql_select.proofs.SliceLemmas.{get_append, get_map, get_within}
 use Rattle.gql_engine.specs.Plan.{HasMade}
 use Rattle.gql_engine.specs.declared.given.Given.{Given}
 use Rattle.gql_engine.specs.declared.given.Given.TheVariants.{Answered, Put}
-use Rattle.gql_place.specs.declared.place.Place.{Place}
+use Rattle.gql_place.specs.declared.piece.Piece.{Piece}
 use Rattle.gql_merged.specs.Entries.{laid}
-use Rattle.gql_merged.specs.Assembling.{place_alone}
+use Rattle.gql_merged.specs.Assembling.{IsMadeAlone, IsPutAlone}
 use Rattle.gql_merged.specs.Fitting.{entries_in, entry_of, IsFilledWith, made_beneath}
 use Rattle.gql_merged.specs.Holds.{HoldsGiven, HoldsSince, store_in}
 use Rattle.gql_merged.specs.Jobs.{completed_by, Job, jobs_at}
@@ -29,7 +29,7 @@ use Rattle.gql_merged.proofs.StandingLemmas.{stored_beside, stored_more, stored_
 use Rattle.gql_merged.proofs.TaskLemmas.{map_append}
 
 -- a task was given something: what is kept of it stands behind the rest, its place is open, and the tasks beneath it stand behind all tasks
-pub record Completes (V : Type 0) (tasks tasks' : List (Task V)) (kept kept' : List (Kept V)) (places places' : List (Option Place)) (k : Kept V) (job : Job V)
+pub record Completes (V : Type 0) (tasks tasks' : List (Task V)) (kept kept' : List (Kept V)) (places places' : List (Option Piece)) (k : Kept V) (job : Job V)
     (given : Given V) : Type 0 where
   pub more : List (Task V)
   pub tasks_is : tasks' ≡ tasks ++ more
@@ -42,7 +42,7 @@ pub record Completes (V : Type 0) (tasks tasks' : List (Task V)) (kept kept' : L
   pub filled_is : IsFilledWith given job k.filled
   pub deep : AllByRecursion IsDeep (made_beneath given job)
 
-module _ {V : Type 0} {tasks tasks' : List (Task V)} {kept kept' : List (Kept V)} {places places' : List (Option Place)} {k : Kept V} {job : Job V} {given : Given V}
+module _ {V : Type 0} {tasks tasks' : List (Task V)} {kept kept' : List (Kept V)} {places places' : List (Option Piece)} {k : Kept V} {job : Job V} {given : Given V}
     (done : Completes V tasks tasks' kept kept' places places' k job given) where
   pub completes_made : jobs_in tasks' ≡ jobs_in tasks ++ made_beneath given job
   completes_made = ap jobs_in done.tasks_is ∙ map_append job_of_task tasks done.more ∙ ap (λ js. jobs_in tasks ++ js) done.beneath_is
@@ -82,14 +82,14 @@ module _ {V : Type 0} {tasks tasks' : List (Task V)} {kept kept' : List (Kept V)
   pub completes_holds : HoldsGiven (jobs_in tasks') (store_in kept' places') k.number given
   completes_holds =
       subst (λ js. HoldsGiven js (store_in kept' places') k.number given) (sym completes_made)
-      (stored_now (IsFilledWith given) (made_beneath given) place_alone (jobs_in tasks) (made_beneath given job) (store_in kept places) (store_in kept' places') (entry_of k) job done.there
+      (stored_now (IsFilledWith given) (made_beneath given) IsMadeAlone (jobs_in tasks) (made_beneath given job) (store_in kept places) (store_in kept' places') (entry_of k) job done.there
       done.filled_is (done.first_is ∙ sym (length-map tasks job_of_task)) completes_count refl entries_are done.opens.here)
 
   pub completes_keeps : (other : ℕ) (g : Given V) → (other ≡ k.number → ⊥) → HoldsGiven (jobs_in tasks) (store_in kept places) other g
       → HoldsGiven (jobs_in tasks') (store_in kept' places') other g
   completes_keeps other g differs held =
       subst (λ js. HoldsGiven js (store_in kept' places') other g) (sym completes_made)
-      (stored_more (IsFilledWith g) (made_beneath g) place_alone (jobs_in tasks) (made_beneath given job) (store_in kept places) (store_in kept' places') (entry_of k) other differs
+      (stored_more (IsFilledWith g) (made_beneath g) IsMadeAlone (jobs_in tasks) (made_beneath given job) (store_in kept places) (store_in kept' places') (entry_of k) other differs
       entries_are (done.opens.others other differs) held)
 
   -- also where that of earlier phases was given away
@@ -101,7 +101,7 @@ module _ {V : Type 0} {tasks tasks' : List (Task V)} {kept kept' : List (Kept V)
   ]
 
 -- what was made for a task
-pub completes_task : {V : Type 0} (tasks tasks' more : List (Task V)) (kept kept' : List (Kept V)) (places places' : List (Option Place)) (k : Kept V) (task : Task V) (given : Given V)
+pub completes_task : {V : Type 0} (tasks tasks' more : List (Task V)) (kept kept' : List (Kept V)) (places places' : List (Option Piece)) (k : Kept V) (task : Task V) (given : Given V)
     → slice_get tasks k.number ≡ Some task → tasks' ≡ tasks ++ more → kept' ≡ kept ++ k ∷ [] → PutsAt None k.number places places' → k.first ≡ length tasks → k.count ≡ length more
     → jobs_in more ≡ made_beneath given (job_of_task task) → IsFilledWith given (job_of_task task) k.filled → AllByRecursion IsDeep (made_beneath given (job_of_task task))
     → Completes V tasks tasks' kept kept' places places' k (job_of_task task) given
@@ -120,13 +120,13 @@ completes_task tasks tasks' more kept kept' places places' k task given there ta
     }
 
 -- a task was given what came to no object: its place is put
-pub record PutsAlone (V : Type 0) (tasks : List (Task V)) (places places' : List (Option Place)) (number : ℕ) (filled : Filled V) (job : Job V) (given : Given V) : Type 0 where
+pub record PutsAlone (V : Type 0) (tasks : List (Task V)) (places places' : List (Option Piece)) (number : ℕ) (filled : Filled V) (job : Job V) (given : Given V) : Type 0 where
   pub there : slice_get (jobs_in tasks) number ≡ Some job
   pub filled_is : IsFilledWith given job filled
   pub none : made_beneath given job ≡ []
-  pub puts : PutsAt (Some (place_alone filled)) number places places'
+  pub put : IsPutAlone filled number places places'
 
-module _ {V : Type 0} {tasks : List (Task V)} {places places' : List (Option Place)} {number : ℕ} {filled : Filled V} {job : Job V} {given : Given V}
+module _ {V : Type 0} {tasks : List (Task V)} {places places' : List (Option Piece)} {number : ℕ} {filled : Filled V} {job : Job V} {given : Given V}
     (done : PutsAlone V tasks places places' number filled job given) where
   pub alone_has : (other : Job V) → slice_get (jobs_in tasks) number ≡ Some other → HasMade (jobs_in tasks) (jobs_in tasks) (made_beneath given other) 0
   alone_has other is =
@@ -136,14 +136,15 @@ module _ {V : Type 0} {tasks : List (Task V)} {places places' : List (Option Pla
 
   pub alone_holds : (kept : List (Kept V)) → HoldsGiven (jobs_in tasks) (store_in kept places') number given
   alone_holds kept =
-      stored_put (IsFilledWith given) (made_beneath given) place_alone (jobs_in tasks) (store_in kept places') number job filled done.there done.filled_is done.none done.puts.here
+      stored_put (IsFilledWith given) (made_beneath given) IsMadeAlone (jobs_in tasks) (store_in kept places') number job filled done.put.piece done.there done.filled_is done.none done.put.puts.here
+      done.put.made
 
   pub alone_keeps_since : (kept : List (Kept V)) (base other : ℕ) (g : Given V) → (other ≡ number → ⊥) → HoldsSince base (jobs_in tasks) (store_in kept places) other g
       → HoldsSince base (jobs_in tasks) (store_in kept places') other g
   alone_keeps_since kept base other g differs held = elim held [
     | inl away ↦ inl away
-    | inr stored ↦ inr (stored_beside (IsFilledWith g) (made_beneath g) place_alone (jobs_in tasks) (store_in kept places) (store_in kept places') other refl
-        (done.puts.others other differs) stored)
+    | inr stored ↦ inr (stored_beside (IsFilledWith g) (made_beneath g) IsMadeAlone (jobs_in tasks) (store_in kept places) (store_in kept places') other refl
+        (done.put.puts.others other differs) stored)
   ]
 
   -- where nothing else of the plan changes
@@ -169,12 +170,12 @@ none_made (Answered answer) job filled fits none =
     (map_none (standing_at job.basis (own_selections job.field)) (spots (completed_by job answer) job.path) (sym fits.parents_are ∙ ap (map standing_behind) none))
 none_made (Put put) job filled fits none = refl
 
-pub puts_alone : {V : Type 0} (tasks : List (Task V)) (places places' : List (Option Place)) (number : ℕ) (filled : Filled V) (task : Task V) (given : Given V)
-    → slice_get tasks number ≡ Some task → IsFilledWith given (job_of_task task) filled → filled.parents.items ≡ [] → PutsAt (Some (place_alone filled)) number places places'
+pub puts_alone : {V : Type 0} (tasks : List (Task V)) (places places' : List (Option Piece)) (number : ℕ) (filled : Filled V) (task : Task V) (given : Given V)
+    → slice_get tasks number ≡ Some task → IsFilledWith given (job_of_task task) filled → filled.parents.items ≡ [] → IsPutAlone filled number places places'
     → PutsAlone V tasks places places' number filled (job_of_task task) given
-puts_alone tasks places places' number filled task given there filled_is none puts = record {
+puts_alone tasks places places' number filled task given there filled_is none put = record {
   there = get_map job_of_task tasks number task there;
   filled_is = filled_is;
   none = none_made given (job_of_task task) filled filled_is none;
-  puts = puts;
+  put = put;
 }

@@ -25,7 +25,11 @@ use Rattle.gql_engine.specs.declared.arena.State.{State}
 use Rattle.gql_engine.specs.declared.given.Given.TheVariants.{Answered}
 use Rattle.gql_engine.specs.declared.scene.Scene.{Scene}
 use Rattle.gql_meaning.specs.Responses.{Members, root_place}
-use Rattle.gql_place.specs.declared.place.Place.{Place}
+use Rattle.gql_place.specs.Alike.{Paired, Same, SameMembers}
+use Rattle.gql_place.specs.Pieces.{place_in}
+use Rattle.gql_place.specs.declared.piece.Piece.{Piece}
+use Rattle.gql_place.specs.declared.place.Tree.TheVariants as tree
+use Rattle.gql_place.proofs.PieceLemmas.{object_same, place_same, same_trans}
 use Rattle.gql_request.specs.QueryEnv.{levels_of}
 use Rattle.gql_resolve.specs.Call.{Call, is_mutation}
 use Rattle.gql_resolve.specs.Record.{with_more}
@@ -33,37 +37,34 @@ use Rattle.gql_resolve.specs.declared.answer.Answer.{Answer}
 use Rattle.gql_resolve.specs.declared.record_entry.RecordEntry.{RecordEntry}
 use Rattle.gql_resolve.specs.declared.resolver_set.ResolverSet.{Ghosts as Resolving}
 use Rattle.gql_resolve.specs.declared.turns.Turns.{Ghosts as Choosing}
-use Rattle.gql_merged.specs.Assembled.{members_with, places_with, united_members}
-use Rattle.gql_merged.specs.Assembling.{AllHeld, beneath_due, IsAssembled, IsFilledDue, IsRight, place_alone}
+use Rattle.gql_merged.specs.Assembled.{members_with}
+use Rattle.gql_merged.specs.Assembling.{AllHeld, AreApart, beneath_due, IsAssembled, IsFilledDue, IsMadeAlone, IsRight}
 use Rattle.gql_merged.specs.Basis.{setting_by}
 use Rattle.gql_merged.specs.Counted.{count_by}
 use Rattle.gql_merged.specs.FieldsWithin.{collected}
-use Rattle.gql_merged.specs.Grouped.{groups_in}
+use Rattle.gql_merged.specs.Grouped.{groups_in, keeps_whole}
 use Rattle.gql_merged.specs.Fitting.{IsFilled}
 use Rattle.gql_merged.specs.Holds.{HoldsGiven, HoldsSince}
 use Rattle.gql_merged.specs.Jobs.{Job, jobs_at_as, jobs_beneath, jobs_by_as}
-use Rattle.gql_merged.specs.KeyNames.{names_in}
-use Rattle.gql_merged.specs.Levels.{asked_behind, asked_in_as, members_of}
+use Rattle.gql_merged.specs.Levels.{asked_in_as, members_of}
 use Rattle.gql_merged.specs.Parents.{jobs_here, Standing, standing_at, standing_at_as, standing_of}
 use Rattle.gql_merged.specs.Run.{basis_by, job_subject, Nests, own_jobs_by, response_by, root_jobs_by, root_selections, root_spot, work_by}
 use Rattle.gql_merged.specs.Keys.{IsKey}
 use Rattle.gql_merged.specs.NeverRoots.{jobs_as}
 use Rattle.gql_merged.specs.Serial.{key_jobs_by}
-use Rattle.gql_merged.specs.Standing.{IsStored, Paired, Store}
+use Rattle.gql_merged.specs.Standing.{IsStored, Store}
 use Rattle.gql_merged.specs.Tasks.{IsDeep, job_of_task, jobs_in}
 use Rattle.gql_merged.specs.Within.{AllNest}
 use Rattle.gql_merged.specs.declared.basis.Grouping.{Grouping}
 use Rattle.gql_merged.specs.declared.kept.Filled.{Filled}
 use Rattle.gql_merged.specs.declared.level.Level.{Level}
 use Rattle.gql_merged.specs.declared.parent.Held.TheVariants as held
-use Rattle.gql_merged.specs.declared.parent.Parent.{Parent}
 use Rattle.gql_merged.specs.declared.task.Task.{Task}
 use Rattle.gql_merged.proofs.BeneathLemmas.{every_at, every_of, jobs_all, jobs_all_as}
 use Rattle.gql_merged.proofs.CountedLemmas.{tasks_counted}
-use Rattle.gql_merged.proofs.GatheredLemmas.{level_members}
 use Rattle.gql_merged.proofs.JobLemmas.{at_root, root_level_jobs}
 use Rattle.gql_merged.proofs.NestLemmas.{collected_nest}
-use Rattle.gql_merged.proofs.PlacedLemmas.{root_right}
+use Rattle.gql_merged.proofs.PlacedLemmas.{apart_at, root_right}
 use Rattle.gql_merged.proofs.WithinLemmas.{nests_within}
 
 -- a list that begins with another
@@ -95,6 +96,17 @@ at_task (t ∷ ts) (suc k) job is = at_task ts k job is
 both_all : {X : Type 0} (P Q : X → Type 0) (xs : List X) → AllByRecursion P xs → AllByRecursion Q xs → AllByRecursion (λ x. P x × Q x) xs
 both_all P Q [] h k = tt
 both_all P Q (x ∷ xs) h k = ((h.0, k.0), both_all P Q xs h.1 k.1)
+
+-- the root is the same with the same members
+pub root_same : (whole : Bool) (pos : Pos) (ms ns : Members) → SameMembers whole ms ns → Same whole (root_place pos ms) (root_place pos ns)
+root_same whole pos ms ns same = place_same whole pos false [] [] (tree.Object ms) (tree.Object ns) (object_same whole ms ns same)
+
+-- unless places are kept whole, no key of the root stands twice
+pub apart_root : {V : Type 0} (is_root : Bool) (how : Grouping) (scene : Scene V) (root : Standing V)
+    → root ≡ standing_at_as is_root (basis_by how scene) (root_selections scene) (root_spot scene) → AreApart (keeps_whole how) (root ∷ [])
+apart_root is_root how scene root is =
+    subst (λ (r : Standing _). AreApart (keeps_whole how) (r ∷ [])) (sym is)
+    ((apart_at is_root (basis_by how scene) (root_spot scene).object (root_selections scene)), tt)
 
 module _ {V : Type 0} (how : Grouping) (scene : Scene V) where
   -- where the operation is no mutation, the tasks of the root are no roots of one
@@ -172,23 +184,26 @@ module _ {V : Type 0} (how : Grouping) (scene : Scene V) where
       by false test = ltb-false roots (length (root_jobs_by how scene)) test
 
   -- the place that is assembled is the one that is due
-  pub response_is : (answer : Call V → Answer V) (root : Standing V) (roots : ℕ) (jobs : List (Job V)) (place : Place) (n : ℕ)
+  pub response_is : (answer : Call V → Answer V) (root : Standing V) (roots : ℕ) (jobs : List (Job V)) (piece : Piece) (n : ℕ)
       → root ≡ standing_at (basis_by how scene) (root_selections scene) (root_spot scene) → KeepNumbers (root_jobs_by how scene) jobs → length (root_jobs_by how scene) ≤ roots
-      → IsAssembled answer scene.env.now.operation.pos root (take roots jobs) place → Nests scene n → place ≡ response_by how scene answer n
-  response_is answer root roots jobs place zero root_is keeps enough assembled nests = cc
-  response_is answer root roots jobs place (suc n) root_is keeps enough assembled nests =
+      → IsAssembled answer (keeps_whole how) scene.env.now.operation.pos root (take roots jobs) piece → Nests scene n
+      → Same (keeps_whole how) (place_in piece) (response_by how scene answer n)
+  response_is answer root roots jobs piece zero root_is keeps enough assembled nests = cc
+  response_is answer root roots jobs piece (suc n) root_is keeps enough assembled nests =
       let begun = begun_by (root_jobs_by how scene) jobs keeps in
       let front = taken (root_jobs_by how scene) begun.more roots enough in
       let right : Paired (IsRight answer) (root_jobs_by how scene ++ front.more) assembled.own
       = subst (λ js. Paired (IsRight answer) js assembled.own) (ap (take roots) begun.is ∙ front.is) assembled.right in
-      assembled.place_is
-      ∙ ap (λ (s : Standing V). root_place scene.env.now.operation.pos (members_with s.spot.object s.members assembled.own)) root_is
-      ∙ ap (λ ms. root_place scene.env.now.operation.pos ms)
+      let pos = scene.env.now.operation.pos in
+      same_trans (keeps_whole how) (place_in piece) _ (response_by how scene answer (suc n))
+      (subst (λ (s : Standing V). Same (keeps_whole how) (place_in piece) (root_place pos (members_with s.spot.object s.members (map place_in assembled.own)))) root_is
+      assembled.piece_is)
+      (root_same (keeps_whole how) pos _ _
       (root_right answer (basis_by how scene) n (root_selections scene) (root_spot scene) front.more assembled.own
-      (nests_within (setting_by (basis_by how scene)) n (operation_set scene.env.now.operation) nests) right)
+      (nests_within (setting_by (basis_by how scene)) n (operation_set scene.env.now.operation) nests) right))
 
 -- what is stored of an answer wasn't given away
-pub held_since : {V : Type 0} (base : ℕ) (jobs : List (Job V)) (store : Store (Filled V) Place) (number : ℕ) (answer : Answer V)
+pub held_since : {V : Type 0} (base : ℕ) (jobs : List (Job V)) (store : Store (Filled V) Piece) (number : ℕ) (answer : Answer V)
     → HoldsSince base jobs store number (Answered answer) → HoldsGiven jobs store number (Answered answer)
 held_since base jobs store number answer held = elim held [
   | inl away ↦ (let e = away.1 in absurd (cc))
@@ -196,8 +211,8 @@ held_since base jobs store number answer held = elim held [
 ]
 
 -- what is stored of an answer that is due
-pub stored_due : {V : Type 0} (answer : Call V → Answer V) (jobs : List (Job V)) (store : Store (Filled V) Place) (k : ℕ) (job : Job V) → slice_get jobs k ≡ Some job
-    → HoldsGiven jobs store k (Answered (answer job.asking.call)) → IsStored (IsFilledDue answer) (beneath_due answer) place_alone jobs store k
+pub stored_due : {V : Type 0} (answer : Call V → Answer V) (jobs : List (Job V)) (store : Store (Filled V) Piece) (k : ℕ) (job : Job V) → slice_get jobs k ≡ Some job
+    → HoldsGiven jobs store k (Answered (answer job.asking.call)) → IsStored (IsFilledDue answer) (beneath_due answer) IsMadeAlone jobs store k
 stored_due answer jobs store k job is (inl p) =
     let same : p.job ≡ job = (let e : Some p.job ≡ Some job = sym p.there ∙ is in cc) in
     inl (record {
@@ -206,7 +221,9 @@ stored_due answer jobs store k job is (inl p) =
       filled = p.filled;
       fits = subst (λ (j : Job _). IsFilled p.job (answer j.asking.call) p.filled) (sym same) p.fits;
       none = ap (λ (j : Job _). jobs_beneath p.job (answer j.asking.call)) same ∙ p.none;
+      place = p.place;
       put = p.put;
+      made = p.made;
     })
 stored_due answer jobs store k job is (inr l) =
     let held = l.held in
@@ -244,7 +261,7 @@ module _ {R Own World Future P : Type 0} (set : Resolving R Own World Future) (t
     pub n_is : n ≡ length first
 
   -- the plan and the arena as they stand in the end
-  pub record Finishes (new : Seen R P) (first last : List (Job Own)) (store store' : Store (Filled Own) Place) (states states' : List (State Future)) : Type 0 where
+  pub record Finishes (new : Seen R P) (first last : List (Job Own)) (store store' : Store (Filled Own) Piece) (states states' : List (State Future)) : Type 0 where
     pub lengths : length states' ≡ length last
     pub whole : waiting_from 0 (marks_of states') ≡ []
     pub base : ℕ
@@ -287,7 +304,7 @@ module _ {R Own World Future P : Type 0} (set : Resolving R Own World Future) (t
           paces = λ pace before some. asks_pace whole.entries (paces before whole.entries pace some whole.told_is);
         }
 
-    module _ (new : Seen R P) (last : List (Job Own)) (store store' : Store (Filled Own) Place) (states' : List (State Future))
+    module _ (new : Seen R P) (last : List (Job Own)) (store store' : Store (Filled Own) Piece) (states' : List (State Future))
         (finishes : Finishes new first last store store' states states') where
       pub whole_ran : Ran (choice_by turns) (story_at set turns job_subject old) (stage_of set turns (fresh (root_jobs_by how scene)) old)
           (stage_of set turns (made_of last states') new)
@@ -346,14 +363,3 @@ module _ {R Own World Future P : Type 0} (set : Resolving R Own World Future) (t
 pub none_deep : {V : Type 0} (tasks : List (Task V)) (roots : ℕ) → roots ≡ length tasks → (k : ℕ) (task : Task V) → roots ≤ k → slice_get tasks k ≡ Some task
     → IsDeep (job_of_task task)
 none_deep tasks roots is k task above there = (let w = get_within tasks k task there in absurd (omega arith))
-
--- the place of the root is put together of the places of its tasks
-pub root_assembled : {V : Type 0} (answer : Call V → Answer V) (pos : Pos) (parent : Parent V) (jobs : List (Job V)) (own : List Place) (members : Members) (place : Place)
-    → Paired (IsRight answer) jobs own
-    → members ≡ united_members (names_in parent.level.value.keys) (places_with parent.level.value.object (map asked_behind parent.level.value.nodes.items) own)
-    → place ≡ root_place pos members → IsAssembled answer pos (standing_of parent) jobs place
-root_assembled answer pos parent jobs own members place right members_is place_is = record {
-  own = own;
-  right = right;
-  place_is = place_is ∙ ap (root_place pos) (members_is ∙ level_members parent.level.value parent.level.value.object own);
-}

@@ -1,5 +1,5 @@
 -- The members of the root of a mutation, of the places of its root keys, one after another.
-use Rattle.std.proofs.Common.{◌≡◌, ℕ, zero, suc, true, false, List, [], ◌∷◌, ◌++◌, Option, Some, None, refl, ap, sym, subst, ◌∙◌}
+use Rattle.std.proofs.Common.{◌≡◌, ℕ, zero, suc, Bool, true, false, List, [], ◌∷◌, ◌++◌, map, Option, Some, None, refl, ap, sym, subst, ◌∙◌}
 use Rattle.std.specs.List.{AllByRecursion}
 use Rattle.std.specs.Str.{bytes_eq}
 use Rattle.gql_base.specs.Pairs.{HasDistinctNames, under, unite_all, values_of}
@@ -12,8 +12,12 @@ use Rattle.gql_engine.specs.declared.scene.Scene.{Scene}
 use Rattle.gql_meaning.specs.Execution.{Asking, field_asking, field_outcome}
 use Rattle.gql_meaning.specs.Responses.{Members, placed, world_of}
 use Rattle.gql_place.specs.Filled.{place_with}
+use Rattle.gql_place.specs.Alike.{AreAlikeMembers, Paired, Same, SameMembers}
 use Rattle.gql_place.specs.Join.{join}
+use Rattle.gql_place.specs.Pieces.{place_in}
+use Rattle.gql_place.specs.declared.piece.Piece.{Piece}
 use Rattle.gql_place.specs.declared.place.Place.{Place}
+use Rattle.gql_place.proofs.PieceLemmas.{members_cons, members_refl, same_of}
 use Rattle.gql_resolve.specs.Call.{Call}
 use Rattle.gql_resolve.specs.Layers.{layers_of}
 use Rattle.gql_resolve.specs.declared.answer.Answer.{Answer}
@@ -24,11 +28,11 @@ use Rattle.gql_select.specs.Grouped.{in_turn, respond_by, world_behind}
 use Rattle.gql_select.specs.Reading.{keyed}
 use Rattle.gql_select.proofs.UnitingLemmas.{distinct_united, either, united_distinct}
 use Rattle.gql_merged.specs.Asks.{asking_by, asks_of, outcome_by}
-use Rattle.gql_merged.specs.Assembled.{members_with}
+use Rattle.gql_merged.specs.Assembled.{absent_place, members_with, typename_place}
 use Rattle.gql_merged.specs.Assembling.{IsRight}
 use Rattle.gql_merged.specs.Basis.{execution_of, setting_by}
 use Rattle.gql_merged.specs.FieldsWithin.{collected}
-use Rattle.gql_merged.specs.Grouped.{groups_by}
+use Rattle.gql_merged.specs.Grouped.{groups_by, keeps_whole}
 use Rattle.gql_merged.specs.Jobs.{Job, job_of, jobs_of_as}
 use Rattle.gql_merged.specs.Levels.{Asked, asked_in_as, asked_on}
 use Rattle.gql_merged.specs.Merged.{beneath_by}
@@ -46,7 +50,7 @@ use Rattle.gql_merged.proofs.WithinLemmas.{both_within, merged_all, nests_within
 
 -- one place more
 module _ {V W : Type 0} (serving : Serving V W) where
-  pub placed_next : (world : W) (done : List (Job V)) (root : Job V) (os : List (Option Place)) (place : Place)
+  pub placed_next : (world : W) (done : List (Job V)) (root : Job V) (os : List (Option Piece)) (place : Piece)
       → PlacedInTurn serving world done os
       → IsRight (answer_in_phase serving (world_past serving job_subject world done) root) root place
       → PlacedInTurn serving world (done ++ root ∷ []) (os ++ Some place ∷ [])
@@ -93,6 +97,30 @@ module _ {F Pl W : Type 0} (effect : W → F → W) (placed : W → W → F → 
   distinct_in_turn [] world d = tt
   distinct_in_turn (m ∷ ms) world d = (absent_in_turn m.0 ms (effect world m.1) d.0, distinct_in_turn ms (effect world m.1) d.1)
 
+-- members of the same names stand once each in both
+same_under : (k : List ℕ) (ms ns : Members) → Paired AreAlikeMembers ms ns → under k ns ≡ None → under k ms ≡ None
+same_under k [] [] same none = refl
+same_under k [] (n ∷ ns) same none = absurd same
+same_under k (m ∷ ms) [] same none = absurd same
+same_under k (m ∷ ms) (n ∷ ns) same none =
+    either (bytes_eq k n.0) (under k (m ∷ ms) ≡ None)
+    (λ e. let found : under k (n ∷ ns) ≡ Some n.1 = rw e refl in cc)
+    (λ e. let past : under k (n ∷ ns) ≡ under k ns = rw e refl in
+    let rest : under k ms ≡ None = same_under k ms ns same.1 (sym past ∙ none) in
+    let differs : bytes_eq k m.0 ≡ false = ap (bytes_eq k) same.0.0 ∙ e in rw differs rest)
+
+same_distinct : (ms ns : Members) → Paired AreAlikeMembers ms ns → HasDistinctNames ns → HasDistinctNames ms
+same_distinct [] [] same d = tt
+same_distinct [] (n ∷ ns) same d = absurd same
+same_distinct (m ∷ ms) [] same d = absurd same
+same_distinct (m ∷ ms) (n ∷ ns) same d =
+    ((same_under m.0 ms ns same.1 (ap (λ k. under k ns) same.0.0 ∙ d.0)), same_distinct ms ns same.1 d.1)
+
+-- members that stand once each are the same once they are united
+united_same : (whole : Bool) (ms ns : Members) → SameMembers whole ms ns → HasDistinctNames ns → SameMembers whole (unite_all join [] ms) ns
+united_same true ms ns same d = ap (unite_all join []) same ∙ united_distinct join ns d
+united_same false ms ns same d = subst (λ xs. Paired AreAlikeMembers xs ns) (sym (united_distinct join ms (same_distinct ms ns same d))) same
+
 module _ {V W : Type 0} (how : Grouping) (scene : Scene V) (serving : Serving V W) (n : ℕ) where
   -- what is beneath a root key that left this world
   abbrev beneath : W → Positioned Field → List ℕ → FieldValue V → Members
@@ -114,39 +142,52 @@ module _ {V W : Type 0} (how : Grouping) (scene : Scene V) (serving : Serving V 
   left_by world asking = world_of (execution_of (basis_by how scene)) serving.effect world asking
 
   -- one root key, and those behind it
-  one_key : (key : List ℕ) (field : Positioned Field) (a : Asks) (world : W) (os : List (Option Place)) (jobs : List (Job V)) (members : List (List ℕ × Asked))
+  one_key : (key : List ℕ) (field : Positioned Field) (a : Asks) (world : W) (os : List (Option Piece)) (jobs : List (Job V)) (members : List (List ℕ × Asked))
       (rest : W → Members)
-      → ((w : W) (ps : List (Option Place)) → PlacedInTurn serving w jobs ps → places_under (root_spot scene).object members (present ps) ≡ rest w)
+      → ((w : W) (ps : List (Option Piece)) → PlacedInTurn serving w jobs ps
+      → SameMembers (keeps_whole how) (places_under (root_spot scene).object members (map place_in (present ps))) (rest w))
       → IsWithin (setting_by (basis_by how scene)) n (own_selections field)
       → PlacedInTurn serving world (job_of (basis_by how scene) (root_spot scene) field (asked_by_key a) ++ jobs) os
-      → places_under (root_spot scene).object ((key, record { basis = basis_by how scene; field = field; asks = a }) ∷ members) (present os)
-      ≡ (key, key_place world (left_by world (asked_by_key a)) field a) ∷ rest (left_by world (asked_by_key a))
+      → SameMembers (keeps_whole how)
+      (places_under (root_spot scene).object ((key, record { basis = basis_by how scene; field = field; asks = a }) ∷ members) (map place_in (present os)))
+      ((key, key_place world (left_by world (asked_by_key a)) field a) ∷ rest (left_by world (asked_by_key a)))
   one_key key field asks.Typename world os jobs members rest others within placed =
-      λ i. (key, record { pos = field.pos; non_null = true; added = []; headers = []; tree = sym (fill-Leaf field.pos (beneath world field) (value.String (root_spot scene).object)) i })
-      ∷ others world os placed i
+      members_cons (keeps_whole how) key _ _ (places_under (root_spot scene).object members (map place_in (present os))) (rest world)
+      (same_of (keeps_whole how) (typename_place field.pos (root_spot scene).object) (key_place world world field asks.Typename)
+      (λ i. record { pos = field.pos; non_null = true; added = []; headers = []; tree = sym (fill-Leaf field.pos (beneath world field) (value.String (root_spot scene).object)) i }))
+      (others world os placed)
   one_key key field asks.Nothing world os jobs members rest others within placed =
-      λ i. (key, record { pos = field.pos; non_null = false; added = []; headers = []; tree = sym (fill-Absent field.pos (beneath world field)) i }) ∷ others world os placed i
+      members_cons (keeps_whole how) key _ _ (places_under (root_spot scene).object members (map place_in (present os))) (rest world)
+      (same_of (keeps_whole how) (absent_place field.pos) (key_place world world field asks.Nothing)
+      (λ i. record { pos = field.pos; non_null = false; added = []; headers = []; tree = sym (fill-Absent field.pos (beneath world field)) i }))
+      (others world os placed)
   one_key key field (asks.Call resolver ty arguments) world [] jobs members rest others within placed = absurd placed
   one_key key field (asks.Call resolver ty arguments) world (o ∷ os) jobs members rest others within placed =
       let behind = left_by world (asked_by_key (asks.Call resolver ty arguments)) in
       let here = placed.0 in
-      let right : here.0 ≡ key_place world behind field (asks.Call resolver ty arguments) =
-      here.2 n within
-      ∙ (λ i. place_with field.pos
+      let right : Same (keeps_whole how) (place_in here.0) (key_place world behind field (asks.Call resolver ty arguments)) =
+      subst (Same (keeps_whole how) (place_in here.0))
+      (λ i. place_with field.pos
       (outcome_by true (execution_of (basis_by how scene)) (λ call. serving.answer call world) (root_spot scene).object (root_spot scene).parent (asks.Call resolver ty arguments))
-      (λ object parent. below_alike (basis_by how scene) serving.answer world behind n field object parent i)) in
-      ap (λ q. places_under (root_spot scene).object ((key, record { basis = basis_by how scene; field = field; asks = asks.Call resolver ty arguments }) ∷ members) (present (q ∷ os))) here.1
-      ∙ (λ i. (key, right i) ∷ others behind os placed.1 i)
+      (λ object parent. below_alike (basis_by how scene) serving.answer world behind n field object parent i))
+      (here.2 n within) in
+      subst (λ q. SameMembers (keeps_whole how)
+      (places_under (root_spot scene).object ((key, record { basis = basis_by how scene; field = field; asks = asks.Call resolver ty arguments }) ∷ members)
+      (map place_in (present (q ∷ os))))
+      ((key, key_place world behind field (asks.Call resolver ty arguments)) ∷ rest behind)) (sym here.1)
+      (members_cons (keeps_whole how) key (place_in here.0) (key_place world behind field (asks.Call resolver ty arguments))
+      (places_under (root_spot scene).object members (map place_in (present os))) (rest behind) right (others behind os placed.1))
 
   -- all of them
-  pub keys_are : (fields : List (List ℕ × Positioned Field)) (world : W) (os : List (Option Place))
+  pub keys_are : (fields : List (List ℕ × Positioned Field)) (world : W) (os : List (Option Piece))
       → AllByRecursion (λ field. IsWithin (setting_by (basis_by how scene)) n (own_selections field)) (values_of fields)
       → PlacedInTurn serving world (jobs_of_as true (basis_by how scene) (root_spot scene) fields) os
-      → places_under (root_spot scene).object (asked_on (basis_by how scene) (root_spot scene).object fields) (present os)
-      ≡ in_turn (answering scene serving.answer serving.effect).effect
+      → SameMembers (keeps_whole how)
+      (places_under (root_spot scene).object (asked_on (basis_by how scene) (root_spot scene).object fields) (map place_in (present os)))
+      (in_turn (answering scene serving.answer serving.effect).effect
       (λ before behind field. placed (execution_of (basis_by how scene)) true (λ call. serving.answer call before) (root_spot scene).object (root_spot scene).parent field (beneath behind field))
-      world fields
-  keys_are [] world [] within all = refl
+      world fields)
+  keys_are [] world [] within all = members_refl (keeps_whole how) []
   keys_are [] world (o ∷ os) within all = absurd all
   keys_are (member ∷ fields) world os within all =
       let a = asks_of (execution_of (basis_by how scene)) (root_spot scene).object member.1 in
@@ -154,30 +195,33 @@ module _ {V W : Type 0} (how : Grouping) (scene : Scene V) (serving : Serving V 
       let rest : W → Members = λ w. in_turn (answering scene serving.answer serving.effect).effect
       (λ before behind field. placed (execution_of (basis_by how scene)) true (λ call. serving.answer call before) (root_spot scene).object (root_spot scene).parent field (beneath behind field))
       w fields in
-      one_key member.0 member.1 a world os (jobs_of_as true (basis_by how scene) (root_spot scene) fields) (asked_on (basis_by how scene) (root_spot scene).object fields) rest
-      (λ w ps. keys_are fields w ps within.1) within.0
-      (subst (λ q. PlacedInTurn serving world (job_of (basis_by how scene) (root_spot scene) member.1 q ++ jobs_of_as true (basis_by how scene) (root_spot scene) fields) os) same all)
-      ∙ (λ i. (
+      subst (SameMembers (keeps_whole how)
+      (places_under (root_spot scene).object (asked_on (basis_by how scene) (root_spot scene).object (member ∷ fields)) (map place_in (present os))))
+      (λ i. (
         member.0,
         place_with member.1.pos
             (sym (outcome_is true (execution_of (basis_by how scene)) (root_spot scene).parent (λ call. serving.answer call world) (root_spot scene).object member.1) i)
             (beneath (left_by world (sym same i)) member.1),
       ) ∷ rest (left_by world (sym same i)))
+      (one_key member.0 member.1 a world os (jobs_of_as true (basis_by how scene) (root_spot scene) fields) (asked_on (basis_by how scene) (root_spot scene).object fields) rest
+      (λ w ps. keys_are fields w ps within.1) within.0
+      (subst (λ q. PlacedInTurn serving world (job_of (basis_by how scene) (root_spot scene) member.1 q ++ jobs_of_as true (basis_by how scene) (root_spot scene) fields) os) same all))
 
 module _ {V W : Type 0} (how : Grouping) (scene : Scene V) (serving : Serving V W) where
   -- the members of the root are those of the definition
-  pub members_in_turn : (world : W) (os : List (Option Place)) (n : ℕ) → Nests scene n → PlacedInTurn serving world (key_jobs_by how scene) os
-      → members_with (root_spot scene).object (asked_in_as true (basis_by how scene) (root_spot scene).object (root_selections scene)) (present os)
-      ≡ serial_members_by scene serving.answer serving.effect how world n
+  pub members_in_turn : (world : W) (os : List (Option Piece)) (n : ℕ) → Nests scene n → PlacedInTurn serving world (key_jobs_by how scene) os
+      → SameMembers (keeps_whole how)
+      (members_with (root_spot scene).object (asked_in_as true (basis_by how scene) (root_spot scene).object (root_selections scene)) (map place_in (present os)))
+      (serial_members_by scene serving.answer serving.effect how world n)
   members_in_turn world os zero nests placed = cc
   members_in_turn world os (suc n) nests placed =
       let setting = setting_by (basis_by how scene) in
       let fields : List (Positioned Field) = collected (basis_by how scene) (root_spot scene).object (root_selections scene) in
-      ap (unite_all join [])
+      united_same (keeps_whole how) _ _
       (keys_are how scene serving n (keys_of scene) world os
       (merged_all (λ field. IsWithin setting n (own_selections field)) (λ f g h k. both_within setting n f g h k) setting fields
       (nests_within setting n (operation_set scene.env.now.operation) nests (root_spot scene).object)) placed)
-      ∙ united_distinct join _ (distinct_in_turn (answering scene serving.answer serving.effect).effect
+      (distinct_in_turn (answering scene serving.answer serving.effect).effect
       (λ before behind field. (answering scene serving.answer serving.effect).root before (root_spot scene).object (root_spot scene).parent field (beneath how scene serving n behind field))
       (keys_of scene) world (distinct_united both [] (keyed (reading setting) fields) tt))
 

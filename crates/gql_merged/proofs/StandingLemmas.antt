@@ -2,7 +2,8 @@
 use Rattle.std.proofs.Common.{◌≡◌, ℕ, zero, suc, ◌+◌, ◌<◌, ◌≤◌, Bool, true, false, eqb, List, [], ◌∷◌, ◌++◌, length, take, drop, Option, Some, None, slice_get, refl, sym, ap, subst, ◌∙◌, arith, eqb-true, false-eqb, inl, inr, length-append}
 use Rattle.std.specs.Prelude.{◌-◌}
 use Rattle.gql_merged.specs.Entries.{Entry, laid, latest}
-use Rattle.gql_merged.specs.Standing.{IsHeld, IsStored, Paired, present, put_open, stands_for, Store}
+use Rattle.gql_place.specs.Alike.{Paired}
+use Rattle.gql_merged.specs.Standing.{IsHeld, IsStored, present, put_open, stands_for, Store}
 use Rattle.gql_merged.proofs.EntryLemmas.{laid_grows, laid_less, latest_other, latest_same, latest_within}
 use Rattle.gql_merged.proofs.PutLemmas.{put_get}
 
@@ -77,23 +78,24 @@ module _ {J X : Type 0} {Fits : J → X → Type 0} {beneath : J → List J} whe
     block = (λ i. take (count i) (drop (first i) (jobs ++ more))) ∙ ap (take (length more)) (drop_all jobs more) ∙ take_all more ∙ made;
   }
 
-module _ {J X P : Type 0} (Fits : J → X → Type 0) (beneath : J → List J) (made : X → P) (jobs : List J) where
+module _ {J X P : Type 0} (Fits : J → X → Type 0) (beneath : J → List J) (Made : X → P → Type 0) (jobs : List J) where
   -- the place of a task with none beneath it is put
-  pub stored_put : (store : Store X P) (number : ℕ) (job : J) (x : X) → slice_get jobs number ≡ Some job → Fits job x → beneath job ≡ [] → stands_for store.places number ≡ Some (made x)
-      → IsStored Fits beneath made jobs store number
-  stored_put store number job x there fits none put = inl (record { job = job; there = there; filled = x; fits = fits; none = none; put = put })
+  pub stored_put : (store : Store X P) (number : ℕ) (job : J) (x : X) (place : P) → slice_get jobs number ≡ Some job → Fits job x → beneath job ≡ []
+      → stands_for store.places number ≡ Some place → Made x place → IsStored Fits beneath Made jobs store number
+  stored_put store number job x place there fits none put made =
+      inl (record { job = job; there = there; filled = x; fits = fits; none = none; place = place; put = put; made = made })
 
   -- what is stored of a task stays where its own place does
   pub stored_beside : (store store' : Store X P) (number : ℕ) → store'.entries ≡ store.entries → stands_for store'.places number ≡ stands_for store.places number
-      → IsStored Fits beneath made jobs store number → IsStored Fits beneath made jobs store' number
-  stored_beside store store' number kept same (inl p) = inl (record { job = p.job; there = p.there; filled = p.filled; fits = p.fits; none = p.none; put = same ∙ p.put })
+      → IsStored Fits beneath Made jobs store number → IsStored Fits beneath Made jobs store' number
+  stored_beside store store' number kept same (inl p) = inl (record { job = p.job; there = p.there; filled = p.filled; fits = p.fits; none = p.none; place = p.place; put = same ∙ p.put; made = p.made })
   stored_beside store store' number kept same (inr l) = inr (record { held = subst (λ es. IsHeld Fits beneath jobs es number) (sym kept) l.held; stays = same ∙ l.stays })
 
   -- also where tasks are added, and one more is kept
   pub stored_more : (more : List J) (store store' : Store X P) (k : Entry X) (number : ℕ) → (number ≡ k.number → ⊥) → store'.entries ≡ store.entries ++ k ∷ []
-      → stands_for store'.places number ≡ stands_for store.places number → IsStored Fits beneath made jobs store number → IsStored Fits beneath made (jobs ++ more) store' number
+      → stands_for store'.places number ≡ stands_for store.places number → IsStored Fits beneath Made jobs store number → IsStored Fits beneath Made (jobs ++ more) store' number
   stored_more more store store' k number differs kept same (inl p) =
-      inl (record { job = p.job; there = get_left jobs more number p.job p.there; filled = p.filled; fits = p.fits; none = p.none; put = same ∙ p.put })
+      inl (record { job = p.job; there = get_left jobs more number p.job p.there; filled = p.filled; fits = p.fits; none = p.none; place = p.place; put = same ∙ p.put; made = p.made })
   stored_more more store store' k number differs kept same (inr l) =
       inr (record {
         held = subst (λ es. IsHeld Fits beneath (jobs ++ more) es number) (sym kept) (held_more jobs more store.entries k number differs l.held);
@@ -103,7 +105,7 @@ module _ {J X P : Type 0} (Fits : J → X → Type 0) (beneath : J → List J) (
   -- what a task was given last is kept, and its place is open
   pub stored_now : (more : List J) (store store' : Store X P) (k : Entry X) (job : J) → slice_get jobs k.number ≡ Some job → Fits job k.filled → k.first ≡ length jobs
       → k.count ≡ length more → more ≡ beneath job → store'.entries ≡ store.entries ++ k ∷ [] → stands_for store'.places k.number ≡ None
-      → IsStored Fits beneath made (jobs ++ more) store' k.number
+      → IsStored Fits beneath Made (jobs ++ more) store' k.number
   stored_now more store store' k job there fits first count is kept stays =
       inr (record {
         held = subst (λ es. IsHeld Fits beneath (jobs ++ more) es k.number) (sym kept) (held_now jobs more store.entries k job there fits first count is);
@@ -226,16 +228,16 @@ module _ {J X P : Type 0} (Fits : J → X → Type 0) (beneath : J → List J) (
       }
 
   -- before any place is put together
-  pub stands_first : (made : X → P) (store : Store X P) → ((k : ℕ) (job : J) → base ≤ k → slice_get jobs k ≡ Some job → IsStored Fits beneath made jobs store k)
-      → ((job : J) (x : X) → Fits job x → beneath job ≡ [] → Right job (made x)) → Stands store.entries store.places
-  stands_first made store stored finishes = record {
+  pub stands_first : (Made : X → P → Type 0) (store : Store X P) → ((k : ℕ) (job : J) → base ≤ k → slice_get jobs k ≡ Some job → IsStored Fits beneath Made jobs store k)
+      → ((job : J) (x : X) (place : P) → Fits job x → beneath job ≡ [] → Made x place → Right job place) → Stands store.entries store.places
+  stands_first Made store stored finishes = record {
     each = λ k job o above there stands. due k job o there (put_get store.places k o stands) (stored k job above there);
   }
     where
-      due : (k : ℕ) (job : J) (o : Option P) → slice_get jobs k ≡ Some job → stands_for store.places k ≡ o → IsStored Fits beneath made jobs store k → IsDue store.entries k job o
+      due : (k : ℕ) (job : J) (o : Option P) → slice_get jobs k ≡ Some job → stands_for store.places k ≡ o → IsStored Fits beneath Made jobs store k → IsDue store.entries k job o
       due k job o there at (inl p) =
           let same : p.job ≡ job = (let e : Some p.job ≡ Some job = sym p.there ∙ there in cc) in
-          placed store.entries k job o (made p.filled) (sym at ∙ p.put) (subst (λ j. Right j (made p.filled)) same (finishes p.job p.filled p.fits p.none))
+          placed store.entries k job o p.place (sym at ∙ p.put) (subst (λ j. Right j p.place) same (finishes p.job p.filled p.place p.fits p.none p.made))
       due k job o there at (inr l) = subst (IsDue store.entries k job) (sym (sym at ∙ l.stays)) l.held
 
   -- all places are put together

@@ -54,11 +54,13 @@ module _ (P : Positioned Field → Type 0) (closed : (f g : Positioned Field) �
   -- and of those that stand for groups
   pub groups_all : (by : Grouping) (setting : Setting) (fs : List (Positioned Field)) → AllByRecursion P fs → AllByRecursion P (values_of (groups_by by setting fs))
   groups_all grouping.ByKey setting fs h = merged_all setting fs h
+  groups_all grouping.ByKeyWhole setting fs h = merged_all setting fs h
   groups_all grouping.Each setting fs h = keyed_all setting fs h
 
 -- no fields have no groups
 pub groups_none : (by : Grouping) (setting : Setting) → groups_by by setting [] ≡ []
 groups_none grouping.ByKey setting = refl
+groups_none grouping.ByKeyWhole setting = refl
 groups_none grouping.Each setting = refl
 
 module _ (setting : Setting) where

@@ -1,22 +1,29 @@
 -- How the places of tasks are put together of what is kept of them, and when they are right.
-use Rattle.std.specs.Prelude.{◌≡◌, ◌≤◌, ℕ, List, [], ◌∷◌, Option, Some, map, slice_get}
+use Rattle.std.specs.Prelude.{◌≡◌, ◌≤◌, ℕ, Bool, false, List, [], ◌∷◌, Option, Some}
+use Rattle.std.specs.Prelude.{drop, map, slice_get, take}
+use Rattle.std.specs.List.{AllByRecursion}
 use Rattle.gql_base.specs.declared.pos.Pos.{Pos}
 use Rattle.gql_meaning.specs.Responses.{Members, root_place}
+use Rattle.gql_place.specs.Alike.{Paired, Same}
+use Rattle.gql_place.specs.Pieces.{place_in}
+use Rattle.gql_place.specs.declared.piece.Piece.{Piece}
 use Rattle.gql_place.specs.declared.place.Place.{Place}
 use Rattle.gql_resolve.specs.Call.{Call}
 use Rattle.gql_resolve.specs.declared.answer.Answer.{Answer}
 use Rattle.gql_select.specs.Collected.{own_selections}
-use Rattle.gql_base.specs.Pairs.{values_of}
+use Rattle.gql_base.specs.Pairs.{HasDistinctNames, values_of}
 use Rattle.gql_merged.specs.Assembled.{members_with, places_behind_all}
 use Rattle.gql_merged.specs.Basis.{setting_by}
 use Rattle.gql_merged.specs.Filling.{tree_with}
+use Rattle.gql_merged.specs.Grouped.{keeps_whole}
 use Rattle.gql_merged.specs.Fitting.{IsFilled}
 use Rattle.gql_merged.specs.Jobs.{Job, jobs_beneath}
 use Rattle.gql_merged.specs.Merged.{place_by}
 use Rattle.gql_merged.specs.Parents.{Standing, standing_behind}
-use Rattle.gql_merged.specs.Standing.{IsStored, Paired, Store}
+use Rattle.gql_merged.specs.Standing.{IsStored, present, put_open, PutsAt, Store}
 use Rattle.gql_merged.specs.Within.{IsWithin}
 use Rattle.gql_merged.specs.declared.kept.Filled.{Filled}
+use Rattle.gql_merged.specs.declared.kept.Kept.{Kept}
 
 module _ {V : Type 0} where
   -- the members of objects, where each takes the places of its tasks from the front
@@ -38,9 +45,32 @@ module _ {V : Type 0} where
         (members_each (map standing_behind filled.parents.items) places);
   }
 
-  -- the place of what a task came to, with no tasks beneath it
-  abbrev pub place_alone : Filled V → Place
-  place_alone filled = place_made filled []
+  -- unless places are kept whole, no object has a key twice
+  abbrev pub AreApart : Bool → List (Standing V) → Type 0
+  AreApart whole standings =
+      AllByRecursion (λ (s : Standing V). whole ≡ false → HasDistinctNames s.members) standings
+
+  -- what is kept of the place of what a task came to, of what is kept of those beneath it
+  abbrev pub IsMade : Filled V → List Piece → Piece → Type 0
+  IsMade filled own piece = AreApart filled.whole (map standing_behind filled.parents.items)
+      → Same filled.whole (place_in piece) (place_made filled (map place_in own))
+
+  -- the same with no tasks beneath it
+  abbrev pub IsMadeAlone : Filled V → Piece → Type 0
+  IsMadeAlone filled piece = IsMade filled [] piece
+
+  -- the place of a task with no tasks beneath it is put
+  pub record IsPutAlone (filled : Filled V) (number : ℕ) (places places' : List (Option Piece))
+      : Type 0 where
+    pub piece : Piece
+    pub made : IsMadeAlone filled piece
+    pub puts : PutsAt (Some piece) number places places'
+
+  -- the place of a task is put where it is open, of the places beneath it, which are taken off
+  pub record IsPutOpen (kept : Kept V) (places places' : List (Option Piece)) : Type 0 where
+    pub piece : Piece
+    pub made : IsMade kept.filled (present (drop kept.first places)) piece
+    pub puts : places' ≡ put_open piece (take kept.first places) kept.number
 
   module _ (answer : Call V → Answer V) where
     -- what a task came to with the answer that is due
@@ -52,30 +82,33 @@ module _ {V : Type 0} where
     beneath_due job = jobs_beneath job (answer job.asking.call)
 
     -- the answers that are due are stored of all tasks
-    abbrev pub AllHeld : List (Job V) → Store (Filled V) Place → Type 0
+    abbrev pub AllHeld : List (Job V) → Store (Filled V) Piece → Type 0
     AllHeld jobs store =
         (k : ℕ) (job : Job V) → slice_get jobs k ≡ Some job
-        → IsStored IsFilledDue beneath_due place_alone jobs store k
+        → IsStored IsFilledDue beneath_due IsMadeAlone jobs store k
 
     -- the same of all from a number on
-    abbrev pub AllHeldSince : ℕ → List (Job V) → Store (Filled V) Place → Type 0
+    abbrev pub AllHeldSince : ℕ → List (Job V) → Store (Filled V) Piece → Type 0
     AllHeldSince base jobs store =
         (k : ℕ) (job : Job V) → base ≤ k → slice_get jobs k ≡ Some job
-        → IsStored IsFilledDue beneath_due place_alone jobs store k
+        → IsStored IsFilledDue beneath_due IsMadeAlone jobs store k
 
-    -- a place is that of merged execution, for all levels within which the field's set nests
-    abbrev pub IsRight : Job V → Place → Type 0
-    IsRight job place = (n : ℕ) → IsWithin (setting_by job.basis) n (own_selections job.field)
-        → place ≡ place_by job.basis answer n job
+    -- what is kept of a place is that of merged execution, for all levels within which the
+    -- field's set nests
+    abbrev pub IsRight : Job V → Piece → Type 0
+    IsRight job piece = (n : ℕ) → IsWithin (setting_by job.basis) n (own_selections job.field)
+        → Same (keeps_whole job.basis.grouping) (place_in piece) (place_by job.basis answer n job)
 
     -- each place from a number on is there, and is right
-    pub record ArePlaced (base : ℕ) (jobs : List (Job V)) (places : List (Option Place)) : Type 0 where
-      pub each : (k : ℕ) (job : Job V) (o : Option Place) → base ≤ k → slice_get jobs k ≡ Some job
-          → slice_get places k ≡ Some o → (place : Place) × (o ≡ Some place) × IsRight job place
+    pub record ArePlaced (base : ℕ) (jobs : List (Job V)) (places : List (Option Piece))
+        : Type 0 where
+      pub each : (k : ℕ) (job : Job V) (o : Option Piece) → base ≤ k → slice_get jobs k ≡ Some job
+          → slice_get places k ≡ Some o → (place : Piece) × (o ≡ Some place) × IsRight job place
 
-    -- a place of the root, of the right places of the root's tasks
-    pub record IsAssembled (pos : Pos) (root : Standing V) (jobs : List (Job V))
-        (place : Place) : Type 0 where
-      pub own : List Place
+    -- what is kept of the root's place, of the right places of the root's tasks
+    pub record IsAssembled (whole : Bool) (pos : Pos) (root : Standing V) (jobs : List (Job V))
+        (piece : Piece) : Type 0 where
+      pub own : List Piece
       pub right : Paired IsRight jobs own
-      pub place_is : place ≡ root_place pos (members_with root.spot.object root.members own)
+      pub piece_is : Same whole (place_in piece)
+          (root_place pos (members_with root.spot.object root.members (map place_in own)))

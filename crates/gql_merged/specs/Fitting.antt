@@ -10,6 +10,7 @@ use Rattle.gql_place.specs.declared.shape.Shape.TheVariants as shape
 use Rattle.gql_resolve.specs.declared.answer.Answer.{Answer}
 use Rattle.gql_select.specs.Collected.{own_selections}
 use Rattle.gql_merged.specs.Entries.{Entry}
+use Rattle.gql_merged.specs.Grouped.{keeps_whole}
 use Rattle.gql_merged.specs.Jobs.{completed_by, Job, jobs_beneath}
 use Rattle.gql_merged.specs.Parents.{standing_at, standing_behind}
 use Rattle.gql_merged.specs.Stored.{Bare, bare, spots}
@@ -29,6 +30,7 @@ module _ {V : Type 0} where
     pub non_null_is : filled.non_null ≡ not (is_nullable job.asking.ty)
     pub added_is : filled.added ≡ answer.added
     pub headers_is : filled.headers ≡ answer.headers
+    pub whole_is : filled.whole ≡ keeps_whole job.basis.grouping
     pub shape_is : filled.shape ≡ bare (completed_by job answer)
     pub parents_are : map standing_behind filled.parents.items
         ≡ map (standing_at job.basis (own_selections job.field))

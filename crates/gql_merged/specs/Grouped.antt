@@ -17,7 +17,14 @@ use Rattle.gql_merged.specs.declared.basis.Grouping.TheVariants as grouping
 abbrev pub groups_by : Grouping → Setting → List (Positioned Field)
     → List (List ℕ × Positioned Field)
 groups_by grouping.ByKey setting fields = merged (reading setting) fields
+groups_by grouping.ByKeyWhole setting fields = merged (reading setting) fields
 groups_by grouping.Each setting fields = keyed (reading setting) fields
+
+-- whether places are kept whole, and not their data alone where they tell nothing else
+abbrev pub keeps_whole : Grouping → Bool
+keeps_whole grouping.ByKey = false
+keeps_whole grouping.ByKeyWhole = true
+keeps_whole grouping.Each = true
 
 -- the root keys of a mutation are merged in any case (section 6.2.2)
 abbrev pub grouping_at : (is_root : Bool) → Grouping → Grouping

@@ -3,7 +3,7 @@ use Rattle.std.specs.Prelude.{◌≡◌, ◌-◌, ◌++◌, ℕ, true, List, [],
 use Rattle.gql_base.specs.declared.no_memory.NoMemory.{NoMemory}
 use Rattle.gql_engine.specs.Parts.{Moment, Parts}
 use Rattle.gql_engine.specs.Phases.{CutInTurn, InTurn}
-use Rattle.gql_place.specs.declared.place.Place.{Place}
+use Rattle.gql_place.specs.declared.piece.Piece.{Piece}
 use Rattle.gql_resolve.specs.Call.{Call}
 use Rattle.gql_resolve.specs.declared.answer.Answer.{Answer}
 use Rattle.gql_merged.specs.Assembling.{IsRight}
@@ -27,14 +27,14 @@ IsKey job = (job.asking.call.is_root ≡ true) × (length job.path ≡ 1)
 
 -- one more place stands behind others, and is right
 pub record HasPlace {V : Type 0} (answer : Call V → Answer V) (root : Job V)
-    (own own' : List (Option Place)) : Type 0 where
-  pub place : Place
+    (own own' : List (Option Piece)) : Type 0 where
+  pub place : Piece
   pub added : own' ≡ own ++ Some place ∷ []
   pub right : IsRight answer root place
 
 -- the last place is put, and is right
 pub record PutsLast {V : Type 0} (answer : Call V → Answer V) (root : Job V)
-    (own own' : List (Option Place)) : Type 0 where
-  pub place : Place
+    (own own' : List (Option Piece)) : Type 0 where
+  pub place : Piece
   pub put : own' ≡ slice_set own (length own - 1) (Some place)
   pub right : IsRight answer root place

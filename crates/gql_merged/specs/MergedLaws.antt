@@ -77,6 +77,8 @@ TasksAreJobs V =
 pub record QueriesAreGrouped {V : Type 0} (scene : Scene V) (answer : Call V → Answer V) (n : ℕ)
     : Type 0 where
   pub by_key : response_by grouping.ByKey scene answer n ≡ merged_response scene answer n
+  pub by_key_whole : response_by grouping.ByKeyWhole scene answer n
+      ≡ merged_response scene answer n
   pub each : response_by grouping.Each scene answer n ≡ apart_response scene answer n
   pub asked : count_by scene answer n grouping.ByKey ≡ merged_count scene answer n
 
@@ -84,6 +86,8 @@ pub record QueriesAreGrouped {V : Type 0} (scene : Scene V) (answer : Call V →
 pub record MutationsAreGrouped {V W : Type 0} (scene : Scene V) (answer : Call V → W → Answer V)
     (effect : Call V → W → W) (world : W) (n : ℕ) : Type 0 where
   pub by_key : serial_response_by scene answer effect grouping.ByKey world n
+      ≡ serial_response scene answer effect world n
+  pub by_key_whole : serial_response_by scene answer effect grouping.ByKeyWhole world n
       ≡ serial_response scene answer effect world n
   pub each : serial_response_by scene answer effect grouping.Each world n
       ≡ serial_apart_response scene answer effect world n

@@ -91,6 +91,10 @@ module _ {V : Type 0} (scene : Scene V) where
   abbrev pub merged_work : Work V (Job V)
   merged_work = work_by grouping.ByKey scene
 
+  -- the same where places are kept whole
+  abbrev pub merged_work_whole : Work V (Job V)
+  merged_work_whole = work_by grouping.ByKeyWhole scene
+
   -- what apart execution has to do: each occurrence is a task of its own
   abbrev pub apart_work : Work V (Job V)
   apart_work = work_by grouping.Each scene

@@ -10,6 +10,7 @@ use Rattle.gql_engine.specs.Phases.{answer_between, Serving}
 use Rattle.gql_engine.specs.declared.scene.Scene.{Scene}
 use Rattle.gql_meaning.specs.Responses.{Asked, Members, placed, world_after}
 use Rattle.gql_place.specs.Join.{join}
+use Rattle.gql_place.specs.declared.piece.Piece.{Piece}
 use Rattle.gql_place.specs.declared.place.Place.{Place}
 use Rattle.gql_resolve.specs.Call.{Call}
 use Rattle.gql_resolve.specs.declared.answer.Answer.{Answer}
@@ -122,10 +123,10 @@ module _ {V W : Type 0} (serving : Serving V W) where
       answer_between serving.answer world (serving.effect root.asking.call world)
 
   -- all of them, the first in this world
-  abbrev pub PlacedInTurn : W → List (Job V) → List (Option Place) → Type 0
+  abbrev pub PlacedInTurn : W → List (Job V) → List (Option Piece) → Type 0
   PlacedInTurn world [] [] = Unit {0}
   PlacedInTurn world [] (o ∷ os) = ⊥
   PlacedInTurn world (root ∷ roots) [] = ⊥
   PlacedInTurn world (root ∷ roots) (o ∷ os) =
-      ((place : Place) × (o ≡ Some place) × IsRight (answer_in_phase world root) root place)
+      ((place : Piece) × (o ≡ Some place) × IsRight (answer_in_phase world root) root place)
       × PlacedInTurn (serving.effect root.asking.call world) roots os

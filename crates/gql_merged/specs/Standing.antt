@@ -28,13 +28,6 @@ pub record PutsAt {P : Type 0} (o : Option P) (number : ℕ) (places places' : L
   pub here : stands_for places' number ≡ o
   pub others : (k : ℕ) → (k ≡ number → ⊥) → stands_for places' k ≡ stands_for places k
 
--- two lists whose items stand in a relation, one by one
-abbrev pub Paired : {X Y : Type 0} → (X → Y → Type 0) → List X → List Y → Type 0
-Paired R [] [] = Unit {0}
-Paired R [] (y ∷ ys) = ⊥
-Paired R (x ∷ xs) [] = ⊥
-Paired R (x ∷ xs) (y ∷ ys) = R x y × Paired R xs ys
-
 -- what is kept last of a task fits it, and the tasks beneath it stand where it says
 pub record IsHeld {J X : Type 0} (Fits : J → X → Type 0) (beneath : J → List J) (jobs : List J)
     (kepts : List (Entry X)) (number : ℕ) : Type 0 where
@@ -57,7 +50,7 @@ module _ {J X P : Type 0} (Fits : J → X → Type 0) (beneath : J → List J) w
     pub held : IsHeld Fits beneath jobs store.entries number
     pub stays : stands_for store.places number ≡ None
 
-  module _ (made : X → P) where
+  module _ (Made : X → P → Type 0) where
     -- a task has no tasks beneath it, and its place is made of what it came to
     pub record IsPut (jobs : List J) (places : List (Option P)) (number : ℕ) : Type 0 where
       pub job : J
@@ -65,7 +58,9 @@ module _ {J X P : Type 0} (Fits : J → X → Type 0) (beneath : J → List J) w
       pub filled : X
       pub fits : Fits job filled
       pub none : beneath job ≡ []
-      pub put : stands_for places number ≡ Some (made filled)
+      pub place : P
+      pub put : stands_for places number ≡ Some place
+      pub made : Made filled place
 
     -- one of the two
     abbrev pub IsStored : List J → Store X P → ℕ → Type 0

@@ -43,5 +43,6 @@ pub fn run_apart<R: ResolverSet, P: Turns>(
 {
     let by = Grouping::Each;
     let blank = Blank::new(1);
-    run_on_blank::<R, P, Brand>(alloc, by, scene, resolvers, hooks, turns, blank)
+    let piece = run_on_blank::<R, P, Brand>(alloc, by, scene, resolvers, hooks, turns, blank)?;
+    Ok(piece.into_place(alloc))
 }

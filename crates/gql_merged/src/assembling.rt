@@ -2,8 +2,10 @@
 //! places beneath a task stand behind all others when it is its turn, and are moved into its own.
 ghost use Rattle.std.specs.Prelude.{ℕ, ◌≡◌, ◌<◌, ◌≤◌, [], List, None, Some};
 ghost use Rattle.std.specs.Prelude.{drop, length, map, take, IfOk, OnOk};
-ghost use Rattle.gql_merged.specs.Assembling.{AllHeldSince, ArePlaced, members_each, place_alone};
-ghost use Rattle.gql_merged.specs.Assembling.{place_made};
+ghost use Rattle.gql_place.specs.Alike.{Paired, SameMembers};
+ghost use Rattle.gql_place.specs.Pieces.{members_in, place_in};
+ghost use Rattle.gql_merged.specs.Assembling.{AllHeldSince, AreApart, ArePlaced, IsMade};
+ghost use Rattle.gql_merged.specs.Assembling.{IsMadeAlone, IsPutOpen, members_each};
 ghost use Rattle.gql_merged.specs.Entries.{laid};
 ghost use Rattle.gql_merged.specs.Fitting.{entries_in};
 ghost use Rattle.gql_merged.specs.Holds.{store_in};
@@ -17,8 +19,8 @@ use crate::filling::fill;
 use crate::kept::{Filled, Kept};
 use crate::members::members_at;
 use crate::parent::Parent;
-use gql_base::{Made, Pairs};
-use gql_place::Place;
+use gql_base::Made;
+use gql_place::{MemberPieces, Piece, Place};
 use std::alloc::Global;
 use std::collections::VecDeque;
 use std::mem;
@@ -32,7 +34,7 @@ pub(crate) fn assemble<'a, V: Drop>(
     alloc: Global,
     kept: Vec<Kept<'a, V>>,
     roots: usize,
-    places: &mut Vec<Option<Place>>,
+    places: &mut Vec<Option<Piece>>,
 ) -> Made<()>
     requires { laid roots (entries_in kept.items) ≡ Some (length places.old.items) }
     ensures length { OnOk result (length places.new.items ≡ roots) }
@@ -61,7 +63,7 @@ fn give_back<'a, V: Drop>(kept: &mut Vec<Kept<'a, V>>)
 
 /// Adds open places up to this count.
 #[tactic(auto, using(crate::proofs::PutLemmas::put_more))]
-pub(crate) fn add_open(places: &mut Vec<Option<Place>>, count: usize) -> Made<()>
+pub(crate) fn add_open(places: &mut Vec<Option<Piece>>, count: usize) -> Made<()>
     requires { length places.old.items ≤ count }
     ensures length { OnOk result (length places.new.items ≡ count) }
     ensures within { length places.new.items ≤ count }
@@ -75,8 +77,7 @@ pub(crate) fn add_open(places: &mut Vec<Option<Place>>, count: usize) -> Made<()
 }
 
 /// Puts the place of a task, whatever stood there.
-
-pub(crate) fn put_place_at(places: &mut Vec<Option<Place>>, number: usize, place: Place) -> Made<()>
+pub(crate) fn put_place_at(places: &mut Vec<Option<Piece>>, number: usize, place: Piece) -> Made<()>
     ensures puts { OnOk result
         (PutsAt (Some place) number places.old.items places.new.items) }
     ensures within { (n : ℕ) → number < n → length places.old.items ≤ n
@@ -93,7 +94,7 @@ pub(crate) fn put_place_at(places: &mut Vec<Option<Place>>, number: usize, place
 
 /// Leaves the place of a task open, whatever stood there.
 #[tactic(auto, using(crate::proofs::PutLemmas::puts_none))]
-pub(crate) fn open_place(places: &mut Vec<Option<Place>>, number: usize)
+pub(crate) fn open_place(places: &mut Vec<Option<Piece>>, number: usize)
     ensures opens { PutsAt None number places.old.items places.new.items }
     ensures length { length places.new.items ≡ length places.old.items }
 {
@@ -107,13 +108,11 @@ pub(crate) fn open_place(places: &mut Vec<Option<Place>>, number: usize)
 fn put_place<'a, V: Drop>(
     alloc: Global,
     kept: Kept<'a, V>,
-    places: &mut Vec<Option<Place>>,
+    places: &mut Vec<Option<Piece>>,
 ) -> Made<()>
     requires number { kept.number < kept.first }
     requires first { kept.first ≤ length places.old.items }
-    ensures { OnOk result (places.new.items
-        ≡ put_open (place_made kept.entry.filled (present (drop kept.entry.first places.old.items)))
-        (take kept.entry.first places.old.items) kept.entry.number) }
+    ensures { OnOk result (IsPutOpen kept.entry places.old.items places.new.items) }
 {
     let Kept {
         number,
@@ -122,13 +121,13 @@ fn put_place<'a, V: Drop>(
         filled,
     } = kept;
     let mut own = take_behind(places, first)?;
-    let place = place_from(alloc, filled, &mut own)?;
+    let place = piece_from(alloc, filled, &mut own)?;
     put_if_open(places, number, place);
     Ok(())
 }
 
 /// Puts a place where it is open.
-fn put_if_open(places: &mut Vec<Option<Place>>, number: usize, place: Place)
+fn put_if_open(places: &mut Vec<Option<Piece>>, number: usize, place: Piece)
     requires { number < length places.old.items }
     ensures { places.new.items ≡ put_open place places.old.items number }
 {
@@ -139,7 +138,7 @@ fn put_if_open(places: &mut Vec<Option<Place>>, number: usize, place: Place)
 
 /// Takes the places from the one of a number on, and leaves those before it. The fewer ones are
 /// moved.
-fn take_behind(places: &mut Vec<Option<Place>>, first: usize) -> Made<VecDeque<Option<Place>>>
+fn take_behind(places: &mut Vec<Option<Piece>>, first: usize) -> Made<VecDeque<Option<Piece>>>
     requires { first ≤ length places.old.items }
     ensures left { OnOk result (places.new.items ≡ take first places.old.items) }
     ensures behind { IfOk result (λ behind. behind.items ≡ drop first places.old.items) }
@@ -154,7 +153,7 @@ fn take_behind(places: &mut Vec<Option<Place>>, first: usize) -> Made<VecDeque<O
 /// Moves the places before the one of a number to a list of their own, and gives the list of all,
 /// in which the others are left.
 #[tactic(auto, using(crate::proofs::MovingLemmas::moving))]
-fn move_before(places: &mut Vec<Option<Place>>, first: usize) -> Made<VecDeque<Option<Place>>>
+fn move_before(places: &mut Vec<Option<Piece>>, first: usize) -> Made<VecDeque<Option<Piece>>>
     requires { first ≤ length places.old.items }
     ensures left { OnOk result (places.new.items ≡ take first places.old.items) }
     ensures behind { IfOk result (λ behind. behind.items ≡ drop first places.old.items) }
@@ -172,7 +171,7 @@ fn move_before(places: &mut Vec<Option<Place>>, first: usize) -> Made<VecDeque<O
 }
 
 /// Moves the places from the one of a number on to a list of their own.
-fn split_behind(places: &mut Vec<Option<Place>>, first: usize) -> Made<VecDeque<Option<Place>>>
+fn split_behind(places: &mut Vec<Option<Piece>>, first: usize) -> Made<VecDeque<Option<Piece>>>
     requires { first ≤ length places.old.items }
     ensures left { OnOk result (places.new.items ≡ take first places.old.items) }
     ensures behind { IfOk result (λ behind. behind.items ≡ drop first places.old.items) }
@@ -181,69 +180,75 @@ fn split_behind(places: &mut Vec<Option<Place>>, first: usize) -> Made<VecDeque<
     Ok(VecDeque::from_vec(behind))
 }
 
-/// The place of what a task came to, where it came to no object.
-pub(crate) fn place_alone<'a, V: Drop>(alloc: Global, filled: Filled<'a, V>) -> Made<Place>
+/// What is kept of the place of what a task came to, where it came to no object.
+pub(crate) fn piece_alone<'a, V: Drop>(alloc: Global, filled: Filled<'a, V>) -> Made<Piece>
     requires { filled.parents.items ≡ [] }
-    ensures { IfOk result (λ place. place ≡ place_alone filled.entry) }
+    ensures { IfOk result (λ piece. IsMadeAlone filled.entry piece) }
 {
     let Filled {
         pos,
         non_null,
         added,
         headers,
+        whole,
         shape,
         parents: _,
     } = filled;
-    let tree = fill(alloc, shape, pos, &mut VecDeque::new(alloc))?;
-    Ok(Place {
+    let tree = fill(alloc, shape, pos, whole, &mut VecDeque::new(alloc))?;
+    let place = Place {
         pos,
         non_null,
         added,
         headers,
         tree,
-    })
+    };
+    Piece::new(alloc, whole, place)
 }
 
-/// The place of what a task came to, of the places beneath it.
-fn place_from<'a, V: Drop>(
+/// What is kept of the place of what a task came to, of what is kept of the places beneath it.
+fn piece_from<'a, V: Drop>(
     alloc: Global,
     filled: Filled<'a, V>,
-    own: &mut VecDeque<Option<Place>>,
-) -> Made<Place>
-    ensures { IfOk result (λ place. place ≡ place_made filled.entry (present own.old.items)) }
+    own: &mut VecDeque<Option<Piece>>,
+) -> Made<Piece>
+    ensures { IfOk result (λ piece. IsMade filled.entry (present own.old.items) piece) }
 {
     let Filled {
         pos,
         non_null,
         added,
         headers,
+        whole,
         shape,
         parents,
     } = filled;
-    let mut members = all_members(alloc, parents.as_slice(), own)?;
-    let tree = fill(alloc, shape, pos, &mut members)?;
-    Ok(Place {
+    let mut members = all_members(alloc, parents.as_slice(), whole, own)?;
+    let tree = fill(alloc, shape, pos, whole, &mut members)?;
+    let place = Place {
         pos,
         non_null,
         added,
         headers,
         tree,
-    })
+    };
+    Piece::new(alloc, whole, place)
 }
 
 /// The members of objects, of the places of their tasks.
-#[tactic(auto, using(crate::proofs::GatheredLemmas::members_more))]
 fn all_members<'a, V: Drop>(
     alloc: Global,
     parents: &[Rc<Parent<'a, V>>],
-    own: &mut VecDeque<Option<Place>>,
-) -> Made<VecDeque<Pairs<Place>>>
-    ensures { IfOk result (λ members. members.items
-        ≡ members_each (map standing_behind parents.entry.now) (present own.old.items)) }
+    whole: bool,
+    own: &mut VecDeque<Option<Piece>>,
+) -> Made<VecDeque<MemberPieces>>
+    ensures { AreApart whole (map standing_behind parents.entry.now) → IfOk result (λ members.
+        Paired (SameMembers whole) (map members_in members.items)
+        (members_each (map standing_behind parents.entry.now)
+        (map place_in (present own.old.items)))) }
 {
     let mut members = VecDeque::with_capacity(alloc, parents.len())?;
     for parent in parents {
-        members.push_back(members_at(alloc, parent.level.as_ref(), own)?)?;
+        members.push_back(members_at(alloc, parent.level.as_ref(), whole, own)?)?;
     }
     Ok(members)
 }

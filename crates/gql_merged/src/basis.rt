@@ -3,12 +3,32 @@ use gql_resolve::Layers;
 use gql_schema::Types;
 
 /// How the occurrences of fields that an object has are put into groups, each of which asks one
-/// answer: one group for each key, which is merged execution, or each occurrence alone, which is
-/// apart execution.
+/// answer, and what is kept of their places.
 #[derive(Clone, Copy, Debug)]
 pub enum Grouping {
+    /// One group for each key, which is merged execution. Of a place that tells a response nothing
+    /// beside its data, the data alone is kept.
     ByKey,
+    /// One group for each key, and whole places.
+    ByKeyWhole,
+    /// Each occurrence alone, which is apart execution, and whole places: those of one key are
+    /// joined.
     Each,
+}
+
+impl Grouping {
+    ghost use Rattle.std.specs.Prelude.{◌≡◌};
+    ghost use Rattle.gql_merged.specs.Grouped.{keeps_whole};
+
+    /// Whether places are kept whole.
+    pub fn keeps_whole(self) -> bool
+        ensures { result ≡ keeps_whole self }
+    {
+        match self {
+            Grouping::ByKey => false,
+            Grouping::ByKeyWhole | Grouping::Each => true,
+        }
+    }
 }
 
 /// What an execution stands on, but for its root, its answers and its world: the request, the types

@@ -1,58 +1,74 @@
 //! The trees of completed answers, with the members of their objects (GraphQL, October 2021,
 //! section 6.4.3).
-ghost use Rattle.std.specs.Prelude.{◌≡◌, IfOk, OnOk};
+ghost use Rattle.std.specs.Prelude.{◌≡◌, map, IfOk, OnOk};
+ghost use Rattle.gql_place.specs.Alike.{Same, SameItems, SameTree};
 ghost use Rattle.gql_place.specs.Filled.{item_of};
+ghost use Rattle.gql_place.specs.Pieces.{members_in, place_in, places_in};
+ghost use Rattle.gql_place.specs.declared.place.Tree.TheVariants as tree;
 ghost use Rattle.gql_merged.specs.Filling.{all_trees, first_members, left_after, left_after_all};
 ghost use Rattle.gql_merged.specs.Filling.{other_members, tree_with};
 
 use gql_base::{Items, Made, Pairs, Pos};
-use gql_place::{Place, Shape, Tree};
+use gql_place::{MemberPieces, Piece, Pieces, Place, Shape, Tree, absent_tree};
 use std::alloc::Global;
 use std::collections::VecDeque;
 
 /// The tree of a completed answer, whose objects take these members from the front, one after
-/// another.
+/// another. Where places aren't kept whole, it is data as long as it tells nothing else.
 #[cycle(fill)]
 pub fn fill(
     alloc: Global,
     shape: Shape<(), ()>,
     pos: Pos,
-    members: &mut VecDeque<Pairs<Place>>,
+    whole: bool,
+    members: &mut VecDeque<MemberPieces>,
 ) -> Made<Tree>
-    ensures tree { IfOk result (λ tree. tree ≡ tree_with pos shape members.old.items) }
-    ensures left { OnOk result (members.new.items ≡ left_after pos shape members.old.items) }
+    ensures tree { IfOk result (λ made. SameTree whole made
+        (tree_with pos shape (map members_in members.old.items))) }
+    ensures left { OnOk result (map members_in members.new.items
+        ≡ left_after pos shape (map members_in members.old.items)) }
 {
     match shape {
-        Shape::Absent => Ok(Tree::Absent),
+        Shape::Absent => Ok(absent_tree(whole)),
         Shape::Leaf(value) => Ok(Tree::Leaf(value)),
         Shape::Fault(error) => Ok(Tree::Fault(error)),
-        Shape::Object(_, _) => Ok(Tree::Object(next_members(alloc, members))),
-        Shape::List(non_null, items) => Ok(Tree::List(fill_items(
-            alloc, items, non_null, pos, members,
-        )?)),
+        Shape::Object(_, _) => next_object(alloc, whole, members),
+        Shape::List(non_null, items) => {
+            let items = fill_items(alloc, items, non_null, pos, whole, members)?;
+            items.into_list(alloc, whole)
+        }
     }
 }
 
 /// The places of the items of a list.
-#[tactic(auto, using(crate::proofs::FillingLemmas::filled_more, crate::proofs::FillingLemmas::left_more))]
+#[tactic(auto, using(crate::proofs::FillingLemmas::filled_none, crate::proofs::FillingLemmas::filled_all))]
 #[cycle(fill)]
 fn fill_items(
     alloc: Global,
     items: Items<Shape<(), ()>>,
     non_null: bool,
     pos: Pos,
-    members: &mut VecDeque<Pairs<Place>>,
-) -> Made<Items<Place>>
-    ensures places { IfOk result (λ places. places
-        ≡ all_trees pos non_null items members.old.items) }
-    ensures left { OnOk result (members.new.items ≡ left_after_all pos items members.old.items) }
+    whole: bool,
+    members: &mut VecDeque<MemberPieces>,
+) -> Made<Pieces>
+    ensures places { IfOk result (λ pieces. SameItems whole (places_in pieces)
+        (all_trees pos non_null items (map members_in members.old.items))) }
+    ensures left { OnOk result (map members_in members.new.items
+        ≡ left_after_all pos items (map members_in members.old.items)) }
 {
-    let mut places = Items::with_capacity(alloc, items.len())?;
+    let mut pieces = Pieces::with_capacity(alloc, whole, items.len())?;
     for item in items.into_vec() {
-        let tree = fill(alloc, item, pos, members)?;
-        places.push(item_place(alloc, pos, non_null, tree))?;
+        let tree = fill(alloc, item, pos, whole, members)?;
+        pieces.push(alloc, item_piece(alloc, pos, non_null, whole, tree)?)?;
     }
-    Ok(places)
+    Ok(pieces)
+}
+
+/// What is kept of the place of an item.
+fn item_piece(alloc: Global, pos: Pos, non_null: bool, whole: bool, tree: Tree) -> Made<Piece>
+    ensures { IfOk result (λ piece. Same whole (place_in piece) (item_of pos non_null tree)) }
+{
+    Piece::new(alloc, whole, item_place(alloc, pos, non_null, tree))
 }
 
 /// The place of an item: errors and header operations stand at the list's own place.
@@ -68,13 +84,15 @@ fn item_place(alloc: Global, pos: Pos, non_null: bool, tree: Tree) -> Place
     }
 }
 
-/// The members of the next object.
-fn next_members(alloc: Global, members: &mut VecDeque<Pairs<Place>>) -> Pairs<Place>
-    ensures first { result ≡ first_members members.old.items }
-    ensures left { members.new.items ≡ other_members members.old.items }
+/// What stands at the place of the next object.
+fn next_object(alloc: Global, whole: bool, members: &mut VecDeque<MemberPieces>) -> Made<Tree>
+    ensures first { IfOk result (λ made. SameTree whole made
+        (tree.Object (first_members (map members_in members.old.items)))) }
+    ensures left { map members_in members.new.items
+        ≡ other_members (map members_in members.old.items) }
 {
     match members.pop_front() {
-        Some(first) => first,
-        None => Pairs::new(alloc),
+        Some(first) => first.into_object(alloc, whole),
+        None => Ok(Tree::Object(Pairs::new(alloc))),
     }
 }

@@ -79,6 +79,7 @@ fn fill_answer<'a, V: Drop>(
             non_null: !ty.is_nullable(),
             added,
             headers,
+            whole: node.basis.grouping.keeps_whole(),
             shape: leaf_in(result),
             parents: Vec::new(alloc),
         });
@@ -92,6 +93,7 @@ fn fill_answer<'a, V: Drop>(
         non_null: !ty.is_nullable(),
         added,
         headers,
+        whole: node.basis.grouping.keeps_whole(),
         shape,
         parents,
     })
@@ -138,6 +140,7 @@ fn fill_put<'a, V>(
         non_null: !node.asks.ty().is_nullable(),
         added: Items::new(alloc),
         headers: Items::new(alloc),
+        whole: node.basis.grouping.keeps_whole(),
         shape: shape_put(put),
         parents: Vec::new(alloc),
     }

@@ -29,7 +29,7 @@ pub(crate) fn group_fields<'a>(
         ≡ groups_by grouping setting (all_behind fields.entry.items)) }
 {
     match grouping {
-        Grouping::ByKey => group_by_key(alloc, fields),
+        Grouping::ByKey | Grouping::ByKeyWhole => group_by_key(alloc, fields),
         Grouping::Each => group_each(alloc, fields),
     }
 }

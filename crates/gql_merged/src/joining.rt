@@ -3,35 +3,42 @@ ghost use Rattle.std.specs.Prelude.{◌≡◌, [], length, IfOk, OnOk};
 ghost use Rattle.std.specs.List.{zip};
 ghost use Rattle.gql_base.specs.Pairs.{names_of, unite};
 ghost use Rattle.gql_place.specs.Join.{join as joined};
+ghost use Rattle.gql_place.specs.Pieces.{members_in, places_in};
 ghost use Rattle.gql_merged.specs.Assembled.{united_members};
 ghost use Rattle.gql_merged.specs.KeyNames.{names_in};
 
 use crate::key_names::Keys;
 use gql_base::{Items, Made, Name, Pairs};
-use gql_place::{Place, Tree, join};
+use gql_place::{MemberPieces, Pieces, Place, Tree, join};
 use std::alloc::Global;
 use std::collections::VecDeque;
 use std::mem;
 
 /// Places under keys: those under one key are joined, the first with each one behind it.
-pub(crate) fn members_under(alloc: Global, keys: &Keys, own: Vec<Place>) -> Made<Pairs<Place>>
-    requires { length own.items ≡ length (names_in keys.now) }
-    ensures { IfOk result (λ members. members ≡ united_members (names_in keys.now) own.items) }
+pub(crate) fn members_under(alloc: Global, keys: &Keys, own: Pieces) -> Made<MemberPieces>
+    requires { length (places_in own) ≡ length (names_in keys.now) }
+    ensures { IfOk result (λ members. members_in members
+        ≡ united_members (names_in keys.now) (places_in own)) }
 {
     match keys {
         Keys::Once(keys) => members_once(alloc, keys, own),
-        Keys::Each(names) => members_joined(alloc, names.as_slice(), VecDeque::from_vec(own)),
+        Keys::Each(names) => {
+            let own = VecDeque::from_vec(own.into_places(alloc)?);
+            let members = members_joined(alloc, names.as_slice(), own)?;
+            Ok(MemberPieces::Whole(members))
+        }
     }
 }
 
 /// The same under keys that stand once each, so that nothing is to be joined.
 #[tactic(auto, using(crate::proofs::GroupingLemmas::once_united, gql_select::proofs::ZipLemmas::names_long))]
-fn members_once(alloc: Global, keys: &Pairs<()>, own: Vec<Place>) -> Made<Pairs<Place>>
-    requires { length own.items ≡ length (names_of keys.now) }
-    ensures { IfOk result (λ members. members ≡ united_members (names_of keys.now) own.items) }
+fn members_once(alloc: Global, keys: &Pairs<()>, own: Pieces) -> Made<MemberPieces>
+    requires { length (places_in own) ≡ length (names_of keys.now) }
+    ensures { IfOk result (λ members. members_in members
+        ≡ united_members (names_of keys.now) (places_in own)) }
 {
     let _count = keys.len();
-    keys.with_values(alloc, own)
+    own.under(alloc, keys)
 }
 
 /// The same under the keys of all occurrences.

@@ -4,14 +4,15 @@ use gql_place::Shape;
 use gql_request::HeaderOp;
 use std::rc::Rc;
 
-/// What a task came to: its place, but for what is beneath its objects, and these objects in their
-/// order.
+/// What a task came to: its place, but for what is beneath its objects, these objects in their
+/// order, and whether the place is kept whole.
 #[derive(Drop)]
 pub struct Filled<'a, V> {
     pub pos: Pos,
     pub non_null: bool,
     pub added: Items<Error>,
     pub headers: Items<HeaderOp>,
+    pub whole: bool,
     pub shape: Shape<(), ()>,
     pub parents: Vec<Rc<Parent<'a, V>>>,
 }

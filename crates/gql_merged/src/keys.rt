@@ -21,7 +21,7 @@ use crate::task::Task;
 use crate::tree_plan::TreePlan;
 use gql_base::{Made, NoMemory, Steps};
 use gql_engine::{Arena, Plan, Rounds, make_tasks, run_phase};
-use gql_place::Place;
+use gql_place::Piece;
 use gql_resolve::{ResolverSet, Turns};
 use std::alloc::Global;
 use std::collections::VecDeque;
@@ -34,7 +34,7 @@ pub(crate) fn answer_key<'a, R: ResolverSet, H: Rounds, P: Turns, S: Ledger>(
     task: Task<'a, R::Own>,
     plan: &mut TreePlan<'a, R::Own>,
     arena: &mut Arena<R::Future>,
-    own: &mut Vec<Option<Place>>,
+    own: &mut Vec<Option<Piece>>,
     resolvers: &mut R,
     hooks: &mut H,
     turns: &mut P,
@@ -98,7 +98,7 @@ fn open_key<'a, V: Drop, F: Drop>(
     task: Task<'a, V>,
     plan: &mut TreePlan<'a, V>,
     arena: &mut Arena<F>,
-    own: &mut Vec<Option<Place>>,
+    own: &mut Vec<Option<Piece>>,
 ) -> Made<()>
     requires closed { plan.old.kept.items ≡ [] }
     requires waits { arena.old.waiting ≡ waiting_from 0 (marks_of arena.old.states.items) }
@@ -125,7 +125,7 @@ fn keep_key<'a, V: Drop>(
     alloc: Global,
     number: usize,
     plan: &mut TreePlan<'a, V>,
-    own: &mut Vec<Option<Place>>,
+    own: &mut Vec<Option<Piece>>,
 ) -> Made<()>
     requires within { number < plan.old.roots }
     requires some { 0 < length own.old.items }
@@ -148,7 +148,7 @@ fn keep_key<'a, V: Drop>(
 }
 
 /// Puts a place at the end.
-fn put_last(own: &mut Vec<Option<Place>>, place: Option<Place>)
+fn put_last(own: &mut Vec<Option<Piece>>, place: Option<Piece>)
     requires { 0 < length own.old.items }
     ensures { own.new.items ≡ slice_set own.old.items (length own.old.items - 1) place }
 {
@@ -167,7 +167,7 @@ pub(crate) fn answer_keys<'a, R: ResolverSet, H: Rounds, P: Turns, S: Ledger>(
     hooks: &mut H,
     turns: &mut P,
     steps: &mut Steps<S>,
-) -> Result<Vec<Option<Place>>, NoMemory>
+) -> Result<Vec<Option<Piece>>, NoMemory>
     requires keys { AllByRecursion IsKey (jobs_in tasks.items) }
     requires closed { plan.old.kept.items ≡ [] }
     requires between { InTurn

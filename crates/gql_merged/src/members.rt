@@ -1,18 +1,20 @@
 //! The members of an object, of the places of its fields (GraphQL, October 2021, section 6.3).
-ghost use Rattle.std.specs.Prelude.{◌≡◌, [], ◌∷◌, map, IfOk, MatchOption, OnOk};
-ghost use Rattle.gql_merged.specs.Assembled.{absent_place, first_place, other_places, place_of};
-ghost use Rattle.gql_merged.specs.Assembled.{places_behind, places_behind_all, places_with};
-ghost use Rattle.gql_merged.specs.Assembled.{typename_place, united_members};
+ghost use Rattle.std.specs.Prelude.{◌≡◌, [], ◌∷◌, false, map, IfOk, MatchOption, OnOk};
+ghost use Rattle.gql_base.specs.Pairs.{HasDistinctNames};
+ghost use Rattle.gql_place.specs.Alike.{Same, SameItems, SameMembers};
+ghost use Rattle.gql_place.specs.Pieces.{members_in, place_in, places_in};
+ghost use Rattle.gql_merged.specs.Assembled.{absent_place, first_place, members_with, other_places};
+ghost use Rattle.gql_merged.specs.Assembled.{place_of, places_behind, places_behind_all};
+ghost use Rattle.gql_merged.specs.Assembled.{places_with, typename_place};
 ghost use Rattle.gql_merged.specs.Groups.{united};
-ghost use Rattle.gql_merged.specs.KeyNames.{names_in};
-ghost use Rattle.gql_merged.specs.Levels.{asked_behind};
+ghost use Rattle.gql_merged.specs.Levels.{asked_behind, members_of};
 ghost use Rattle.gql_merged.specs.Standing.{present};
 
 use crate::asks::Asks;
 use crate::joining::members_under;
 use crate::level::{Level, Node};
-use gql_base::{Items, Made, Pairs, Pos, Text, Value};
-use gql_place::{Place, Tree};
+use gql_base::{Boxed, Items, Made, Pos, Text, Value};
+use gql_place::{MemberPieces, Piece, Pieces, Place, Tree};
 use std::alloc::Global;
 use std::collections::VecDeque;
 use std::rc::Rc;
@@ -22,15 +24,24 @@ use std::rc::Rc;
 pub(crate) fn members_at(
     alloc: Global,
     level: &Level<'_>,
-    places: &mut VecDeque<Option<Place>>,
-) -> Made<Pairs<Place>>
-    ensures members { IfOk result (λ members. members ≡ united_members (names_in level.now.keys)
-        (places_with level.now.object (map asked_behind level.now.nodes.items)
-        (present places.old.items))) }
-    ensures left { OnOk result (present places.new.items
-        ≡ places_behind_all (map asked_behind level.now.nodes.items) (present places.old.items)) }
+    whole: bool,
+    places: &mut VecDeque<Option<Piece>>,
+) -> Made<MemberPieces>
+    ensures members { (whole ≡ false → HasDistinctNames (members_of level.now))
+        → IfOk result (λ members. SameMembers whole (members_in members)
+        (members_with level.now.object (members_of level.now)
+        (map place_in (present places.old.items)))) }
+    ensures left { OnOk result (map place_in (present places.new.items)
+        ≡ places_behind_all (map asked_behind level.now.nodes.items)
+        (map place_in (present places.old.items))) }
 {
-    let own = places_of(alloc, level.object.as_str(), level.nodes.as_slice(), places)?;
+    let own = places_of(
+        alloc,
+        level.object.as_str(),
+        level.nodes.as_slice(),
+        whole,
+        places,
+    )?;
     members_under(alloc, &level.keys, own)
 }
 
@@ -39,43 +50,46 @@ fn places_of(
     alloc: Global,
     object: &str,
     nodes: &[Rc<Node<'_>>],
-    places: &mut VecDeque<Option<Place>>,
-) -> Made<Vec<Place>>
-    ensures own { IfOk result (λ own. own.items
-        ≡ places_with object.now (map asked_behind nodes.now) (present places.old.items)) }
-    ensures left { OnOk result (present places.new.items
-        ≡ places_behind_all (map asked_behind nodes.now) (present places.old.items)) }
+    whole: bool,
+    places: &mut VecDeque<Option<Piece>>,
+) -> Made<Pieces>
+    ensures own { IfOk result (λ own. SameItems whole (places_in own)
+        (places_with object.now (map asked_behind nodes.now)
+        (map place_in (present places.old.items)))) }
+    ensures left { OnOk result (map place_in (present places.new.items)
+        ≡ places_behind_all (map asked_behind nodes.now)
+        (map place_in (present places.old.items))) }
 {
-    let mut own = Vec::with_capacity(alloc, nodes.len())?;
+    let mut own = Pieces::with_capacity(alloc, whole, nodes.len())?;
     for node in nodes {
-        let place = place_at(alloc, object, node.as_ref(), places)?;
-        own.push(place)?;
+        let piece = piece_at(alloc, object, node.as_ref(), whole, places)?;
+        own.push(alloc, piece)?;
     }
     Ok(own)
 }
 
-/// The place of a field of an object.
-#[tactic(auto, using(crate::proofs::LevelLemmas::pos_with_others))]
-fn place_at(
+/// What is kept of the place of a field of an object.
+fn piece_at(
     alloc: Global,
     object: &str,
     node: &Node<'_>,
-    places: &mut VecDeque<Option<Place>>,
-) -> Made<Place>
-    ensures place { IfOk result (λ place. place ≡ place_of object.now
-        (united node.now.group).pos node.now.asks (present places.old.items)) }
-    ensures left { OnOk result (present places.new.items
-        ≡ places_behind node.now.asks (present places.old.items)) }
+    whole: bool,
+    places: &mut VecDeque<Option<Piece>>,
+) -> Made<Piece>
+    ensures piece { IfOk result (λ piece. Same whole (place_in piece) (place_of object.now
+        (united node.now.group).pos node.now.asks (map place_in (present places.old.items)))) }
+    ensures left { OnOk result (map place_in (present places.new.items)
+        ≡ places_behind node.now.asks (map place_in (present places.old.items))) }
 {
     let pos = node.group.first.pos;
     match &node.asks {
-        Asks::Typename => place_name(alloc, pos, object),
-        Asks::Nothing => Ok(place_nothing(alloc, pos)),
+        Asks::Typename => Piece::new(alloc, whole, place_name(alloc, pos, object)?),
+        Asks::Nothing => Piece::new(alloc, whole, place_nothing(alloc, pos)),
         Asks::Call {
             resolver: _,
             ty: _,
             arguments: _,
-        } => Ok(next_place(alloc, pos, places)),
+        } => next_piece(alloc, pos, places),
     }
 }
 
@@ -107,19 +121,21 @@ fn place_nothing(alloc: Global, pos: Pos) -> Place
 }
 
 /// The next place.
-fn next_place(alloc: Global, pos: Pos, places: &mut VecDeque<Option<Place>>) -> Place
-    ensures first { result ≡ first_place pos (present places.old.items) }
-    ensures left { present places.new.items ≡ other_places (present places.old.items) }
+fn next_piece(alloc: Global, pos: Pos, places: &mut VecDeque<Option<Piece>>) -> Made<Piece>
+    ensures first { IfOk result (λ piece. place_in piece
+        ≡ first_place pos (map place_in (present places.old.items))) }
+    ensures left { map place_in (present places.new.items)
+        ≡ other_places (map place_in (present places.old.items)) }
 {
     match next_present(places) {
-        Some(place) => place,
-        None => place_nothing(alloc, pos),
+        Some(piece) => Ok(piece),
+        None => Ok(Piece::Whole(Boxed::new(alloc, place_nothing(alloc, pos))?)),
     }
 }
 
 /// Takes the next place that is there off, or answers none where there is none.
 #[tactic(auto, using(crate::proofs::GatheredLemmas::present_open, crate::proofs::GatheredLemmas::present_there, crate::proofs::GatheredLemmas::present_none))]
-fn next_present(places: &mut VecDeque<Option<Place>>) -> Option<Place>
+fn next_present(places: &mut VecDeque<Option<Piece>>) -> Option<Piece>
     ensures { MatchOption result
         ((present places.old.items ≡ []) × (present places.new.items ≡ []))
         (λ place. present places.old.items ≡ place ∷ present places.new.items) }

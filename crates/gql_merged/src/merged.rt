@@ -3,7 +3,7 @@ ghost use Rattle.std.specs.Prelude.{ℕ, ◌≡◌, false, IfErr, IfOk, OnErr, O
 ghost use Rattle.gql_engine.specs.Parts.{due_by};
 ghost use Rattle.gql_engine.specs.Progress.{RunsWhole, RunStopped, seen};
 ghost use Rattle.gql_resolve.specs.Call.{is_mutation};
-ghost use Rattle.gql_merged.specs.Run.{merged_response, merged_work, Nests};
+ghost use Rattle.gql_merged.specs.Run.{merged_response, merged_work_whole, Nests};
 
 use crate::basis::Grouping;
 use crate::run::run_on_blank;
@@ -34,14 +34,15 @@ pub fn run_merged<R: ResolverSet, P: Turns>(
     ensures paced { R.is_paced resolvers.old → R.is_paced resolvers.new }
     ensures world { R.is_lawful resolvers.old → R.world resolvers.new ≡ R.world resolvers.old }
     ensures record { R.is_lawful resolvers.old → OnOk result
-        (RunsWhole R.ResolverSet P.Turns (merged_work scene.now)
+        (RunsWhole R.ResolverSet P.Turns (merged_work_whole scene.now)
         (seen resolvers.old turns.old) (seen resolvers.new turns.new)) }
     ensures stopped { R.is_lawful resolvers.old → OnErr result
-        (RunStopped R.ResolverSet P.Turns (merged_work scene.now)
+        (RunStopped R.ResolverSet P.Turns (merged_work_whole scene.now)
         (seen resolvers.old turns.old) (seen resolvers.new turns.new)) }
     ensures roots { IfErr result (λ want. want.roots ≡ 0) }
 {
-    let by = Grouping::ByKey;
+    let by = Grouping::ByKeyWhole;
     let blank = Blank::new(1);
-    run_on_blank::<R, P, Brand>(alloc, by, scene, resolvers, hooks, turns, blank)
+    let piece = run_on_blank::<R, P, Brand>(alloc, by, scene, resolvers, hooks, turns, blank)?;
+    Ok(piece.into_place(alloc))
 }

@@ -1,13 +1,18 @@
 //! The execution of a mutation (GraphQL, October 2021, section 6.2.2).
-ghost use Rattle.std.specs.Prelude.{ℕ, ◌≡◌, ◌+◌, true, length, IfOk, IfErr, OnOk, OnErr};
+ghost use Rattle.std.specs.Prelude.{ℕ, ◌≡◌, ◌+◌, ◌∷◌, [], true, length, map};
+ghost use Rattle.std.specs.Prelude.{IfOk, IfErr, OnOk, OnErr};
 ghost use Rattle.gql_engine.specs.Phases.{HaltsInTurn, RootsStand, RunsInTurn};
 ghost use Rattle.gql_engine.specs.Progress.{seen};
 ghost use Rattle.gql_engine.specs.Rounds.{RoundsStopped, RoundsWhole};
 ghost use Rattle.gql_engine.specs.Steps.{IsCounted};
 ghost use Rattle.gql_meaning.specs.Responses.{root_place};
 ghost use Rattle.gql_resolve.specs.Call.{is_mutation};
+ghost use Rattle.gql_place.specs.Alike.{Same};
+ghost use Rattle.gql_place.specs.Pieces.{place_in};
 ghost use Rattle.gql_merged.specs.Assembled.{members_with};
+ghost use Rattle.gql_merged.specs.Assembling.{AreApart};
 ghost use Rattle.gql_merged.specs.Counted.{serial_count_by};
+ghost use Rattle.gql_merged.specs.Grouped.{keeps_whole};
 ghost use Rattle.gql_merged.specs.Jobs.{asked_by_job};
 ghost use Rattle.gql_merged.specs.Parents.{standing_behind};
 ghost use Rattle.gql_merged.specs.Run.{Nests};
@@ -16,25 +21,25 @@ ghost use Rattle.gql_merged.specs.Standing.{present};
 
 use crate::basis::Grouping;
 use crate::keys::answer_keys;
-use crate::members::members_at;
 use crate::parent::Parent;
-use crate::run::{root_of, root_with};
+use crate::run::{root_of, root_piece};
 use crate::task_making::make_tasks;
 use crate::tree_plan::TreePlan;
 use gql_base::{NoMemory, Pos, Steps};
 use gql_engine::{Rounds, Scene, fresh_arena};
-use gql_place::Place;
+use gql_place::Piece;
 use gql_resolve::{ResolverSet, Turns};
 use std::alloc::Global;
 use std::collections::VecDeque;
 use std::rc::Rc;
 use std::sync::ledger::Ledger;
 
-/// The place of the whole response of a mutation, and the number of its root keys that asked an
-/// answer: whoever goes on from there can tell which effects stand. Each root key, merged over its
-/// occurrences, is answered alone, with its effect on the world, and then all beneath it in the
-/// world that it leaves, where each group of occurrences is one task; the next one goes on from
-/// there, also after a failure. Want of memory tells how many root keys have their effect.
+/// What is kept of the place of the whole response of a mutation, and the number of its root keys
+/// that asked an answer: whoever goes on from there can tell which effects stand. Each root key,
+/// merged over its occurrences, is answered alone, with its effect on the world, and then all
+/// beneath it in the world that it leaves, where each group of occurrences is one task; the next
+/// one goes on from there, also after a failure. Want of memory tells how many root keys have their
+/// effect.
 pub fn run_mutation_grouped<R: ResolverSet, H: Rounds, P: Turns, S: Ledger>(
     alloc: Global,
     by: Grouping,
@@ -43,12 +48,12 @@ pub fn run_mutation_grouped<R: ResolverSet, H: Rounds, P: Turns, S: Ledger>(
     hooks: &mut H,
     turns: &mut P,
     steps: &mut Steps<S>,
-) -> Result<(Place, u64), NoMemory>
+) -> Result<(Piece, u64), NoMemory>
     requires { is_mutation scene.now.env.now.operation.node.ty ≡ true }
     ensures places { R.is_lawful resolvers.old → H.are_quiet hooks.old → (n : ℕ)
-        → Nests scene.now n → IfOk result (λ run. run.0
-        ≡ serial_response_by scene.now (R.answer (R.rules resolvers.old))
-        (R.effect (R.rules resolvers.old)) by (R.world resolvers.old) n) }
+        → Nests scene.now n → IfOk result (λ run. Same (keeps_whole by) (place_in run.0)
+        (serial_response_by scene.now (R.answer (R.rules resolvers.old))
+        (R.effect (R.rules resolvers.old)) by (R.world resolvers.old) n)) }
     ensures count { IfOk result (λ run. run.1 ≡ length (key_work_by by scene.now).first) }
     ensures rules { R.rules resolvers.new ≡ R.rules resolvers.old }
     ensures lawful { R.is_lawful resolvers.old → R.is_lawful resolvers.new }
@@ -86,26 +91,29 @@ pub fn run_mutation_grouped<R: ResolverSet, H: Rounds, P: Turns, S: Ledger>(
     let own = answer_keys(
         alloc, keys, &mut plan, &mut arena, resolvers, hooks, turns, steps,
     )?;
-    place_of_keys(alloc, scene.env.operation.pos, &root, own)
+    let pos = scene.env.operation.pos;
+    place_of_keys(alloc, pos, &root, by.keeps_whole(), own)
 }
 
-/// The place of the root, of the places of its keys, and their number.
+/// What is kept of the place of the root, of the places of its keys, and their number.
 fn place_of_keys<'a, V: Drop>(
     alloc: Global,
     pos: Pos,
     root: &Rc<Parent<'a, V>>,
-    own: Vec<Option<Place>>,
-) -> Result<(Place, u64), NoMemory>
-    ensures place { IfOk result (λ run. run.0 ≡ root_place pos
+    whole: bool,
+    own: Vec<Option<Piece>>,
+) -> Result<(Piece, u64), NoMemory>
+    ensures place { AreApart whole (standing_behind root.entry.now ∷ []) → IfOk result (λ run.
+        Same whole (place_in run.0) (root_place pos
         (members_with (standing_behind root.entry.now).spot.object
-        (standing_behind root.entry.now).members (present own.items))) }
+        (standing_behind root.entry.now).members (map place_in (present own.items))))) }
     ensures count { IfOk result (λ run. run.1 ≡ length own.items) }
     ensures roots { IfErr result (λ want. want.roots ≡ length own.items) }
 {
     let roots = own.len() as u64;
     let mut own = VecDeque::from_vec(own);
-    match members_at(alloc, root.level.as_ref(), &mut own) {
-        Ok(members) => Ok((root_with(alloc, pos, members), roots)),
+    match root_piece(alloc, pos, root, whole, &mut own) {
+        Ok(piece) => Ok((piece, roots)),
         Err(_) => Err(NoMemory { roots }),
     }
 }

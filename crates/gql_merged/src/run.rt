@@ -1,16 +1,21 @@
 //! The execution of an operation that is no mutation (GraphQL, October 2021, section 6.2.1),
 //! whatever its occurrences are grouped by.
-ghost use Rattle.std.specs.Prelude.{ℕ, ◌≡◌, ◌+◌, ◌<◌, false, take, IfOk, IfErr, OnErr, OnOk};
+ghost use Rattle.std.specs.Prelude.{ℕ, ◌≡◌, ◌+◌, ◌<◌, ◌∷◌, [], false, map, take};
+ghost use Rattle.std.specs.Prelude.{IfOk, IfErr, OnErr, OnOk};
+ghost use Rattle.gql_merged.specs.Standing.{present};
 ghost use Rattle.gql_engine.specs.Parts.{due_by};
 ghost use Rattle.gql_engine.specs.Progress.{RunsWhole, RunStopped, seen};
 ghost use Rattle.gql_engine.specs.Rounds.{RoundsWhole, RoundsStopped};
 ghost use Rattle.gql_engine.specs.Steps.{IsCounted};
 ghost use Rattle.gql_meaning.specs.Responses.{root_place};
+ghost use Rattle.gql_place.specs.Alike.{Same};
+ghost use Rattle.gql_place.specs.Pieces.{members_in, place_in};
 ghost use Rattle.gql_resolve.specs.Call.{Call, is_mutation};
 ghost use Rattle.gql_resolve.specs.declared.answer.Answer.{Answer};
-ghost use Rattle.gql_merged.specs.Assembling.{AllHeld, IsAssembled};
+ghost use Rattle.gql_merged.specs.Assembled.{members_with};
+ghost use Rattle.gql_merged.specs.Assembling.{AllHeld, AreApart, IsAssembled};
 ghost use Rattle.gql_merged.specs.Counted.{count_by};
-ghost use Rattle.gql_merged.specs.Grouped.{grouping_at};
+ghost use Rattle.gql_merged.specs.Grouped.{grouping_at, keeps_whole};
 ghost use Rattle.gql_merged.specs.Holds.{store_in};
 ghost use Rattle.gql_merged.specs.Jobs.{asked_by_job};
 ghost use Rattle.gql_merged.specs.Levels.{asked_in_as, members_of};
@@ -28,10 +33,10 @@ use crate::members::members_at;
 use crate::parent::{Held, Parent};
 use crate::task_making::make_tasks;
 use crate::tree_plan::TreePlan;
-use gql_base::{Items, Made, NoMemory, Pairs, Pos, Steps};
+use gql_base::{Items, Made, NoMemory, Pos, Steps};
 use gql_doc::OperationType;
 use gql_engine::{Rounds, Scene, finish, fresh_arena};
-use gql_place::{Place, Tree};
+use gql_place::{MemberPieces, Piece, Place};
 use gql_request::Hooks;
 use gql_resolve::{ResolverSet, Turns};
 use std::alloc::Global;
@@ -39,10 +44,10 @@ use std::collections::VecDeque;
 use std::rc::Rc;
 use std::sync::ledger::{Blank, Ledger};
 
-/// The place of the whole response of a query: each group of occurrences is one task, and the tasks
-/// take the turns that are chosen for them. Each start of a resolver that answered is a step, so
-/// that as many steps are taken as answers are asked. The hooks of each task are entered once,
-/// before its resolver is started.
+/// What is kept of the place of the whole response of a query: each group of occurrences is one
+/// task, and the tasks take the turns that are chosen for them. Each start of a resolver that
+/// answered is a step, so that as many steps are taken as answers are asked. The hooks of each task
+/// are entered once, before its resolver is started.
 pub fn run_grouped<R: ResolverSet, H: Rounds, P: Turns, S: Ledger>(
     alloc: Global,
     by: Grouping,
@@ -51,11 +56,11 @@ pub fn run_grouped<R: ResolverSet, H: Rounds, P: Turns, S: Ledger>(
     hooks: &mut H,
     turns: &mut P,
     steps: &mut Steps<S>,
-) -> Result<Place, NoMemory>
+) -> Result<Piece, NoMemory>
     requires { is_mutation scene.now.env.now.operation.node.ty ≡ false }
     ensures places { R.is_lawful resolvers.old → H.are_quiet hooks.old → (n : ℕ)
-        → Nests scene.now n → IfOk result (λ place. place
-        ≡ response_by by scene.now (due_by R.ResolverSet resolvers.old) n) }
+        → Nests scene.now n → IfOk result (λ piece. Same (keeps_whole by) (place_in piece)
+        (response_by by scene.now (due_by R.ResolverSet resolvers.old) n)) }
     ensures rules { R.rules resolvers.new ≡ R.rules resolvers.old }
     ensures lawful { R.is_lawful resolvers.old → R.is_lawful resolvers.new }
     ensures paced { R.is_paced resolvers.old → R.is_paced resolvers.new }
@@ -82,7 +87,8 @@ pub fn run_grouped<R: ResolverSet, H: Rounds, P: Turns, S: Ledger>(
     let mut plan = plan_of(alloc, &root)?;
     let mut arena = fresh_arena(alloc, plan.tasks.len())?;
     finish(alloc, &mut plan, &mut arena, resolvers, hooks, turns, steps)?;
-    Ok(place_of_root(alloc, scene.env.operation.pos, &root, plan)?)
+    let whole = by.keeps_whole();
+    Ok(place_of_root(alloc, scene.env.operation.pos, &root, whole, plan)?)
 }
 
 /// The same with the hooks of a request, and with steps that nobody looks at.
@@ -94,14 +100,14 @@ pub(crate) fn run_on_blank<R: ResolverSet, P: Turns, S: Ledger>(
     hooks: &mut Hooks,
     turns: &mut P,
     blank: Blank,
-) -> Result<Place, NoMemory>
+) -> Result<Piece, NoMemory>
     requires query { is_mutation scene.now.env.now.operation.node.ty ≡ false }
     requires name { blank.name ≡ S.name }
     requires parts { blank.parts ≡ S.parts }
     requires some { 0 < blank.parts }
     ensures places { R.is_lawful resolvers.old → (n : ℕ) → Nests scene.now n
-        → IfOk result (λ place. place
-        ≡ response_by by scene.now (due_by R.ResolverSet resolvers.old) n) }
+        → IfOk result (λ piece. Same (keeps_whole by) (place_in piece)
+        (response_by by scene.now (due_by R.ResolverSet resolvers.old) n)) }
     ensures rules { R.rules resolvers.new ≡ R.rules resolvers.old }
     ensures lawful { R.is_lawful resolvers.old → R.is_lawful resolvers.new }
     ensures paced { R.is_paced resolvers.old → R.is_paced resolvers.new }
@@ -193,17 +199,19 @@ fn plan_of<'a, V: Drop>(alloc: Global, root: &Rc<Parent<'a, V>>) -> Made<TreePla
     })
 }
 
-/// The place of the root, of what is stored of all tasks.
+/// What is kept of the place of the root, of what is stored of all tasks.
 fn place_of_root<'a, V: Drop>(
     alloc: Global,
     pos: Pos,
     root: &Rc<Parent<'a, V>>,
+    whole: bool,
     plan: TreePlan<'a, V>,
-) -> Made<Place>
+) -> Made<Piece>
     ensures { (answer : Call V → Answer V)
         → AllHeld answer (jobs_in plan.entry.tasks.items)
         (store_in plan.entry.kept.items plan.entry.places.items)
-        → IfOk result (IsAssembled answer pos (standing_behind root.entry.now)
+        → AreApart whole (standing_behind root.entry.now ∷ [])
+        → IfOk result (IsAssembled answer whole pos (standing_behind root.entry.now)
         (take plan.entry.roots (jobs_in plan.entry.tasks.items))) }
 {
     let TreePlan {
@@ -218,19 +226,38 @@ fn place_of_root<'a, V: Drop>(
     add_open(&mut places, tasks.len())?;
     assemble(alloc, kept, roots, &mut places)?;
     let mut own = VecDeque::from_vec(places);
-    let members = members_at(alloc, root.level.as_ref(), &mut own)?;
-    Ok(root_with(alloc, pos, members))
+    root_piece(alloc, pos, root, whole, &mut own)
 }
 
-/// The place of the root with these members.
-pub(crate) fn root_with(alloc: Global, pos: Pos, members: Pairs<Place>) -> Place
-    ensures { result ≡ root_place pos members }
+/// What is kept of the place of the root, of the places of its tasks.
+pub(crate) fn root_piece<'a, V: Drop>(
+    alloc: Global,
+    pos: Pos,
+    root: &Rc<Parent<'a, V>>,
+    whole: bool,
+    own: &mut VecDeque<Option<Piece>>,
+) -> Made<Piece>
+    ensures { AreApart whole (standing_behind root.entry.now ∷ []) → IfOk result (λ piece.
+        Same whole (place_in piece) (root_place pos
+        (members_with (standing_behind root.entry.now).spot.object
+        (standing_behind root.entry.now).members (map place_in (present own.old.items))))) }
 {
-    Place {
+    let members = members_at(alloc, root.level.as_ref(), whole, own)?;
+    root_with(alloc, pos, whole, members)
+}
+
+/// What is kept of the place of the root with these members.
+fn root_with(alloc: Global, pos: Pos, whole: bool, members: MemberPieces) -> Made<Piece>
+    ensures { IfOk result (λ piece.
+        Same whole (place_in piece) (root_place pos (members_in members))) }
+{
+    let tree = members.into_object(alloc, whole)?;
+    let place = Place {
         pos,
         non_null: false,
         added: Items::new(alloc),
         headers: Items::new(alloc),
-        tree: Tree::Object(members),
-    }
+        tree,
+    };
+    Piece::new(alloc, whole, place)
 }

@@ -7,7 +7,7 @@ ghost use Rattle.gql_merged.specs.Groups.{united};
 ghost use Rattle.gql_merged.specs.Tasks.{IsDeep, job_of_task};
 ghost use Rattle.gql_merged.specs.declared.task.Task.{Task as TaskOf};
 
-use crate::assembling::{open_place, place_alone, put_place_at};
+use crate::assembling::{open_place, piece_alone, put_place_at};
 use crate::giving::fill_given;
 use crate::kept::{Filled, Kept};
 use crate::level::Node;
@@ -17,22 +17,22 @@ use gql_base::{Made, PathSegment};
 use gql_doc::Field;
 use gql_engine::{Given, Plan};
 use gql_input::ObjectAccessor;
-use gql_place::Place;
+use gql_place::Piece;
 use gql_request::{QueryPathNode, ResolveInfo};
 use gql_resolve::ResolverContext;
 use std::alloc::Global;
 use std::mem;
 
 /// The tasks of merged execution, what is stored of those that were given something, and the path
-/// of one of them. What came to no object has its place at once, by its number; of the others it is
-/// kept what they came to, in the order of answers. The first so many tasks are those of the root.
-/// What was stored of the tasks below the base is given away: they are of earlier phases, and of
-/// such a phase of a mutation the last of the first ones is the root key.
+/// of one of them. What came to no object has its place at once, by its number; of the others there
+/// is kept what they came to, in the order of answers. The first so many tasks are those of the
+/// root. What was stored of the tasks below the base is given away: they are of earlier phases, and
+/// of such a phase of a mutation the last of the first ones is the root key.
 #[derive(Drop)]
 pub struct TreePlan<'a, V> {
     pub tasks: Vec<Task<'a, V>>,
     pub kept: Vec<Kept<'a, V>>,
-    pub places: Vec<Option<Place>>,
+    pub places: Vec<Option<Piece>>,
     pub path: Vec<PathSegment>,
     pub base: usize,
     pub roots: usize,
@@ -45,9 +45,8 @@ pub struct TreePlan<'a, V> {
 impl<'a, V: Drop> TreePlan<'a, V> {
     ghost use Rattle.std.specs.Prelude.{ℕ, ◌≡◌, ◌<◌, ◌++◌, ◌∷◌, [], Ok, None, Some, length, OnOk};
     ghost use Rattle.gql_engine.specs.declared.given.Given.TheVariants.{Put};
-    ghost use Rattle.gql_merged.specs.Assembling.{place_alone};
+    ghost use Rattle.gql_merged.specs.Assembling.{IsPutAlone};
     ghost use Rattle.gql_merged.specs.Holds.{HoldsSince, store_in};
-    ghost use Rattle.gql_merged.specs.Standing.{PutsAt};
     ghost use Rattle.gql_merged.specs.Tasks.{job_of_task, jobs_in};
 
     /// A plan without tasks.
@@ -84,7 +83,7 @@ impl<'a, V: Drop> TreePlan<'a, V> {
     }
 
     /// Ends a phase: what is stored of its tasks is given away.
-    pub(crate) fn close(&mut self, alloc: Global) -> (Vec<Kept<'a, V>>, Vec<Option<Place>>)
+    pub(crate) fn close(&mut self, alloc: Global) -> (Vec<Kept<'a, V>>, Vec<Option<Piece>>)
         ensures kept { result.0 ≡ self.old.kept }
         ensures places { result.1 ≡ self.old.places }
         ensures tasks { self.new.tasks ≡ self.old.tasks }
@@ -98,17 +97,19 @@ impl<'a, V: Drop> TreePlan<'a, V> {
     }
 
     /// Puts the place of a task that came to no object.
+    #[tactic(auto, using(crate::proofs::PutLemmas::alone_put))]
     fn put_alone(&mut self, alloc: Global, number: usize, filled: Filled<'a, V>) -> Made<()>
         requires within { number < length self.old.tasks.items }
         requires alone { filled.parents.items ≡ [] }
         ensures tasks { self.new.tasks ≡ self.old.tasks }
         ensures kept { self.new.kept ≡ self.old.kept }
         ensures base { self.new.base ≡ self.old.base }
-        ensures puts { OnOk result (PutsAt (Some (place_alone filled.entry)) number
+        ensures puts { OnOk result (IsPutAlone filled.entry number
             self.old.places.items self.new.places.items) }
     {
-        let place = place_alone(alloc, filled)?;
-        put_place_at(&mut self.places, number, place)
+        let piece = piece_alone(alloc, filled)?;
+        put_place_at(&mut self.places, number, piece)?;
+        Ok(())
     }
 }
 

@@ -16,7 +16,7 @@ use gql_doc::{
     Positioned, parse_query,
 };
 use gql_engine::Scene;
-use gql_merged::{Grouping, run_apart, run_merged, run_mutation_grouped};
+use gql_merged::{Grouping, run_apart, run_grouped, run_merged, run_mutation_grouped};
 use gql_place::{Place, faults, raise};
 use gql_request::{Data, Hooks, IntrospectionMode, QueryEnv};
 use gql_resolve::{FieldValue, Layers, Turns};
@@ -209,21 +209,30 @@ fn push_faults(alloc: Global, out: &mut String, place: &Place) -> Made<()> {
     Ok(())
 }
 
-/// The place of a query, its occurrences grouped so.
-fn place_of<P: Turns>(
+/// A place that tells what a query comes to, its occurrences grouped so.
+fn place_of<P: Turns, S: Ledger>(
     alloc: Global,
     by: Grouping,
     ground: &Ground,
     env: &QueryEnv,
     set: &mut Answers,
     turns: &mut P,
+    blank: Blank,
 ) -> Result<Place, NoMemory>
-    requires { is_mutation env.now.operation.node.ty ≡ false }
+    requires name { blank.name ≡ S.name }
+    requires parts { blank.parts ≡ S.parts }
+    requires some { 0 < blank.parts }
+    requires kind { is_mutation env.now.operation.node.ty ≡ false }
 {
     let scene = ground.scene(env);
     let mut hooks = Hooks::none(alloc);
     match by {
-        Grouping::ByKey => run_merged(alloc, &scene, set, &mut hooks, turns),
+        Grouping::ByKey => {
+            let mut steps: Steps<S> = Steps::new(blank);
+            let piece = run_grouped(alloc, by, &scene, set, &mut hooks, turns, &mut steps)?;
+            Ok(piece.into_place(alloc))
+        }
+        Grouping::ByKeyWhole => run_merged(alloc, &scene, set, &mut hooks, turns),
         Grouping::Each => run_apart(alloc, &scene, set, &mut hooks, turns),
     }
 }
@@ -246,7 +255,10 @@ fn place_in_turn<P: Turns, S: Ledger>(
     let mut steps: Steps<S> = Steps::new(blank);
     let scene = ground.scene(env);
     let mut hooks = Hooks::none(alloc);
-    run_mutation_grouped(alloc, by, &scene, set, &mut hooks, turns, &mut steps)
+    let (piece, roots) = run_mutation_grouped(
+        alloc, by, &scene, set, &mut hooks, turns, &mut steps,
+    )?;
+    Ok((piece.into_place(alloc), roots))
 }
 
 /// The response to a mutation, behind the number of its root keys.
@@ -270,17 +282,21 @@ fn response_in_turn<P: Turns, S: Ledger>(
 }
 
 /// The response to a query.
-fn response_at_once<P: Turns>(
+fn response_at_once<P: Turns, S: Ledger>(
     alloc: Global,
     by: Grouping,
     env: &QueryEnv,
     set: &mut Answers,
     turns: &mut P,
+    blank: Blank,
 ) -> Result<String, NoMemory>
-    requires { is_mutation env.now.operation.node.ty ≡ false }
+    requires name { blank.name ≡ S.name }
+    requires parts { blank.parts ≡ S.parts }
+    requires some { 0 < blank.parts }
+    requires kind { is_mutation env.now.operation.node.ty ≡ false }
 {
     let ground = Ground::new(alloc)?;
-    let place = place_of(alloc, by, &ground, env, set, turns)?;
+    let place = place_of::<P, S>(alloc, by, &ground, env, set, turns, blank)?;
     Ok(response_text(alloc, &place)?)
 }
 
@@ -293,7 +309,9 @@ fn response_to<P: Turns>(
     turns: &mut P,
 ) -> Result<String, NoMemory> {
     match env.operation.node.ty {
-        OperationType::Query => response_at_once(alloc, by, env, set, turns),
+        OperationType::Query => {
+            response_at_once::<P, Brand>(alloc, by, env, set, turns, Blank::new(1))
+        }
         OperationType::Mutation => {
             response_in_turn::<P, Brand>(alloc, by, env, set, turns, Blank::new(1))
         }

@@ -38,13 +38,17 @@ struct Way {
     last: bool,
 }
 
-const WAYS: [Way; 4] = [
+const WAYS: [Way; 5] = [
     Way {
         by: Grouping::ByKey,
         last: false,
     },
     Way {
         by: Grouping::ByKey,
+        last: true,
+    },
+    Way {
+        by: Grouping::ByKeyWhole,
         last: true,
     },
     Way {

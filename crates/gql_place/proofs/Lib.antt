@@ -4,7 +4,7 @@ pub mod JoinLemmas
 pub mod JoinStepLemmas
 pub mod LawProofs
 pub mod PartLemmas
-pub mod PlainLemmas
+pub mod PieceLemmas
 pub mod RaisingLemmas
 pub mod Rows
 pub mod SameLemmas

@@ -8,9 +8,11 @@ use Rattle.gql_base.specs.declared.value.Value.TheVariants as value
 use Rattle.gql_place.specs.declared.place.Place.{Place}
 use Rattle.gql_place.specs.declared.place.Tree.{Tree, the_lemmas}
 use Rattle.gql_place.specs.declared.place.Tree.TheVariants as tree
+use Rattle.gql_place.specs.Alike.{Same}
 use Rattle.gql_place.specs.Faults.{faults_of, located}
 use Rattle.gql_place.specs.HeaderOps.{ops_of}
 use Rattle.gql_place.specs.Join.{join}
+use Rattle.gql_place.specs.Pieces.{data_place}
 use Rattle.gql_place.specs.Raised.{raised}
 use Rattle.gql_request.specs.declared.header_op.HeaderOp.{HeaderOp}
 
@@ -80,3 +82,27 @@ joined_lists = search (rules, the_lemmas)
 -- the second's errors are not told again
 first_errors : faults_of (join (record (nullable (number 1)) { added = bad ∷ [] }) (record (nullable (number 1)) { added = bad ∷ bad ∷ [] })) ≡ located field_pos [] bad ∷ []
 first_errors = search (rules, the_lemmas)
+
+-- a place of data tells it, and nothing else
+data_told :
+    (raised (data_place (value.Number (pos 1))) ≡ value.Number (pos 1))
+    × (faults_of (data_place (value.Number (pos 1))) ≡ []) × (ops_of (data_place (value.Number (pos 1))) ≡ [])
+data_told = (search (rules, the_lemmas), search (rules, the_lemmas), search (rules, the_lemmas))
+
+-- an object and a list of data tell the same as one value
+data_as_one :
+    Same false (data_place (value.Object ((codes "values", value.List (value.Number (pos 1) ∷ value.Null ∷ [])) ∷ [])))
+    (root ((codes "values", nullable (tree.List (non_null (number 1) ∷ nullable tree.Absent ∷ []))) ∷ []))
+data_as_one = record {
+  data_is = search (rules, the_lemmas);
+  faults_are = λ path. search (rules, the_lemmas);
+  ops_are = search (rules, the_lemmas);
+}
+
+-- a fault isn't null: it has an error
+fault_differs : Same false (data_place value.Null) (nullable (tree.Fault bad)) → ⊥
+fault_differs is =
+    let none : faults_of (data_place value.Null) ≡ [] = search (rules, the_lemmas) in
+    let one : faults_of (nullable (tree.Fault bad)) ≡ located field_pos [] bad ∷ [] = search (rules, the_lemmas) in
+    let same : faults_of (data_place value.Null) ≡ faults_of (nullable (tree.Fault bad)) = is.faults_are [] in
+    cc

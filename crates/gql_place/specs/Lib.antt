@@ -1,3 +1,4 @@
+pub mod Alike
 pub mod Answered
 pub mod Faults
 pub mod Filled
@@ -5,6 +6,6 @@ pub mod HeaderOps
 pub mod Join
 pub mod KeysApart
 pub mod Laws
-pub mod Plain
+pub mod Pieces
 pub mod Raised
 pub mod Steps

@@ -5,19 +5,20 @@
 mod copying;
 mod joining;
 pub mod laws;
+mod piece;
+mod pieces;
 mod place;
 mod place_faults;
 mod place_headers;
-mod place_plain;
-mod place_told;
 mod raising;
 mod shape;
 mod shared;
 
 pub use joining::join;
+pub use piece::Piece;
+pub use pieces::{MemberPieces, Pieces, absent_tree};
 pub use place::{Place, Tree};
 pub use place_faults::faults;
 pub use place_headers::header_ops;
-pub use place_told::told_beside;
 pub use raising::{raise, raise_moved};
 pub use shape::Shape;

@@ -3,7 +3,7 @@
 use gql_base::{
     Copied, Error, Items, Made, Name, Number, Pairs, Pos, Text, Value, json_of, push_errors,
 };
-use gql_place::{Place, Tree, faults, header_ops, join, raise, told_beside};
+use gql_place::{Piece, Pieces, Place, Tree, faults, header_ops, join, raise};
 use gql_request::HeaderOp;
 use http_header::{HeaderName, HeaderValue};
 use std::alloc::Global;
@@ -13,6 +13,10 @@ use std::test::Fail;
 const TWO_ERRORS: &str =
     "[{\"message\":\"beside\",\"locations\":[{\"line\":1,\"column\":3}],\"path\":[\"values\"]},\
     {\"message\":\"bad\",\"locations\":[{\"line\":1,\"column\":3}],\"path\":[\"values\",0]}]";
+
+/// The error of a second item.
+const SECOND_FAILS: &str =
+    "[{\"message\":\"bad\",\"locations\":[{\"line\":1,\"column\":3}],\"path\":[1]}]";
 
 /// A place that may be null.
 fn place(alloc: Global, tree: Tree) -> Place {
@@ -93,10 +97,18 @@ fn header_count(alloc: Global, place: &Place) -> Made<usize> {
     Ok(header_ops(alloc, place)?.len())
 }
 
-/// The numbers of errors and of header operations that a response tells beside its data.
-fn counts_beside(alloc: Global, place: &Place) -> Made<(usize, usize)> {
-    let (errors, headers) = told_beside(alloc, place)?;
-    Ok((errors.len(), headers.len()))
+/// What is kept of two items, and then of their list.
+fn kept_list(alloc: Global, first: Place, second: Place) -> Made<Place> {
+    let mut items = Pieces::with_capacity(alloc, false, 2)?;
+    items.push(alloc, Piece::new(alloc, false, first)?)?;
+    items.push(alloc, Piece::new(alloc, false, second)?)?;
+    let tree = items.into_list(alloc, false)?;
+    Ok(Piece::new(alloc, false, place(alloc, tree))?.into_place(alloc))
+}
+
+/// Whether all that is kept of a place is its data.
+fn is_data(place: &Place) -> bool {
+    matches!(&place.tree, Tree::Leaf(_))
 }
 
 fn joined_data(alloc: Global, first: Place, second: Place) -> Made<Text> {
@@ -139,14 +151,25 @@ fn a_failed_item_makes_its_list_null(rt: HostRuntime) -> Result<(), Fail> {
     assert_eq!(rt; data(rt.alloc(), &response)?.as_str(), "{\"values\":null}");
     assert_eq!(rt; header_count(rt.alloc(), &response)?, 1);
     assert_eq!(rt; errors(rt.alloc(), &response)?.as_str(), TWO_ERRORS);
-    assert_eq!(rt; counts_beside(rt.alloc(), &response)?, (2, 1));
     Ok(())
 }
 
 #[test]
-fn a_response_without_errors_tells_data_alone(rt: HostRuntime) -> Result<(), Fail> {
-    let response = nested(rt.alloc(), "a", 1)?;
-    assert_eq!(rt; counts_beside(rt.alloc(), &response)?, (0, 0));
+fn of_items_without_errors_data_is_kept(rt: HostRuntime) -> Result<(), Fail> {
+    let list = kept_list(rt.alloc(), leaf(rt.alloc(), 1), leaf(rt.alloc(), 2))?;
+    assert_eq!(rt; is_data(&list), true);
+    assert_eq!(rt; data(rt.alloc(), &list)?.as_str(), "[1,2]");
+    Ok(())
+}
+
+#[test]
+fn beside_a_failed_item_the_data_of_others_is_kept(rt: HostRuntime) -> Result<(), Fail> {
+    let mut second = failed(rt.alloc())?;
+    second.non_null = false;
+    let list = kept_list(rt.alloc(), leaf(rt.alloc(), 1), second)?;
+    assert_eq!(rt; is_data(&list), false);
+    assert_eq!(rt; data(rt.alloc(), &list)?.as_str(), "[1,null]");
+    assert_eq!(rt; errors(rt.alloc(), &list)?.as_str(), SECOND_FAILS);
     Ok(())
 }
 

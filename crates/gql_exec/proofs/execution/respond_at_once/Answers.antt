@@ -3,12 +3,13 @@ use Rattle.gql_engine.proofs.RootLemmas.{if_err}
 use Rattle.gql_engine.specs.Parts.{due_by}
 use Rattle.gql_engine.specs.Progress.{seen}
 use Rattle.gql_exec.proofs.BareLemmas.{response-bare, stopped-bare, whole-bare}
-use Rattle.gql_exec.proofs.ExecutionLemmas.{halts_by, runs_by}
+use Rattle.gql_exec.proofs.ExecutionLemmas.{halts_by, response_same, runs_by}
 use Rattle.gql_merged.proofs.ApartLemmas.{alike_by}
 use Rattle.gql_exec.specs.Bare.{bare_scene}
 use Rattle.gql_exec.specs.Counting.{tasks_by}
 use Rattle.gql_exec.specs.Execution.{HaltsAs}
 use Rattle.gql_exec.specs.PlaceResponse.{response_at}
+use Rattle.gql_merged.specs.Grouped.{keeps_whole}
 use Rattle.gql_request.specs.QueryEnv.{levels_of}
 use Rattle.gql_exec.proofs.execution.respond_at_once.Goals as goal
 
@@ -38,8 +39,8 @@ returns-in-Ok-clause-runs g c = λ lawful.
     let env = scene.env.now in
     let answer = due_by g.R.ResolverSet c.args.resolvers.now in
     runs_by g.R.ResolverSet g.P.Turns old new c.args.by (bare_scene scene) false c.requires.kind c.in-Ok.response
-    (c.in-Ok.ensures ∙ ap response_at (c.in_ok-place.ensures.places lawful tt (levels_of env) env.nests
-    ∙ alike_by scene c.args.by answer (levels_of env) c.requires.agrees ∙ sym (response-bare scene answer (levels_of env))))
+    (c.in-Ok.ensures ∙ response_same (keeps_whole c.args.by) _ _ (c.in_ok-place.ensures.places lawful tt (levels_of env) env.nests)
+    ∙ ap response_at (alike_by scene c.args.by answer (levels_of env) c.requires.agrees ∙ sym (response-bare scene answer (levels_of env))))
     (c.in_ok-place.ensures.world lawful) (whole-bare g.R.ResolverSet g.P.Turns c.args.by scene old new (c.in_ok-place.ensures.«record» lawful tt))
 
 pub returns-in-Ok-clause-asked : goal.returns-in-Ok-clause-asked

@@ -2,13 +2,14 @@ use Rattle.std.proofs.Common.{◌+◌, true, inl, inr, ap, length, refl, sym, �
 use Rattle.gql_engine.proofs.RootLemmas.{if_err}
 use Rattle.gql_engine.specs.Progress.{seen}
 use Rattle.gql_exec.proofs.BareLemmas.{last-bare, serial-bare}
-use Rattle.gql_exec.proofs.ExecutionLemmas.{halts_by, runs_by}
+use Rattle.gql_exec.proofs.ExecutionLemmas.{halts_by, response_same, runs_by}
 use Rattle.gql_exec.proofs.InTurnLemmas.{all_stand, halts-in-turn-bare, in-turn-bare, stand-bare}
 use Rattle.gql_merged.proofs.ApartLemmas.{serial_alike_by}
 use Rattle.gql_exec.specs.Bare.{bare_scene}
 use Rattle.gql_exec.specs.Counting.{tasks_by}
 use Rattle.gql_exec.specs.Execution.{HaltsAs}
 use Rattle.gql_exec.specs.PlaceResponse.{response_at}
+use Rattle.gql_merged.specs.Grouped.{keeps_whole}
 use Rattle.gql_request.specs.QueryEnv.{levels_of}
 use Rattle.gql_exec.proofs.execution.respond_in_turn.Goals as goal
 
@@ -43,8 +44,8 @@ returns-in-Ok-clause-runs g c = λ lawful.
     let effect = set.effect (set.rules old.set) in
     runs_by set g.P.Turns old new c.args.by (bare_scene scene) true c.requires.kind c.in-Ok.response
     (c.in-Ok.ensures
-    ∙ ap response_at (c.in_ok-place.ensures.places lawful tt (levels_of env) env.nests
-    ∙ serial_alike_by scene answer effect (set.world old.set) c.args.by (levels_of env) c.requires.agrees ∙ sym (serial-bare answer effect scene (set.world old.set) (levels_of env))))
+    ∙ response_same (keeps_whole c.args.by) _ _ (c.in_ok-place.ensures.places lawful tt (levels_of env) env.nests)
+    ∙ ap response_at (serial_alike_by scene answer effect (set.world old.set) c.args.by (levels_of env) c.requires.agrees ∙ sym (serial-bare answer effect scene (set.world old.set) (levels_of env))))
     (c.in_ok-place.ensures.world lawful tt ∙ sym (last-bare answer effect scene (set.world old.set)))
     (in-turn-bare set g.P.Turns c.args.by scene old new (c.in_ok-place.ensures.«record» lawful tt))
 

@@ -21,7 +21,7 @@ returns-clause-filled g c =
           ∙ ap (λ fs. map spot_found fs ++ spots c.in_ok-whole.whole (path_with parent.held node)) c.new-found.ensures.items;
     } in
     takes_filled parent node c.args.answer c.in_ok-whole.whole c.take_apart.new.found.items takes _ c.is_nullable-2.result
-    refl (c.is_nullable-2.ensures ∙ ap is_nullable c.ty-ty.ensures) refl refl refl c.in_ok-shape.ensures.bare c.in_ok-parents.ensures.parents
+    refl (c.is_nullable-2.ensures ∙ ap is_nullable c.ty-ty.ensures) refl refl refl c.keeps_whole-2.ensures c.in_ok-shape.ensures.bare c.in_ok-parents.ensures.parents
 
 pub returns-clause-tasks : goal.returns-clause-tasks
 returns-clause-tasks g c =
@@ -56,7 +56,7 @@ pub returns-then-is_leaf-clause-filled : goal.returns-then-is_leaf-clause-filled
 returns-then-is_leaf-clause-filled g c =
     takes_filled c.args.parent.now c.args.node.now c.args.answer (shape.Leaf (leaf g c).value) []
     (leaf_takes c.args.parent.now c.args.node.now c.args.answer (leaf_in c.args.answer.result) (leaf g c)) _ c.is_nullable.result
-    refl (c.is_nullable.ensures ∙ ap is_nullable c.ty-ty.ensures) refl refl refl
+    refl (c.is_nullable.ensures ∙ ap is_nullable c.ty-ty.ensures) refl refl refl c.keeps_whole.ensures
     (c.leaf_in.ensures ∙ leaf_bare c.args.parent.now c.args.node.now c.args.answer (leaf_in c.args.answer.result) (leaf g c))
     (ap (map standing_behind) c.new.ensures.items)
 

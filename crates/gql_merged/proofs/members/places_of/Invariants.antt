@@ -1,4 +1,6 @@
 use Rattle.std.proofs.Common.{◌≡◌, ◌++◌, drop, map}
+use Rattle.gql_place.specs.Alike.{SameItems}
+use Rattle.gql_place.specs.Pieces.{place_in, places_in}
 use Rattle.gql_merged.specs.Assembled.{places_behind_all, places_with}
 use Rattle.gql_merged.specs.Levels.{asked_behind}
 use Rattle.gql_merged.specs.Standing.{present}
@@ -6,7 +8,9 @@ use Rattle.gql_merged.proofs.members.places_of.Given as goal
 
 abbrev pub invariant-loop-node : goal.invariant-loop-node
 invariant-loop-node l = record {
-  own : l.own.items ++ places_with l.object (map asked_behind (drop l.node-index l.nodes)) (present l.places.items)
-      ≡ places_with l.object (map asked_behind l.nodes) (present l.initial.places.items);
-  left : places_behind_all (map asked_behind (drop l.node-index l.nodes)) (present l.places.items) ≡ places_behind_all (map asked_behind l.nodes) (present l.initial.places.items);
+  own : SameItems l.whole
+      (places_in l.own ++ places_with l.object (map asked_behind (drop l.node-index l.nodes)) (map place_in (present l.places.items)))
+      (places_with l.object (map asked_behind l.nodes) (map place_in (present l.initial.places.items)));
+  left : places_behind_all (map asked_behind (drop l.node-index l.nodes)) (map place_in (present l.places.items))
+      ≡ places_behind_all (map asked_behind l.nodes) (map place_in (present l.initial.places.items));
 }

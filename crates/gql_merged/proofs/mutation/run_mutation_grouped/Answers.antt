@@ -1,4 +1,5 @@
-use Rattle.std.proofs.Common.{◌≡◌, ◌+◌, ◌++◌, ◌∙◌, [], List, append-nil, ap, length, refl, subst, sym}
+use Rattle.std.proofs.Common.{◌≡◌, ◌+◌, ◌∷◌, ◌++◌, ◌∙◌, [], List, append-nil, ap, length, map, refl, subst, sym, true}
+use Rattle.std.specs.Prelude.{IfOk}
 use Rattle.std.proofs.lemmas.Result.{IfErr-weaker, IfOk-weaker}
 use Rattle.gql_base.specs.declared.no_memory.NoMemory.{NoMemory}
 use Rattle.gql_engine.proofs.AdvanceLemmas.{on_err}
@@ -12,9 +13,14 @@ use Rattle.gql_engine.specs.Phases.{AreCut, CutInTurn, none_made, Phases, RootsS
 use Rattle.gql_engine.specs.Progress.{seen}
 use Rattle.gql_engine.specs.Rounds.{RoundsStopped, RoundsWhole}
 use Rattle.gql_meaning.specs.Responses.{root_place}
+use Rattle.gql_place.specs.Alike.{Same}
+use Rattle.gql_place.specs.Pieces.{place_in}
+use Rattle.gql_place.proofs.PieceLemmas.{same_trans}
 use Rattle.gql_merged.specs.Assembled.{members_with}
+use Rattle.gql_merged.specs.Assembling.{AreApart}
+use Rattle.gql_merged.specs.Grouped.{keeps_whole}
 use Rattle.gql_merged.specs.Jobs.{asked_by_job, Job}
-use Rattle.gql_merged.specs.Parents.{jobs_here, Standing}
+use Rattle.gql_merged.specs.Parents.{jobs_here, Standing, standing_behind}
 use Rattle.gql_merged.specs.Run.{job_subject}
 use Rattle.gql_merged.specs.Serial.{key_jobs_by, key_work_by, no_jobs, PlacedInTurn}
 use Rattle.gql_merged.specs.Standing.{present}
@@ -23,7 +29,7 @@ use Rattle.gql_merged.specs.declared.task.Task.{Task}
 use Rattle.std.specs.List.{AllByRecursion}
 use Rattle.gql_merged.specs.Keys.{IsKey}
 use Rattle.gql_merged.proofs.KeyLemmas.{halts_none, stage_none, steps_in_turn, turn_answered}
-use Rattle.gql_merged.proofs.RunLemmas.{all_keys, mutation_jobs, mutation_stands}
+use Rattle.gql_merged.proofs.RunLemmas.{all_keys, apart_root, mutation_jobs, mutation_stands, root_same}
 use Rattle.gql_merged.proofs.CountedKeysLemmas.{mutation_counted}
 use Rattle.gql_merged.proofs.SerialLemmas.{last_past, members_in_turn}
 use Rattle.gql_merged.proofs.mutation.run_mutation_grouped.Goals as goal
@@ -122,9 +128,16 @@ returns-clause-places g c = λ law calm n nests.
     stage_none (g.R.ResolverSet.told c.args.resolvers.now) (g.R.ResolverSet.begun c.args.resolvers.now) (g.P.Turns.state c.args.turns.now) (jobs_in c.empty-plan.result.tasks.items)
     (marks_of c.in_ok-arena.arena.states.items) c.empty-plan.ensures.tasks (ap marks_of c.in_ok-arena.ensures.states) in
     let placed = subst (λ rs. PlacedInTurn serving world rs c.in_ok-own.own.items) asked (c.in_ok-own.ensures.placed law calm) in
-    IfOk-weaker c.place_of_keys.result _ _ (λ place is. is
-    ∙ ap (λ (s : Standing g.row.R-Own.Denot). root_place scene.env.now.operation.pos (members_with s.spot.object s.members (present c.in_ok-own.own.items))) (c.in_ok-root.ensures.stands ∙ mutation_stands c.args.by scene c.requires)
-    ∙ ap (root_place scene.env.now.operation.pos) (members_in_turn c.args.by scene serving world c.in_ok-own.own.items n nests placed)) c.place_of_keys.ensures.place
+    let whole = keeps_whole c.args.by in
+    let pos = scene.env.now.operation.pos in
+    let root = standing_behind c.in_ok-root.root in
+    let stands = c.in_ok-root.ensures.stands ∙ mutation_stands c.args.by scene c.requires in
+    let own = map place_in (present c.in_ok-own.own.items) in
+    let is = subst (λ w. AreApart w (root ∷ []) → IfOk c.place_of_keys.result (λ run. Same w (place_in run.0) (root_place pos (members_with root.spot.object root.members own))))
+    c.keeps_whole.ensures c.place_of_keys.ensures.place (apart_root true c.args.by scene root stands) in
+    IfOk-weaker c.place_of_keys.result _ _ (λ run here. same_trans whole (place_in run.0) _ _
+    (subst (λ (s : Standing g.row.R-Own.Denot). Same whole (place_in run.0) (root_place pos (members_with s.spot.object s.members own))) stands here)
+    (root_same whole pos _ _ (members_in_turn c.args.by scene serving world c.in_ok-own.own.items n nests placed))) is
 
 pub returns-clause-count : goal.returns-clause-count
 returns-clause-count g c =

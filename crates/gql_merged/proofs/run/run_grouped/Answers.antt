@@ -1,4 +1,4 @@
-use Rattle.std.proofs.Common.{◌≡◌, length, false, sym, ap, subst, ◌∙◌, refl}
+use Rattle.std.proofs.Common.{◌≡◌, ◌∷◌, [], length, false, take, sym, ap, subst, ◌∙◌, refl}
 use Rattle.std.specs.Prelude.{slice_get}
 use Rattle.std.proofs.lemmas.List.{length-map}
 use Rattle.gql_engine.proofs.AdvanceLemmas.{on_err}
@@ -8,6 +8,8 @@ use Rattle.gql_engine.proofs.RunLemmas.{all_answered, first_sound}
 use Rattle.gql_engine.specs.Parts.{at, due_by, outside}
 use Rattle.gql_engine.specs.Progress.{seen}
 use Rattle.gql_engine.specs.Rounds.{KeepNumbers, RoundsStopped, RoundsWhole}
+use Rattle.gql_resolve.specs.Call.{is_mutation}
+use Rattle.gql_merged.specs.Assembling.{AreApart, IsAssembled}
 use Rattle.gql_merged.specs.Holds.{store_in}
 use Rattle.gql_merged.specs.Jobs.{asked_by_job, Job}
 use Rattle.gql_merged.specs.NeverRoots.{no_roots}
@@ -15,7 +17,7 @@ use Rattle.gql_merged.specs.Parents.{standing_behind}
 use Rattle.gql_merged.specs.Run.{basis_by, root_jobs_by, root_selections, root_spot}
 use Rattle.gql_merged.specs.Tasks.{job_of_task, jobs_in}
 use Rattle.gql_merged.proofs.BeneathLemmas.{every_at}
-use Rattle.gql_merged.proofs.RunLemmas.{all_held, answers_due, Begins, due_agrees, Finishes, query_jobs, query_stands, response_is, roots_enough, runs_whole, steps_end, stopped_none, stopped_run, stopped_whole, whole_ran}
+use Rattle.gql_merged.proofs.RunLemmas.{all_held, answers_due, apart_root, Begins, due_agrees, Finishes, query_jobs, query_stands, response_is, roots_enough, runs_whole, steps_end, stopped_none, stopped_run, stopped_whole, whole_ran}
 use Rattle.gql_merged.proofs.run.run_grouped.Goals as goal
 
 pub returns-in_err-root-clause-stopped : goal.returns-in_err-root-clause-stopped
@@ -135,8 +137,12 @@ returns-clause-places g c = λ law calm n nests.
     response_is c.args.by c.args.scene.now (due_by g.R.ResolverSet c.args.resolvers.now) (standing_behind c.in_ok-root.root) c.finish.new.plan.roots last
     c.in_ok-place_of_root.field-0 n (c.in_ok-root.ensures.stands ∙ query_stands c.args.by c.args.scene.now c.requires) keeps
     (roots_enough c.args.by c.args.scene.now c.finish.new.plan.tasks.items c.finish.new.plan.roots keeps c.finish.new.plan.deep)
+    (subst (λ b. IsAssembled (due_by g.R.ResolverSet c.args.resolvers.now) b c.args.scene.now.env.now.operation.pos (standing_behind c.in_ok-root.root)
+    (take c.finish.new.plan.roots last) c.in_ok-place_of_root.field-0) c.keeps_whole-whole.ensures
     (c.in_ok-place_of_root.ensures (due_by g.R.ResolverSet c.args.resolvers.now)
-    (all_held g.R.ResolverSet g.P.Turns c.args.by c.args.scene.now old first c.in_ok-arena.arena.states.items begins new last store store' c.finish.new.arena.states.items finishes)) nests
+    (all_held g.R.ResolverSet g.P.Turns c.args.by c.args.scene.now old first c.in_ok-arena.arena.states.items begins new last store store' c.finish.new.arena.states.items finishes)
+    (subst (λ b. AreApart b (standing_behind c.in_ok-root.root ∷ [])) (sym c.keeps_whole-whole.ensures)
+    (apart_root (is_mutation c.args.scene.now.env.now.operation.node.ty) c.args.by c.args.scene.now (standing_behind c.in_ok-root.root) c.in_ok-root.ensures.stands)))) nests
 
 pub returns-clause-record : goal.returns-clause-record
 returns-clause-record g c = λ law calm.
