@@ -1,6 +1,6 @@
 -- What the exact walk tells, step by step.
 use Rattle.std.proofs.Common.{◌≡◌, ℕ, zero, suc, ◌+◌, ◌<◌, ◌≤◌, Bool, true, false, cond, List, [], ◌∷◌, ◌++◌, length, map, take, get_or, Some, None, Ok, Err, OnOk, slice_get, slice_set, refl, ap, sym, subst, ◌∙◌, append_assoc, append-nil, arith}
-use Rattle.std.proofs.lemmas.List.{take_all, take_more}
+use Rattle.std.proofs.lemmas.List.{take_all}
 use Rattle.std.specs.Prelude.{Result}
 use Rattle.std.specs.Borrow.{Bor}
 use Rattle.std.specs.List.{flat_map, zip}
@@ -14,19 +14,20 @@ use Rattle.gql_doc.specs.declared.document.Positioned.{Positioned}
 use Rattle.gql_select.specs.Alike.{alike, name_of}
 use Rattle.gql_select.specs.Collected.{Setting, collect_within, own_selections}
 use Rattle.gql_select.specs.Conflicts.{first_differing}
-use Rattle.gql_select.specs.Documents.{both, reading, with_others}
-use Rattle.gql_select.proofs.DocumentLemmas.{is_reading, name_of_both, set_of_both}
+use Rattle.gql_select.specs.Documents.{reading, with_others}
+use Rattle.gql_select.proofs.DocumentLemmas.{set_of_both}
 use Rattle.gql_conflicts.specs.Classes.{key_at}
-use Rattle.gql_conflicts.specs.Collecting.{setting_by}
+use Rattle.gql_conflicts.specs.Reader.{setting_by}
 use Rattle.gql_select.specs.Behind.{all_behind}
 use Rattle.gql_conflicts.specs.DocumentConflicts.{told}
 use Rattle.gql_conflicts.specs.Groups.{AreGroups, Grown, fields_tell, groups_tell, told_of, united}
-use Rattle.gql_conflicts.specs.Walk.{among_tells, beneath_tells, collected, objects_at, set_tells}
+use Rattle.gql_conflicts.specs.Walk.{among_tells, beneath_tells, objects_at, set_tells}
 use Rattle.gql_conflicts.specs.declared.conflict.Conflict.{Conflict}
 use Rattle.gql_conflicts.specs.declared.group.Group.{Group}
 use Rattle.gql_conflicts.specs.declared.reader.Reader.{Reader}
+use Rattle.gql_collect.proofs.OccurrenceLemmas.{behind_more, name_with_others}
 use Rattle.gql_conflicts.proofs.EachLemmas.{none_of_any}
-use Rattle.gql_select.proofs.OccurrenceLemmas.{behind_append, with_one_more}
+use Rattle.gql_select.proofs.OccurrenceLemmas.{with_one_more}
 use Rattle.gql_select.proofs.ZipLemmas.{names_long}
 use Rattle.gql_conflicts.proofs.GroupLemmas.{groups_found}
 
@@ -39,41 +40,9 @@ module _ {A B : Type 0} (f : A → List B) where
       append-nil (f y) ∙ ap f same
   flat_more (y ∷ ys) (suc i) x at = ap (λ bs. f y ++ bs) (flat_more ys i x at) ∙ sym (append_assoc (f y) (flat_map f (take i ys)) (f x))
 
-name_of_others : (f : Positioned Field) (gs : List (Positioned Field)) → name_of (with_others f gs) ≡ name_of f
-name_of_others f [] = refl
-name_of_others f (g ∷ gs) = name_of_others (both f g) gs ∙ name_of_both f g
-
 -- a group is named as its first occurrence
 pub name_of_united : (group : Group) → name_of (united group) ≡ name_of group.first.now
-name_of_united group = name_of_others group.first.now (all_behind group.more.items)
-
--- the fields in the set of a united field are those in the one, and then those in the other
-collected_both : (reader : Reader) (object : List ℕ) (f g : Positioned Field)
-    → collected reader object (own_selections (both f g)) ≡ collected reader object (own_selections f) ++ collected reader object (own_selections g)
-collected_both reader object f g =
-    ap (collected reader object) (set_of_both f g)
-    ∙ (is_reading (setting_by reader)).fields_of_both object (own_selections f) (own_selections g)
-
--- one more behind references
-pub behind_more : {X : Type 0} (xs : List (Bor X)) (i : ℕ) (x : Bor X) → i < length xs → x ≡ get_or xs i x
-    → all_behind (take (i + 1) xs) ≡ all_behind (take i xs) ++ x.now ∷ []
-behind_more xs i x within read =
-    ap all_behind (take_more xs i x within ∙ ap (λ o. take i xs ++ o ∷ []) (sym read)) ∙ behind_append (take i xs) (x ∷ [])
-
--- the sets of one more occurrence are looked at
-pub beneath_more : (reader : Reader) (object : List ℕ) (first : Positioned Field) (more : List (Bor (Positioned Field))) (i : ℕ) (occurrence : Bor (Positioned Field))
-    (old new : List (Positioned Field)) → i < length more → occurrence ≡ get_or more i occurrence
-    → old ≡ collected reader object (own_selections (with_others first (all_behind (take i more))))
-    → new ≡ old ++ collected reader object (own_selections occurrence.now)
-    → new ≡ collected reader object (own_selections (with_others first (all_behind (take (i + 1) more))))
-beneath_more reader object first more i occurrence old new within read before added =
-    let front = all_behind (take i more) in
-    let next : all_behind (take (i + 1) more) ≡ front ++ occurrence.now ∷ [] = behind_more more i occurrence within read in
-    added
-    ∙ ap (λ fs. fs ++ collected reader object (own_selections occurrence.now)) before
-    ∙ sym (collected_both reader object (with_others first front) occurrence.now)
-    ∙ ap (λ f. collected reader object (own_selections f)) (sym (with_one_more first front occurrence.now))
-    ∙ ap (λ fs. collected reader object (own_selections (with_others first fs))) (sym next)
+name_of_united group = name_with_others group.first.now (all_behind group.more.items)
 
 no_place : {T : Type 0} (name : List ℕ) (ps : List (List ℕ × T)) → under name ps ≡ None → place_of name (names_of ps) ≡ None
 no_place name [] none = refl

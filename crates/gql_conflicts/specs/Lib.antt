@@ -1,11 +1,11 @@
 pub mod Asking
 pub mod Classes
-pub mod Collecting
 pub mod ConflictOrder
 pub mod DocumentConflicts
 pub mod Groups
 pub mod Marks
 pub mod Proposals
+pub mod Reader
 pub mod Rooted
 pub mod Seen
 pub mod Walk

@@ -9,7 +9,7 @@ use Rattle.gql_select.specs.Alike.{name_of}
 use Rattle.gql_select.specs.Collected.{collect, own_selections}
 use Rattle.gql_select.specs.Conflicts.{conflicts}
 use Rattle.gql_select.specs.Documents.{reading}
-use Rattle.gql_conflicts.specs.Collecting.{setting_by}
+use Rattle.gql_conflicts.specs.Reader.{setting_by}
 use Rattle.gql_conflicts.specs.DocumentConflicts.{operation_conflicts, told}
 use Rattle.gql_conflicts.specs.Groups.{fields_tell}
 use Rattle.gql_conflicts.specs.Rooted.{objects_beneath, rooted_of}

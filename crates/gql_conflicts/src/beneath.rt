@@ -1,17 +1,17 @@
 //! What stands beneath a field: the objects that are possible there, and the fields of each in the
 //! sets of all occurrences of the field's key.
-ghost use Rattle.std.specs.Prelude.{◌≡◌, [], ◌++◌, IfOk, IsTrue, OnOk};
+ghost use Rattle.std.specs.Prelude.{◌≡◌, [], IfOk, IsTrue};
 ghost use Rattle.gql_select.specs.Collected.{own_selections};
 ghost use Rattle.gql_select.specs.Behind.{all_behind};
 ghost use Rattle.gql_conflicts.specs.Groups.{united};
 ghost use Rattle.gql_conflicts.specs.Rooted.{is_entities, objects_beneath, rooted_of};
 ghost use Rattle.gql_conflicts.specs.Walk.{collected};
 
-use crate::collecting::add_fields;
 use crate::group::Group;
 use crate::reader::Reader;
 use crate::rooted_types::RootedTypes;
 use gql_base::Made;
+use gql_collect::{collect_fields, collect_merged_fields};
 use gql_doc::{Field, Positioned, Selection};
 use gql_schema::NameSet;
 use std::alloc::Global;
@@ -52,13 +52,10 @@ pub(crate) fn fields_in<'a>(
     ensures { IfOk result (λ fields. all_behind fields.items
         ≡ collected reader.entry.now object.now selections.entry.now) }
 {
-    let mut fields = Vec::new(alloc);
-    add_fields(reader, reader.levels, object, selections, &mut fields)?;
-    Ok(fields)
+    collect_fields(alloc, &reader.collector(), object, selections)
 }
 
 /// The fields of an object in the sets of all occurrences of a group.
-#[tactic(auto, using(crate::proofs::WalkLemmas::beneath_more))]
 pub(crate) fn fields_beneath<'a>(
     alloc: Global,
     reader: &Reader<'a>,
@@ -68,27 +65,8 @@ pub(crate) fn fields_beneath<'a>(
     ensures { IfOk result (λ fields. all_behind fields.items
         ≡ collected reader.entry.now object.now (own_selections (united group.entry.now))) }
 {
-    let first = group.first;
-    let selections = first.node.selection_set.node.items.as_slice();
-    let mut fields = fields_in(alloc, reader, object, selections)?;
-    for occurrence in group.more.as_slice() {
-        add_occurrence_fields(reader, object, occurrence, &mut fields)?;
-    }
-    Ok(fields)
-}
-
-/// Adds the fields of an object in the set of an occurrence.
-fn add_occurrence_fields<'a>(
-    reader: &Reader<'a>,
-    object: &str,
-    occurrence: &'a Positioned<Field>,
-    fields: &mut Vec<&'a Positioned<Field>>,
-) -> Made<()>
-    ensures { OnOk result (all_behind fields.new.items ≡ all_behind fields.old.items
-        ++ collected reader.entry.now object.now (own_selections occurrence.entry.now)) }
-{
-    let selections = occurrence.node.selection_set.node.items.as_slice();
-    add_fields(reader, reader.levels, object, selections, fields)
+    let more = group.more.as_slice();
+    collect_merged_fields(alloc, &reader.collector(), object, group.first, more)
 }
 
 /// True only where no occurrence of a group has a set.

@@ -9,7 +9,6 @@
 mod alike;
 mod beneath;
 mod coarse;
-mod collecting;
 mod conflict;
 mod conflict_order;
 mod entry;

@@ -1,5 +1,9 @@
+ghost use Rattle.gql_collect.specs.Collecting.{ReadsAlike};
+ghost use Rattle.gql_conflicts.specs.Reader.{setting_by};
+
 use crate::rooted_types::RootedTypes;
 use gql_base::Pairs;
+use gql_collect::Collector;
 use gql_doc::{FragmentDefinition, Positioned};
 
 /// What the sets of a document are read by: the types, the fragments, and the levels within which
@@ -9,4 +13,17 @@ pub(crate) struct Reader<'a> {
     pub rooted: &'a RootedTypes<'a>,
     pub fragments: &'a Pairs<Positioned<FragmentDefinition>>,
     pub levels: usize,
+}
+
+impl<'a> Reader<'a> {
+    /// What CollectFields needs of it.
+    pub fn collector(&self) -> Collector<'a>
+        ensures { ReadsAlike result (setting_by self.now) }
+    {
+        Collector {
+            types: self.rooted.types,
+            fragments: self.fragments,
+            levels: self.levels,
+        }
+    }
 }

@@ -1,6 +1,6 @@
 -- The values of arguments, made one by one.
-use Rattle.std.proofs.Common.{◌≡◌, ℕ, zero, suc, ◌+◌, Bool, true, false, cond, List, [], ◌∷◌, ◌++◌, take, Option, Some, None, slice_get, refl, ap, sym, ◌∙◌}
-use Rattle.std.proofs.lemmas.List.{take_more}
+use Rattle.std.proofs.Common.{◌≡◌, ℕ, zero, suc, ◌+◌, Bool, true, false, cond, List, [], ◌∷◌, ◌++◌, take, Option, Some, None, slice_get, refl, ap, sym, ◌∙◌, append_assoc}
+use Rattle.std.proofs.lemmas.List.{append-nil, take_more}
 use Rattle.std.proofs.lemmas.Option.{slice_get_within, get_or_from_slice_get}
 use Rattle.std.specs.Option.{option_map_or}
 use Rattle.std.specs.Str.{bytes_eq}
@@ -66,16 +66,8 @@ module _ (known : List ℕ → Value) (written : List Argument) where
 
   appended : (arguments : List (List ℕ × InputValue)) (a : List ℕ × InputValue) → all (arguments ++ a ∷ []) ≡ all arguments ++ own a
   unfolding all own
-  appended [] a = append_nil (own a)
-    where
-      append_nil : (xs : List (List ℕ × Value)) → xs ++ [] ≡ xs
-      append_nil [] = refl
-      append_nil (x ∷ xs) = ap (λ ys. x ∷ ys) (append_nil xs)
-  appended (b ∷ arguments) a = ap (λ xs. own b ++ xs) (appended arguments a) ∙ assoc (own b) (all arguments) (own a)
-    where
-      assoc : (xs ys zs : List (List ℕ × Value)) → xs ++ (ys ++ zs) ≡ (xs ++ ys) ++ zs
-      assoc [] ys zs = refl
-      assoc (x ∷ xs) ys zs = ap (λ ws. x ∷ ws) (assoc xs ys zs)
+  appended [] a = append-nil (own a)
+  appended (b ∷ arguments) a = ap (λ xs. own b ++ xs) (appended arguments a) ∙ sym (append_assoc (own b) (all arguments) (own a))
 
   added : (ps : List (List ℕ × Value)) (name : List ℕ) (o : Option DocValue) (p : Option Value) → under name ps ≡ None
       → unite_all later ps (constant known name o p) ≡ ps ++ constant known name o p

@@ -1,5 +1,6 @@
 -- The places of tasks as they are put together, from the task that was answered last to the first.
 use Rattle.std.proofs.Common.{◌≡◌, ℕ, zero, suc, ◌<◌, ◌≤◌, List, [], ◌∷◌, ◌++◌, length, take, drop, Option, Some, None, refl, ap, sym, subst, ◌∙◌, arith}
+use Rattle.std.proofs.lemmas.List.{map-append}
 use Rattle.gql_place.specs.Alike.{Paired}
 use Rattle.gql_place.specs.declared.piece.Piece.{Piece}
 use Rattle.gql_resolve.specs.Call.{Call}
@@ -14,7 +15,6 @@ use Rattle.gql_merged.specs.declared.kept.Kept.{Kept}
 use Rattle.gql_merged.proofs.EntryLemmas.{Laid, laid_less}
 use Rattle.gql_merged.proofs.PlacedLemmas.{made_right}
 use Rattle.gql_merged.proofs.StandingLemmas.{all_right, Stands, stands_first, stands_last, stands_less, stored_beside}
-use Rattle.gql_merged.proofs.TaskLemmas.{map_append}
 
 take_long : {X : Type 0} (n : ℕ) (xs : List X) → n ≤ length xs → length (take n xs) ≡ n
 take_long zero xs within = refl
@@ -55,7 +55,7 @@ module _ {V : Type 0} (roots : ℕ) (all : List (Kept V)) (first : List (Option 
       → Laid roots (length places) (entries_in front) (entry_of last)
   part_laid kept front last places is part =
       laid_less roots (length places) (entries_in front) (entry_of last)
-      (ap (laid roots) (sym (ap entries_in is ∙ map_append entry_of front (last ∷ []))) ∙ part.laid_is)
+      (ap (laid roots) (sym (ap entries_in is ∙ map-append entry_of front (last ∷ []))) ∙ part.laid_is)
 
   pub part_number : (kept front : List (Kept V)) (last : Kept V) (places : List (Option Piece)) → kept ≡ front ++ last ∷ [] → IsPart kept places → last.number < last.first
   part_number kept front last places is part = (part_laid kept front last places is part).number_is
@@ -80,8 +80,8 @@ module _ {V : Type 0} (roots : ℕ) (all : List (Kept V)) (first : List (Option 
         stands = λ base jobs answer early same held.
             subst (Stands (IsFilledDue answer) (beneath_due answer) (IsRight answer) jobs base (entries_in front)) (sym put)
             (stands_less (IsFilledDue answer) (beneath_due answer) (IsRight answer) jobs base roots (entries_in front) (entry_of last) places place early
-            (ap (laid roots) (sym (ap entries_in is ∙ map_append entry_of front (last ∷ []))) ∙ part.laid_is) (omega arith)
-            (subst (λ es. Stands (IsFilledDue answer) (beneath_due answer) (IsRight answer) jobs base es places) (ap entries_in is ∙ map_append entry_of front (last ∷ []))
+            (ap (laid roots) (sym (ap entries_in is ∙ map-append entry_of front (last ∷ []))) ∙ part.laid_is) (omega arith)
+            (subst (λ es. Stands (IsFilledDue answer) (beneath_due answer) (IsRight answer) jobs base es places) (ap entries_in is ∙ map-append entry_of front (last ∷ []))
             (part.stands base jobs answer early same held))
             (λ job fits right. made_right answer job last.filled (present (drop last.first places)) place fits last_put.made right));
       }

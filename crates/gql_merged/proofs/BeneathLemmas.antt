@@ -1,5 +1,6 @@
 -- The tasks beneath an answer, and the levels of its objects.
 use Rattle.std.proofs.Common.{◌≡◌, ℕ, zero, suc, ◌<◌, Bool, true, false, cond, List, [], ◌∷◌, ◌++◌, length, map, Option, Some, None, slice_get, refl, ap, sym, subst, ◌∙◌, arith, append_assoc, length-append}
+use Rattle.std.proofs.lemmas.List.{map-append}
 use Rattle.std.specs.Prelude.{option_map}
 use Rattle.std.specs.List.{AllByRecursion, flat_map}
 use Rattle.std.specs.Cmp.Lexicographic.{bytes_decides}
@@ -19,7 +20,7 @@ use Rattle.gql_resolve.specs.declared.answer.Answer.{Answer}
 use Rattle.gql_select.specs.Collected.{own_selections}
 use Rattle.gql_merged.specs.Basis.{execution_of, setting_by}
 use Rattle.gql_merged.specs.Beneath.{AreBeneath, IsBeneath, level_behind}
-use Rattle.gql_merged.specs.FieldsWithin.{collected}
+use Rattle.gql_merged.specs.Collected.{collected}
 use Rattle.gql_merged.specs.Grouped.{groups_in}
 use Rattle.gql_merged.specs.Groups.{united}
 use Rattle.gql_merged.specs.Jobs.{completed_by, Job, job_at, jobs_at, jobs_at_as, jobs_beneath, jobs_of_as}
@@ -36,7 +37,6 @@ use Rattle.gql_merged.specs.declared.parent.Parent.{Parent}
 use Rattle.gql_merged.specs.declared.step.Step.{Step}
 use Rattle.gql_merged.proofs.JobLemmas.{level_jobs}
 use Rattle.gql_merged.proofs.NestLemmas.{collected_nest, every_both}
-use Rattle.gql_merged.proofs.TaskLemmas.{map_append}
 use Rattle.gql_merged.proofs.WithinLemmas.{both_within, groups_all}
 
 -- what holds of all holds of each
@@ -180,7 +180,7 @@ module _ {V : Type 0} (at : Spot V → Standing V) where
   parents_more parents parents' parent its rest found all is added stands before =
       let others = map at (map spot_found rest) in
       ap (λ ps. map standing_behind ps ++ others) added
-      ∙ ap (λ ss. ss ++ others) (map_append standing_behind parents (parent ∷ []))
+      ∙ ap (λ ss. ss ++ others) (map-append standing_behind parents (parent ∷ []))
       ∙ append_assoc (map standing_behind parents) (standing_behind parent ∷ []) others
       ∙ ap (λ s. map standing_behind parents ++ s ∷ others) stands
       ∙ ap (λ fs. map standing_behind parents ++ map at (map spot_found fs)) (sym is)

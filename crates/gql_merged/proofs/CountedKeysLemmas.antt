@@ -27,7 +27,7 @@ use Rattle.gql_select.specs.Grouped.{below_root, in_turn, respond_by}
 use Rattle.gql_merged.specs.Asks.{asking_by, asks_of, outcome_by}
 use Rattle.gql_merged.specs.Basis.{execution_of, setting_by}
 use Rattle.gql_merged.specs.Counted.{counting_keys, counts_by, serial_count, serial_count_by, tasks_in, tasks_of}
-use Rattle.gql_merged.specs.FieldsWithin.{collected}
+use Rattle.gql_merged.specs.Collected.{collected}
 use Rattle.gql_merged.specs.Grouped.{groups_by}
 use Rattle.gql_merged.specs.Jobs.{Job, job_of, jobs_of_as}
 use Rattle.gql_merged.specs.Run.{basis_by, job_subject, Nests, root_selections, root_spot}

@@ -1,5 +1,6 @@
 -- The tasks of an execution are as many as the answers that it asks.
 use Rattle.std.proofs.Common.{rules, ◌≡◌, ◌+◌, ℕ, zero, suc, Bool, true, false, cond, List, [], ◌∷◌, ◌++◌, map, length, Option, refl, ap, sym, subst, ◌∙◌, arith}
+use Rattle.std.proofs.lemmas.List.{map-append}
 use Rattle.std.specs.List.{AllByRecursion, flat_map}
 use Rattle.std.specs.Str.{bytes_eq}
 use Rattle.gql_base.specs.Pairs.{unite, unite_all, values_of}
@@ -35,7 +36,7 @@ use Rattle.gql_select.specs.Reading.{over}
 use Rattle.gql_merged.specs.Asks.{asking_by, asks_of, outcome_by}
 use Rattle.gql_merged.specs.Basis.{execution_of, setting_by}
 use Rattle.gql_merged.specs.Counted.{count_by, counting_by, counts_by, merged_count, tasks_in, tasks_of}
-use Rattle.gql_merged.specs.FieldsWithin.{collected}
+use Rattle.gql_merged.specs.Collected.{collected}
 use Rattle.gql_merged.specs.Grouped.{groups_by, groups_in}
 use Rattle.gql_merged.specs.Jobs.{completed_by, Job, job_of, jobs_at, jobs_beneath, jobs_of}
 use Rattle.gql_merged.specs.Run.{basis_by, basis_of, job_subject, Nests, root_jobs_by, root_selections, root_spot}
@@ -48,7 +49,6 @@ use Rattle.gql_merged.specs.declared.basis.Grouping.{Grouping}
 use Rattle.gql_merged.specs.declared.basis.Grouping.TheVariants as grouping
 use Rattle.gql_merged.proofs.AskingLemmas.{asking_is, outcome_is}
 use Rattle.gql_merged.proofs.BeneathLemmas.{every_flat, every_of, jobs_all}
-use Rattle.gql_merged.proofs.TaskLemmas.{map_append}
 use Rattle.gql_merged.proofs.WithinLemmas.{both_within, every_map, groups_all, groups_none, nests_within}
 
 -- Sums.
@@ -64,7 +64,7 @@ sum_is (n ∷ ns) = ap (λ m. n + m) (sum_is ns)
 total_flat : {X Y : Type 0} (f : Y → ℕ) (g : X → List Y) (xs : List X) → total (map f (flat_map g xs)) ≡ total (map (λ x. total (map f (g x))) xs)
 total_flat f g [] = refl
 total_flat f g (x ∷ xs) =
-    ap total (map_append f (g x) (flat_map g xs)) ∙ total_append (map f (g x)) (map f (flat_map g xs)) ∙ ap (λ n. total (map f (g x)) + n) (total_flat f g xs)
+    ap total (map-append f (g x) (flat_map g xs)) ∙ total_append (map f (g x)) (map f (flat_map g xs)) ∙ ap (λ n. total (map f (g x)) + n) (total_flat f g xs)
 
 -- what comes under a key is added
 total_unite : (ps : List (List ℕ × ℕ)) (key : List ℕ) (n : ℕ) → total (values_of (unite (λ one other. one + other) ps key n)) ≡ total (values_of ps) + n
@@ -109,7 +109,7 @@ module _ {V : Type 0} where
     unfolding Told
     items_told [] n path = refl
     items_told (e ∷ es) n path =
-        map_append pair_of (spots (s e) (path ++ segment.Index n ∷ [])) (numbered (suc n) (map spots (map s es)) path)
+        map-append pair_of (spots (s e) (path ++ segment.Index n ∷ [])) (numbered (suc n) (map spots (map s es)) path)
         ∙ (λ i. is e (path ++ segment.Index n ∷ []) i ++ items_told es (suc n) path i)
 
     middle_told : (y : Shape-F (List ℕ) (FieldValue V) E) (path : List PathSegment)
@@ -194,7 +194,7 @@ module _ {V : Type 0} (basis : Basis) (answer : Call V → Answer V) (n : ℕ) (
       let own = job_of basis spot m.1 asking in
       let rest = jobs_of basis spot members in
       (λ i. field_counted m.1 i + members_counted members i)
-      ∙ sym (ap total (map_append (tasks_of answer n) own rest) ∙ total_append (map (tasks_of answer n) own) (map (tasks_of answer n) rest))
+      ∙ sym (ap total (map-append (tasks_of answer n) own rest) ∙ total_append (map (tasks_of answer n) own) (map (tasks_of answer n) rest))
 
   -- the tasks of an object, with one level of sets more
   pub object_counted : (selections : List (Positioned Selection))

@@ -1,6 +1,6 @@
 -- A completed answer that gets the members of its objects one after another is the one that is filled with them.
 use Rattle.std.proofs.Common.{rules, ◌≡◌, ℕ, suc, Bool, false, List, [], ◌∷◌, ◌++◌, map, refl, ap, sym, ◌∙◌, subst, append_assoc}
-use Rattle.std.proofs.lemmas.List.{append-nil}
+use Rattle.std.proofs.lemmas.List.{append-nil, map-append}
 use Rattle.gql_base.specs.declared.error.Error.{Error}
 use Rattle.gql_base.specs.declared.path_segment.PathSegment.{PathSegment}
 use Rattle.gql_base.specs.declared.path_segment.PathSegment.TheVariants as segment
@@ -21,10 +21,6 @@ use Rattle.gql_place.proofs.PieceLemmas.{item_same, items_cons, items_of, items_
 use Rattle.gql_resolve.specs.declared.field_value.FieldValue.{FieldValue}
 use Rattle.gql_merged.specs.Filling.{all_trees, AllMade, left_after, left_after_all, Made, made_all, made_of, tree_with}
 use Rattle.gql_merged.specs.Stored.{Bare, bare, bare_step, numbered, Spot, spots, spots_step}
-
-map_append : {A B : Type 0} (f : A → B) (xs ys : List A) → map f (xs ++ ys) ≡ map f xs ++ map f ys
-map_append f [] ys = refl
-map_append f (x ∷ xs) ys = ap (λ zs. f x ∷ zs) (map_append f xs ys)
 
 module _ (pos : Pos) where
   made-Absent : (members : List Members) → made_of pos shape.Absent members ≡ record { tree = tree.Absent; left = members }
@@ -66,7 +62,7 @@ module _ {V : Type 0} (pos : Pos) (below : List ℕ → FieldValue V → Members
         let ms : List (List Members → Made) = map (made_of pos) (map bare (map s es)) in
         let behind : List Members = map at others ++ rest in
         let split : map at (own ++ others) ++ rest ≡ map at own ++ behind
-        = ap (λ xs. xs ++ rest) (map_append at own others) ∙ append_assoc (map at own) (map at others) rest in
+        = ap (λ xs. xs ++ rest) (map-append at own others) ∙ append_assoc (map at own) (map at others) rest in
         let next : Made → AllMade = λ r. record { places = item_of pos non_null r.tree ∷ (made_all pos non_null ms r.left).places; left = (made_all pos non_null ms r.left).left } in
         let add : AllMade → AllMade = λ r. record { places = item_of pos non_null (fill pos below (s e)) ∷ r.places; left = r.left } in
         ap (λ xs. next (made_of pos (bare (s e)) xs)) split

@@ -1,6 +1,6 @@
 -- Places and members, gathered one after another.
 use Rattle.std.proofs.Common.{◌≡◌, ℕ, zero, suc, ◌+◌, ◌<◌, List, [], ◌∷◌, ◌++◌, length, map, drop, get_or, Option, Some, None, slice_get, slice_set, refl, ap, sym, subst, ◌∙◌, append_assoc}
-use Rattle.std.proofs.lemmas.List.{append-nil, drop_more}
+use Rattle.std.proofs.lemmas.List.{append-nil, drop_more, map-append}
 use Rattle.std.proofs.lemmas.Option.{slice_get_read}
 use Rattle.std.specs.Prelude.{Bool, false, is_some, true}
 use Rattle.std.specs.declared.alloc.Global.{Global}
@@ -11,7 +11,7 @@ use Rattle.gql_place.specs.Alike.{Paired, Same, SameItems, SameMembers}
 use Rattle.gql_place.specs.Pieces.{members_in}
 use Rattle.gql_place.specs.declared.pieces.MemberPieces.{MemberPieces}
 use Rattle.gql_place.specs.declared.place.Place.{Place}
-use Rattle.gql_place.proofs.PieceLemmas.{items_trans, members_refl, members_trans}
+use Rattle.gql_place.proofs.PieceLemmas.{items_trans, members_refl, members_trans, paired_refl, paired_trans}
 use Rattle.gql_select.proofs.SliceLemmas.{get_map}
 use Rattle.gql_merged.specs.Assembled.{members_with, place_of, places_behind, places_behind_all, places_with, united_members}
 use Rattle.gql_merged.specs.Assembling.{AreApart, members_each}
@@ -25,7 +25,7 @@ use Rattle.gql_merged.specs.declared.parent.Parent.{Parent}
 use Rattle.gql_merged.proofs.BeneathLemmas.{every_at}
 use Rattle.gql_merged.proofs.FillingLemmas.{items_at}
 use Rattle.gql_merged.proofs.SeenLemmas.{united_places}
-use Rattle.gql_merged.proofs.TaskLemmas.{map_append, members_names, members_values}
+use Rattle.gql_merged.proofs.TaskLemmas.{members_names, members_values}
 
 -- an open place in front
 pub present_open : {P : Type 0} (old new : List (Option P)) (o : Option P) (all : List P) → old ≡ o ∷ new → o ≡ None → present old ≡ all → present new ≡ all
@@ -64,22 +64,10 @@ pub level_left : (level : Level) (places : List Place)
     → places_behind_all (map asked_behind level.nodes.items) places ≡ places_behind_all (values_of (members_of level)) places
 level_left level places = ap (λ fs. places_behind_all fs places) (sym (members_values level))
 
-each_refl : (whole : Bool) (ms : List Members) → Paired (SameMembers whole) ms ms
-each_refl whole [] = tt
-each_refl whole (m ∷ ms) = (members_refl whole m, each_refl whole ms)
-
 -- the members of one object among others that stand in both lists
 each_at : (whole : Bool) (ms : List Members) (a b : Members) (rest : List Members) → SameMembers whole a b → Paired (SameMembers whole) (ms ++ a ∷ rest) (ms ++ b ∷ rest)
-each_at whole [] a b rest same = (same, each_refl whole rest)
+each_at whole [] a b rest same = (same, paired_refl (SameMembers whole) (members_refl whole) rest)
 each_at whole (m ∷ ms) a b rest same = (members_refl whole m, each_at whole ms a b rest same)
-
-each_trans : (whole : Bool) (ls ms ns : List Members) → Paired (SameMembers whole) ls ms → Paired (SameMembers whole) ms ns → Paired (SameMembers whole) ls ns
-each_trans whole [] [] [] p q = tt
-each_trans whole [] [] (n ∷ ns) p q = absurd q
-each_trans whole [] (m ∷ ms) ns p q = absurd p
-each_trans whole (l ∷ ls) [] ns p q = absurd p
-each_trans whole (l ∷ ls) (m ∷ ms) [] p q = absurd q
-each_trans whole (l ∷ ls) (m ∷ ms) (n ∷ ns) p q = (members_trans whole l m n p.0 q.0, each_trans whole ls ms ns p.1 q.1)
 
 -- one more object has its members
 pub members_more : {V : Type 0} (whole : Bool) (parents : List (Rc (Parent V) Global)) (i : ℕ) (parent : Rc (Parent V) Global) (made made' all : List Members) (m : Members)
@@ -100,7 +88,7 @@ members_more whole parents i parent made made' all m own own' within read added 
     let others = members_each rest (places_behind_all (values_of (members_of level)) own) in
     let now : made' ++ members_each rest own' ≡ made ++ m ∷ others
     = (λ k. added k ++ members_each rest (left k)) ∙ append_assoc made (m ∷ []) others in
-    each_trans whole (made' ++ members_each rest own') (made ++ x ∷ others) all
+    paired_trans (SameMembers whole) (members_trans whole) (made' ++ members_each rest own') (made ++ x ∷ others) all
     (subst (λ ms. Paired (SameMembers whole) ms (made ++ x ∷ others)) (sym now) (each_at whole made m x others (m_is own_apart)))
     (subst (λ ps. Paired (SameMembers whole) (made ++ members_each (map standing_behind ps) own) all)
     (drop_more parents i parent within ∙ ap (λ p. p ∷ drop (i + 1) parents) (sym read)) (before apart))
@@ -109,7 +97,7 @@ members_more whole parents i parent made made' all m own own' within read added 
 pub members_none : {V : Type 0} (whole : Bool) (ss : List (Standing V)) (none all : List Members) (own own' : List Place) → none ≡ [] → own' ≡ own → all ≡ members_each ss own
     → Paired (SameMembers whole) (none ++ members_each ss own') all
 members_none whole ss none all own own' is same all_is =
-    subst (Paired (SameMembers whole) (none ++ members_each ss own')) ((λ k. is k ++ members_each ss (same k)) ∙ sym all_is) (each_refl whole (none ++ members_each ss own'))
+    subst (Paired (SameMembers whole) (none ++ members_each ss own')) ((λ k. is k ++ members_each ss (same k)) ∙ sym all_is) (paired_refl (SameMembers whole) (members_refl whole) (none ++ members_each ss own'))
 
 -- all of them do
 pub members_whole : {V : Type 0} (whole : Bool) (ss : List (Standing V)) (made all : List Members) (own : List Place) → ss ≡ []
@@ -178,4 +166,4 @@ level_same whole level places own members distinct is same =
 
 -- one more list of members, as places
 pub added_members : (made made' : List MemberPieces) (m : MemberPieces) → made' ≡ made ++ m ∷ [] → map members_in made' ≡ map members_in made ++ members_in m ∷ []
-added_members made made' m is = ap (map members_in) is ∙ map_append members_in made (m ∷ [])
+added_members made made' m is = ap (map members_in) is ∙ map-append members_in made (m ∷ [])

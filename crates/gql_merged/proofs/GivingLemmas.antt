@@ -1,17 +1,14 @@
 -- What a task comes to with its answer, and the tasks beneath it.
-use Rattle.std.proofs.Common.{rules, ◌≡◌, not, Bool, List, [], ◌∷◌, ◌++◌, map, refl, ap, sym, ◌∙◌}
+use Rattle.std.proofs.Common.{rules, ◌≡◌, not, Bool, List, [], ◌++◌, map, ap, sym, ◌∙◌}
 use Rattle.std.specs.List.{AllByRecursion, flat_map}
 use Rattle.gql_base.specs.TypeRef.{is_nullable}
 use Rattle.gql_base.specs.declared.value.Value.{Value}
-use Rattle.gql_doc.specs.declared.document.Field.{Field}
-use Rattle.gql_doc.specs.declared.document.Positioned.{Positioned}
 use Rattle.gql_meaning.specs.Completion.{Completed, shape_of}
 use Rattle.gql_place.specs.declared.shape.Shape.{the_lemmas}
 use Rattle.gql_place.specs.declared.shape.Shape.TheVariants as shape
 use Rattle.gql_resolve.specs.declared.answer.Answer.{Answer}
 use Rattle.gql_schema.specs.Table.{types_of}
 use Rattle.gql_select.specs.Collected.{own_selections}
-use Rattle.gql_select.specs.Documents.{both, with_others}
 use Rattle.gql_merged.specs.Asks.{type_in}
 use Rattle.gql_select.specs.Behind.{all_behind}
 use Rattle.gql_merged.specs.Grouped.{keeps_whole}
@@ -28,11 +25,8 @@ use Rattle.gql_merged.specs.declared.level.Node.{Node}
 use Rattle.gql_merged.specs.declared.parent.Found.{Found}
 use Rattle.gql_merged.specs.declared.parent.Parent.{Parent}
 use Rattle.gql_merged.proofs.BeneathLemmas.{deep_found, placed_jobs}
+use Rattle.gql_merged.proofs.LevelLemmas.{pos_with_others}
 use Rattle.gql_merged.proofs.StoredLemmas.{spots-Leaf}
-
-pos_with_others : (f : Positioned Field) (gs : List (Positioned Field)) → (with_others f gs).pos ≡ f.pos
-pos_with_others f [] = refl
-pos_with_others f (g ∷ gs) = pos_with_others (both f g) gs
 
 -- a united field stands where its first occurrence does
 pub pos_united : (group : Group) → group.first.now.pos ≡ (united group).pos

@@ -1,5 +1,6 @@
 -- Fields that are united under their keys, one by one.
 use Rattle.std.proofs.Common.{◌≡◌, ℕ, List, [], ◌∷◌, ◌++◌, length, map, Some, None, slice_get, slice_set, ap, sym, ◌∙◌}
+use Rattle.std.proofs.lemmas.List.{length-map}
 use Rattle.std.specs.List.{zip}
 use Rattle.std.specs.Borrow.{Bor}
 use Rattle.gql_base.specs.Names.{place_of}
@@ -12,7 +13,7 @@ use Rattle.gql_select.specs.Reading.{keyed}
 use Rattle.gql_select.proofs.SliceLemmas.{get_map, map_set}
 use Rattle.gql_select.specs.Behind.{all_behind}
 use Rattle.gql_select.proofs.OccurrenceLemmas.{behind_append, with_one_more}
-use Rattle.gql_select.proofs.ZipLemmas.{map_last, map_length, names_last, names_long, unite_fresh, unite_found}
+use Rattle.gql_select.proofs.ZipLemmas.{map_last, names_last, names_long, unite_fresh, unite_found}
 use Rattle.gql_merged.specs.Groups.{under_keys, united}
 use Rattle.gql_engine.specs.Path.{key_text}
 use Rattle.gql_merged.specs.declared.group.Group.{Group}
@@ -30,7 +31,7 @@ pub occurrence_fresh : (keys : List (List ℕ × Unit {0})) (groups : List Group
     → place_of key (names_of keys) ≡ None → united group ≡ f
     → under_keys (keys ++ (key, tt) ∷ []) (groups ++ group ∷ []) ≡ unite both (under_keys keys groups) key f
 occurrence_fresh keys groups key group f paired none is =
-    let long : length (map united groups) ≡ length (names_of keys) = map_length united groups ∙ paired ∙ sym (names_long keys) in
+    let long : length (map united groups) ≡ length (names_of keys) = length-map groups united ∙ paired ∙ sym (names_long keys) in
     (λ i. zip (names_last keys key i) (map_last united groups group i))
     ∙ ap (λ g. zip (names_of keys ++ key ∷ []) (map united groups ++ g ∷ [])) is
     ∙ sym (unite_fresh both key (names_of keys) (map united groups) f long none)
@@ -40,7 +41,7 @@ pub occurrence_found : (keys : List (List ℕ × Unit {0})) (groups : List Group
     → length groups ≡ length keys → place_of key (names_of keys) ≡ Some i → slice_get groups i ≡ Some old → united new ≡ both (united old) f
     → under_keys keys (slice_set groups i new) ≡ unite both (under_keys keys groups) key f
 occurrence_found keys groups key i old new f paired found at is =
-    let long : length (map united groups) ≡ length (names_of keys) = map_length united groups ∙ paired ∙ sym (names_long keys) in
+    let long : length (map united groups) ≡ length (names_of keys) = length-map groups united ∙ paired ∙ sym (names_long keys) in
     ap (zip (names_of keys)) (map_set united groups i new)
     ∙ ap (λ g. zip (names_of keys) (slice_set (map united groups) i g)) is
     ∙ sym (unite_found both key (names_of keys) (map united groups) i (united old) f long found (get_map united groups i old at))

@@ -1,6 +1,6 @@
 -- Groups of occurrences: the keys of the groups, their places, and what executions by groups are.
 use Rattle.std.proofs.Common.{◌≡◌, ℕ, ◌+◌, ◌<◌, List, [], ◌∷◌, ◌++◌, length, map, drop, get_or, None, Some, refl, ap, sym, ◌∙◌, arith, append_assoc}
-use Rattle.std.proofs.lemmas.List.{drop_more}
+use Rattle.std.proofs.lemmas.List.{drop_more, length-map, map-append}
 use Rattle.std.specs.Borrow.{Bor}
 use Rattle.std.specs.List.{zip}
 use Rattle.std.specs.Str.{bytes_eq}
@@ -26,7 +26,6 @@ use Rattle.gql_merged.specs.Run.{apart_response, merged_response, place_at_root,
 use Rattle.gql_merged.specs.Serial.{answering, keys_of, levels_beneath, serial_apart_response, serial_response, serial_response_by}
 use Rattle.gql_merged.specs.declared.basis.Grouping.TheVariants as grouping
 use Rattle.gql_merged.specs.declared.group.Group.{Group}
-use Rattle.gql_merged.proofs.TaskLemmas.{map_append, map_length}
 
 zip_last : {T : Type 0} (names : List (List ℕ)) (values : List T) (name : List ℕ) (value : T) → length values ≡ length names
     → zip (names ++ name ∷ []) (values ++ value ∷ []) ≡ zip names values ++ (name, value) ∷ []
@@ -41,8 +40,8 @@ pub group_alone : (names names' : List (List ℕ)) (groups groups' : List Group)
     → under_names names' groups' ≡ under_names names groups ++ (key_text field, field) ∷ []
 group_alone names names' groups groups' name group field paired named grouped key is =
     (λ i. zip (named i) (map united (grouped i)))
-    ∙ ap (zip (names ++ name ∷ [])) (map_append united groups (group ∷ []))
-    ∙ zip_last names (map united groups) name (united group) (map_length united groups ∙ paired)
+    ∙ ap (zip (names ++ name ∷ [])) (map-append united groups (group ∷ []))
+    ∙ zip_last names (map united groups) name (united group) (length-map groups united ∙ paired)
     ∙ (λ i. under_names names groups ++ (key i, is i) ∷ [])
 
 -- one more occurrence is looked at
@@ -115,8 +114,7 @@ module _ {V : Type 0} (scene : Scene V) where
 
   -- so it is where places are kept whole
   pub by_key_whole_is_merged : (answer : Call V → Answer V) (n : ℕ) → response_by grouping.ByKeyWhole scene answer n ≡ merged_response scene answer n
-  by_key_whole_is_merged answer n =
-      ap (place_at_root scene) (by_merged_groups (placing_in scene answer) join n (root_spot scene).object (root_spot scene).parent (root_selections scene))
+  by_key_whole_is_merged answer n = by_key_is_merged answer n
 
   -- of each occurrence alone: apart execution
   pub each_is_apart : (answer : Call V → Answer V) (n : ℕ) → response_by grouping.Each scene answer n ≡ apart_response scene answer n
@@ -132,12 +130,7 @@ module _ {V : Type 0} (scene : Scene V) where
         world (keys_of scene))
 
     pub serial_by_key_whole : (world : W) (n : ℕ) → serial_response_by scene answer effect grouping.ByKeyWhole world n ≡ serial_response scene answer effect world n
-    serial_by_key_whole world n =
-        λ i. place_at_root scene
-        (in_turn (answering scene answer effect).effect
-        (λ before behind field. (answering scene answer effect).root before (root_spot scene).object (root_spot scene).parent field
-        (λ object parent. by_merged_groups (below_root (answering scene answer effect) behind) join (levels_beneath n) object parent (own_selections field) i))
-        world (keys_of scene))
+    serial_by_key_whole world n = serial_by_key world n
 
     pub serial_each : (world : W) (n : ℕ) → serial_response_by scene answer effect grouping.Each world n ≡ serial_apart_response scene answer effect world n
     serial_each world n = refl

@@ -1,7 +1,5 @@
 -- The fields of an object as its nodes are made.
-use Rattle.std.proofs.Common.{◌≡◌, ℕ, List, [], ◌∷◌, ◌++◌, map, length, take, get_or, ◌+◌, ◌<◌, refl, ap, sym, ◌∙◌, append_assoc}
-use Rattle.std.proofs.lemmas.List.{take_more}
-use Rattle.std.specs.Borrow.{Bor}
+use Rattle.std.proofs.Common.{◌≡◌, ℕ, List, [], ◌∷◌, ◌++◌, map, refl, ap, sym, ◌∙◌, append_assoc}
 use Rattle.std.specs.List.{zip}
 use Rattle.std.specs.declared.alloc.Global.{Global}
 use Rattle.std.specs.declared.rc.Rc.{Rc}
@@ -9,24 +7,18 @@ use Rattle.gql_doc.specs.declared.document.Field.{Field}
 use Rattle.gql_doc.specs.declared.document.Positioned.{Positioned}
 use Rattle.gql_meaning.specs.Execution.{Execution}
 use Rattle.gql_select.specs.Alike.{arguments_of, name_of}
-use Rattle.gql_select.specs.Collected.{own_selections}
 use Rattle.gql_select.specs.Documents.{both, with_others}
-use Rattle.gql_select.proofs.DocumentLemmas.{arguments_of_both, is_reading, name_of_both, set_of_both}
-use Rattle.gql_select.proofs.OccurrenceLemmas.{behind_append, with_one_more}
+use Rattle.gql_select.proofs.DocumentLemmas.{arguments_of_both}
+use Rattle.gql_collect.proofs.OccurrenceLemmas.{name_with_others}
 use Rattle.gql_merged.specs.Asks.{asks_of}
-use Rattle.gql_merged.specs.Basis.{execution_of, setting_by}
+use Rattle.gql_merged.specs.Basis.{execution_of}
 use Rattle.gql_select.specs.Behind.{all_behind}
-use Rattle.gql_merged.specs.FieldsWithin.{collected}
 use Rattle.gql_merged.specs.Groups.{united}
 use Rattle.gql_merged.specs.Levels.{Asked, asked_behind, asked_of, asked_on}
 use Rattle.gql_merged.specs.declared.asks.Asks.{Asks}
 use Rattle.gql_merged.specs.declared.basis.Basis.{Basis}
 use Rattle.gql_merged.specs.declared.group.Group.{Group}
 use Rattle.gql_merged.specs.declared.level.Node.{Node}
-
-name_with_others : (f : Positioned Field) (gs : List (Positioned Field)) → name_of (with_others f gs) ≡ name_of f
-name_with_others f [] = refl
-name_with_others f (g ∷ gs) = name_with_others (both f g) gs ∙ name_of_both f g
 
 arguments_with_others : (f : Positioned Field) (gs : List (Positioned Field)) → arguments_of (with_others f gs) ≡ arguments_of f
 arguments_with_others f [] = refl
@@ -51,29 +43,6 @@ pub asked_zipped : (basis : Basis) (object : List ℕ) (keys : List (List ℕ)) 
 asked_zipped basis object [] fields = refl
 asked_zipped basis object (key ∷ keys) [] = refl
 asked_zipped basis object (key ∷ keys) (field ∷ fields) = ap (λ ms. (key, asked_of basis object field) ∷ ms) (asked_zipped basis object keys fields)
-
--- the fields in the set of a united field are those in the one, and then those in the other
-pub collected_both : (basis : Basis) (object : List ℕ) (f g : Positioned Field)
-    → collected basis object (own_selections (both f g)) ≡ collected basis object (own_selections f) ++ collected basis object (own_selections g)
-collected_both basis object f g =
-    ap (collected basis object) (set_of_both f g)
-    ∙ (is_reading (setting_by basis)).fields_of_both object (own_selections f) (own_selections g)
-
--- the sets of one more occurrence are looked at
-pub beneath_more : (basis : Basis) (object : List ℕ) (first : Positioned Field) (more : List (Bor (Positioned Field))) (i : ℕ) (occurrence : Bor (Positioned Field))
-    (old new : List (Positioned Field)) → i < length more → occurrence ≡ get_or more i occurrence
-    → old ≡ collected basis object (own_selections (with_others first (all_behind (take i more))))
-    → new ≡ old ++ collected basis object (own_selections occurrence.now)
-    → new ≡ collected basis object (own_selections (with_others first (all_behind (take (i + 1) more))))
-beneath_more basis object first more i occurrence old new within read before added =
-    let front = all_behind (take i more) in
-    let next : all_behind (take (i + 1) more) ≡ front ++ occurrence.now ∷ []
-    = ap all_behind (take_more more i occurrence within ∙ ap (λ o. take i more ++ o ∷ []) (sym read)) ∙ behind_append (take i more) (occurrence ∷ []) in
-    added
-    ∙ ap (λ fs. fs ++ collected basis object (own_selections occurrence.now)) before
-    ∙ sym (collected_both basis object (with_others first front) occurrence.now)
-    ∙ ap (λ f. collected basis object (own_selections f)) (sym (with_one_more first front occurrence.now))
-    ∙ ap (λ fs. collected basis object (own_selections (with_others first fs))) (sym next)
 
 -- a united field stands where its first occurrence does
 pub pos_with_others : (f : Positioned Field) (gs : List (Positioned Field)) → (with_others f gs).pos ≡ f.pos

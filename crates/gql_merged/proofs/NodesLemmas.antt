@@ -1,5 +1,6 @@
 -- The levels of objects, made of the groups of their fields.
 use Rattle.std.proofs.Common.{◌≡◌, ℕ, List, [], length, map, ap, sym, ◌∙◌, subst}
+use Rattle.std.proofs.lemmas.List.{length-map}
 use Rattle.std.specs.List.{zip}
 use Rattle.std.specs.declared.alloc.Global.{Global}
 use Rattle.std.specs.declared.rc.Rc.{Rc}
@@ -27,7 +28,7 @@ use Rattle.gql_merged.specs.declared.parent.Held.TheVariants as held
 use Rattle.gql_merged.specs.declared.parent.Parent.{Parent}
 use Rattle.gql_merged.proofs.LevelLemmas.{asked_zipped}
 use Rattle.gql_merged.proofs.NestLemmas.{both_nests}
-use Rattle.gql_merged.proofs.TaskLemmas.{map_length, zip_values}
+use Rattle.gql_merged.proofs.TaskLemmas.{zip_values}
 use Rattle.gql_merged.proofs.WithinLemmas.{groups_all}
 
 module _ (basis : Basis) (by : Grouping) (names : List (List ℕ)) (groups : List Group) (fields : List (Positioned Field)) where
@@ -37,7 +38,7 @@ module _ (basis : Basis) (by : Grouping) (names : List (List ℕ)) (groups : Lis
   groups_nest long is nest =
       subst (AllNest basis.env.now)
       (ap values_of (sym (is (setting_by basis)))
-      ∙ zip_values names (map united groups) (map_length united groups ∙ long))
+      ∙ zip_values names (map united groups) (length-map groups united ∙ long))
       (groups_all (λ field. NestsIn basis.env.now (field_set field)) (both_nests (setting_by basis) [] (levels_of basis.env.now))
       by (setting_by basis) fields nest)
 
@@ -45,8 +46,8 @@ module _ (basis : Basis) (by : Grouping) (names : List (List ℕ)) (groups : Lis
     -- each key has a node
     pub nodes_paired : length groups ≡ length names → length nodes ≡ length names
     nodes_paired long =
-        sym (map_length asked_behind nodes) ∙ ap length made
-        ∙ map_length (asked_of basis object) (map united groups) ∙ map_length united groups ∙ long
+        sym (length-map nodes asked_behind) ∙ ap length made
+        ∙ length-map (map united groups) (asked_of basis object) ∙ length-map groups united ∙ long
 
     -- the nodes under their keys are the fields of the groups, each with what it asks
     pub nodes_asked : ((setting : Setting) → under_names names groups ≡ groups_by by setting fields)

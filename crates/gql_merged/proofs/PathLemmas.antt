@@ -1,10 +1,9 @@
 -- A path that is written over another, segment by segment.
 use Rattle.std.proofs.Common.{◌≡◌, ℕ, suc, ◌+◌, ◌-◌, ◌<◌, ◌≤◌, List, [], ◌∷◌, ◌++◌, length, take, drop, get_or, slice_set, refl, ap, sym, ◌∙◌, arith, length-append, length-drop, append_assoc, Result, Ok, Err, OnOk}
-use Rattle.std.proofs.lemmas.List.{drop_all, length-take, length-take-le, length_push, set_split, take_all, take_at, take_more}
+use Rattle.std.proofs.lemmas.List.{drop_all, length-take, length-take-le, length_push, map-append, set_split, take_all, take_at, take_more}
 use Rattle.gql_base.specs.declared.path_segment.PathSegment.{PathSegment}
 use Rattle.gql_merged.specs.Steps.{path_of, segment_of, written}
 use Rattle.gql_merged.specs.declared.step.Step.{Step}
-use Rattle.gql_merged.proofs.TaskLemmas.{map_append}
 
 -- a segment is written over another
 pub written_over : {E : Type 0} (result : Result (Unit {0}) E) (old : List PathSegment) (place : ℕ) (new segment : PathSegment) → place < length old
@@ -54,7 +53,7 @@ written_more steps place d old new inside is before =
       front = ap (take (place + 1)) is
           ∙ written_front old place (segment_of step) before.within
           ∙ ap (λ ss. ss ++ segment_of step ∷ []) before.front
-          ∙ sym (map_append segment_of (take place steps) (step ∷ []))
+          ∙ sym (map-append segment_of (take place steps) (step ∷ []))
           ∙ ap path_of (sym (take_more steps place d inside));
       inside = omega arith;
       within = omega arith;

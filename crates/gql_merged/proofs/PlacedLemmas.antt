@@ -1,6 +1,6 @@
 -- The place of what a task came to is that of merged execution, where those beneath it are.
 use Rattle.std.proofs.Common.{◌≡◌, ℕ, zero, suc, Bool, true, false, List, [], ◌∷◌, ◌++◌, map, refl, ap, sym, subst, ◌∙◌, append_assoc}
-use Rattle.std.proofs.lemmas.List.{append-nil}
+use Rattle.std.proofs.lemmas.List.{append-nil, map-append}
 use Rattle.std.specs.List.{AllByRecursion, flat_map}
 use Rattle.gql_base.specs.Pairs.{HasDistinctNames, unite_all, values_of}
 use Rattle.gql_doc.specs.declared.document.Positioned.{Positioned}
@@ -40,7 +40,6 @@ use Rattle.gql_merged.proofs.FillingLemmas.{filled_is}
 use Rattle.gql_merged.proofs.JobLemmas.{level_jobs}
 use Rattle.gql_merged.proofs.MergedLemmas.{members_merged}
 use Rattle.gql_merged.proofs.SeenLemmas.{distinct_asked, members_with_same, place_made_same}
-use Rattle.gql_merged.proofs.TaskLemmas.{map_append}
 use Rattle.gql_merged.proofs.WithinLemmas.{groups_none}
 
 -- where places aren't kept whole, occurrences are grouped by their keys
@@ -102,7 +101,7 @@ module _ {V : Type 0} (answer : Call V → Answer V) where
     each_merged (s ∷ ss) rest =
         let others = map (place_by basis answer n) (flat_map (jobs_at basis selections) ss) ++ rest in
         let split : map (place_by basis answer n) (flat_map (jobs_at basis selections) (s ∷ ss)) ++ rest ≡ own_places s ++ others
-        = ap (λ ps. ps ++ rest) (map_append (place_by basis answer n) (jobs_at basis selections s) (flat_map (jobs_at basis selections) ss))
+        = ap (λ ps. ps ++ rest) (map-append (place_by basis answer n) (jobs_at basis selections s) (flat_map (jobs_at basis selections) ss))
         ∙ append_assoc (own_places s) (map (place_by basis answer n) (flat_map (jobs_at basis selections) ss)) rest in
         ap (λ ps. members_with s.object (asked_in basis s.object selections) ps
         ∷ members_each (map (standing_at basis selections) ss) (places_behind_all (values_of (asked_in basis s.object selections)) ps)) split
@@ -200,7 +199,7 @@ module _ {V : Type 0} (answer : Call V → Answer V) where
       let asked = asked_in basis spot.object selections in
       let due : List Place = map (place_by basis answer n) (jobs_at basis selections spot) in
       let rest : List Place = map place_in parts.rest in
-      let split : map place_in places ≡ map place_in parts.front ++ rest = ap (map place_in) parts.is ∙ map_append place_in parts.front parts.rest in
+      let split : map place_in places ≡ map place_in parts.front ++ rest = ap (map place_in) parts.is ∙ map-append place_in parts.front parts.rest in
       subst (λ ps. SameMembers whole (members_with spot.object asked ps) (members_by basis answer (suc n) spot.object spot.parent selections)) (sym split)
       (subst (SameMembers whole (members_with spot.object asked (map place_in parts.front ++ rest))) (members_merged basis answer n spot selections rest)
       (members_with_same whole spot.object asked (map place_in parts.front ++ rest) (due ++ rest) (apart_at false basis spot.object selections)

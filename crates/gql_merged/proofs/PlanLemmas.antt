@@ -1,6 +1,6 @@
 -- What a plan keeps as a task is given something.
 use Rattle.std.proofs.Common.{◌≡◌, ℕ, true, ◌+◌, ◌<◌, ◌≤◌, List, [], ◌∷◌, ◌++◌, length, map, Option, Some, None, slice_get, refl, ap, sym, subst, ◌∙◌, arith, length-append, append-nil, inl, inr}
-use Rattle.std.proofs.lemmas.List.{length-map}
+use Rattle.std.proofs.lemmas.List.{length-map, map-append}
 use Rattle.std.specs.Bool.{◌==◌}
 use Rattle.std.specs.List.{AllByRecursion, flat_map}
 use Rattle.gql_select.specs.Collected.{own_selections}
@@ -26,7 +26,6 @@ use Rattle.gql_merged.proofs.AssemblyLemmas.{no_length}
 use Rattle.gql_merged.proofs.BeneathLemmas.{every_at}
 use Rattle.gql_merged.proofs.EntryLemmas.{laid_more}
 use Rattle.gql_merged.proofs.StandingLemmas.{stored_beside, stored_more, stored_now, stored_put}
-use Rattle.gql_merged.proofs.TaskLemmas.{map_append}
 
 -- a task was given something: what is kept of it stands behind the rest, its place is open, and the tasks beneath it stand behind all tasks
 pub record Completes (V : Type 0) (tasks tasks' : List (Task V)) (kept kept' : List (Kept V)) (places places' : List (Option Piece)) (k : Kept V) (job : Job V)
@@ -45,7 +44,7 @@ pub record Completes (V : Type 0) (tasks tasks' : List (Task V)) (kept kept' : L
 module _ {V : Type 0} {tasks tasks' : List (Task V)} {kept kept' : List (Kept V)} {places places' : List (Option Piece)} {k : Kept V} {job : Job V} {given : Given V}
     (done : Completes V tasks tasks' kept kept' places places' k job given) where
   pub completes_made : jobs_in tasks' ≡ jobs_in tasks ++ made_beneath given job
-  completes_made = ap jobs_in done.tasks_is ∙ map_append job_of_task tasks done.more ∙ ap (λ js. jobs_in tasks ++ js) done.beneath_is
+  completes_made = ap jobs_in done.tasks_is ∙ map-append job_of_task tasks done.more ∙ ap (λ js. jobs_in tasks ++ js) done.beneath_is
 
   pub completes_count : k.count ≡ length (made_beneath given job)
   completes_count = done.count_is ∙ sym (length-map done.more job_of_task) ∙ ap length done.beneath_is
@@ -57,7 +56,7 @@ module _ {V : Type 0} {tasks tasks' : List (Task V)} {kept kept' : List (Kept V)
       (completes_made ∙ ap (λ j. jobs_in tasks ++ made_beneath given j) same, completes_count ∙ ap (λ j. length (made_beneath given j)) same)
 
   entries_are : entries_in kept' ≡ entries_in kept ++ entry_of k ∷ []
-  entries_are = ap entries_in done.kept_is ∙ map_append entry_of kept (k ∷ [])
+  entries_are = ap entries_in done.kept_is ∙ map-append entry_of kept (k ∷ [])
 
   pub completes_laid : (roots : ℕ) → laid roots (entries_in kept) ≡ Some (length tasks) → laid roots (entries_in kept') ≡ Some (length tasks')
   completes_laid roots is =

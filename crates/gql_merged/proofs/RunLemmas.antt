@@ -41,7 +41,7 @@ use Rattle.gql_merged.specs.Assembled.{members_with}
 use Rattle.gql_merged.specs.Assembling.{AllHeld, AreApart, beneath_due, IsAssembled, IsFilledDue, IsMadeAlone, IsRight}
 use Rattle.gql_merged.specs.Basis.{setting_by}
 use Rattle.gql_merged.specs.Counted.{count_by}
-use Rattle.gql_merged.specs.FieldsWithin.{collected}
+use Rattle.gql_merged.specs.Collected.{collected}
 use Rattle.gql_merged.specs.Grouped.{groups_in, keeps_whole}
 use Rattle.gql_merged.specs.Fitting.{IsFilled}
 use Rattle.gql_merged.specs.Holds.{HoldsGiven, HoldsSince}

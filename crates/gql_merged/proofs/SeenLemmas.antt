@@ -1,6 +1,6 @@
 -- Places that are the same give the same members, trees and places.
 use Rattle.std.proofs.Common.{◌≡◌, ℕ, Bool, true, false, List, [], ◌∷◌, map, refl, ap, sym, subst}
-use Rattle.std.specs.List.{AllByRecursion, zip}
+use Rattle.std.specs.List.{zip}
 use Rattle.gql_base.specs.Pairs.{HasDistinctNames, names_of, values_of}
 use Rattle.gql_base.specs.declared.pos.Pos.{Pos}
 use Rattle.gql_doc.specs.declared.document.Field.{Field}
@@ -21,14 +21,14 @@ use Rattle.gql_select.specs.Collected.{Setting}
 use Rattle.gql_select.specs.Documents.{reading}
 use Rattle.gql_select.specs.Reading.{keyed, over}
 use Rattle.gql_merged.specs.Assembled.{absent_place, first_place, members_with, other_places, place_of, places_behind, places_behind_all, places_with, typename_place, united_members}
-use Rattle.gql_merged.specs.Assembling.{members_each, place_made}
+use Rattle.gql_merged.specs.Assembling.{AreApart, members_each, place_made}
 use Rattle.gql_merged.specs.Basis.{setting_by}
-use Rattle.gql_merged.specs.FieldsWithin.{collected}
+use Rattle.gql_merged.specs.Collected.{collected}
 use Rattle.gql_merged.specs.Filling.{first_members, left_after, Made, made_all, made_of, made_step, other_members, tree_with}
 use Rattle.gql_merged.specs.Grouped.{grouping_at, groups_by, groups_in}
 use Rattle.gql_merged.specs.Levels.{Asked, asked_in_as, asked_of, asked_on}
-use Rattle.gql_merged.specs.Parents.{Standing, standing_at, standing_behind}
-use Rattle.gql_merged.specs.Stored.{Bare, Spot}
+use Rattle.gql_merged.specs.Parents.{Standing, standing_behind}
+use Rattle.gql_merged.specs.Stored.{Bare}
 use Rattle.gql_merged.specs.declared.asks.Asks.{Asks}
 use Rattle.gql_merged.specs.declared.asks.Asks.TheVariants as asks
 use Rattle.gql_merged.specs.declared.basis.Basis.{Basis}
@@ -192,7 +192,7 @@ members_with_same whole object members xs ys distinct same =
 
 module _ {V : Type 0} where
   -- the members of objects, one after another
-  pub members_each_same : (whole : Bool) (ss : List (Standing V)) (xs ys : List Place) → AllByRecursion (λ (s : Standing V). whole ≡ false → HasDistinctNames s.members) ss
+  pub members_each_same : (whole : Bool) (ss : List (Standing V)) (xs ys : List Place) → AreApart whole ss
       → SameItems whole xs ys → Paired (SameMembers whole) (members_each ss xs) (members_each ss ys)
   members_each_same whole [] xs ys distinct same = tt
   members_each_same whole (s ∷ ss) xs ys distinct same = (
@@ -203,7 +203,7 @@ module _ {V : Type 0} where
 
   -- the place of what a task came to
   pub place_made_same : (whole : Bool) (filled : Filled V) (xs ys : List Place)
-      → AllByRecursion (λ (s : Standing V). whole ≡ false → HasDistinctNames s.members) (map standing_behind filled.parents.items)
+      → AreApart whole (map standing_behind filled.parents.items)
       → SameItems whole xs ys → Same whole (place_made filled xs) (place_made filled ys)
   place_made_same whole filled xs ys distinct same =
       let ss : List (Standing V) = map standing_behind filled.parents.items in
@@ -234,10 +234,3 @@ distinct_asked is_root basis object selections by_key =
     subst HasDistinctNames (sym (asked_over basis object groups))
     (distinct_over (asked_of basis object) groups
     (distinct_groups (grouping_at is_root basis.grouping) (setting_by basis) (collected basis object selections) (by_key_at is_root basis.grouping by_key)))
-
--- of objects one by one
-pub distinct_standings : {V : Type 0} (basis : Basis) (selections : List (Positioned Selection)) (spots : List (Spot V)) → basis.grouping ≡ grouping.ByKey
-    → AllByRecursion (λ (s : Standing V). HasDistinctNames s.members) (map (standing_at basis selections) spots)
-distinct_standings basis selections [] by_key = tt
-distinct_standings basis selections (spot ∷ spots) by_key =
-    (distinct_asked false basis spot.object selections by_key, distinct_standings basis selections spots by_key)

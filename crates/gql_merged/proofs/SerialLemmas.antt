@@ -31,7 +31,7 @@ use Rattle.gql_merged.specs.Asks.{asking_by, asks_of, outcome_by}
 use Rattle.gql_merged.specs.Assembled.{absent_place, members_with, typename_place}
 use Rattle.gql_merged.specs.Assembling.{IsRight}
 use Rattle.gql_merged.specs.Basis.{execution_of, setting_by}
-use Rattle.gql_merged.specs.FieldsWithin.{collected}
+use Rattle.gql_merged.specs.Collected.{collected}
 use Rattle.gql_merged.specs.Grouped.{groups_by, keeps_whole}
 use Rattle.gql_merged.specs.Jobs.{Job, job_of, jobs_of_as}
 use Rattle.gql_merged.specs.Levels.{Asked, asked_in_as, asked_on}

@@ -1,6 +1,6 @@
 -- The objects of completed answers, stored one after another.
 use Rattle.std.proofs.Common.{rules, ◌≡◌, ℕ, suc, ◌+◌, Bool, List, [], ◌∷◌, ◌++◌, length, map, take, refl, ap, sym, ◌∙◌, arith, append_assoc, length-append}
-use Rattle.std.proofs.lemmas.List.{append-nil}
+use Rattle.std.proofs.lemmas.List.{append-nil, map-append}
 use Rattle.gql_base.specs.declared.error.Error.{Error}
 use Rattle.gql_base.specs.declared.path_segment.PathSegment.{PathSegment}
 use Rattle.gql_base.specs.declared.path_segment.PathSegment.TheVariants as segment
@@ -13,7 +13,6 @@ use Rattle.gql_merged.specs.Steps.{path_of, segment_of}
 use Rattle.gql_merged.specs.Stored.{Bare, bare, numbered, Spot, spots}
 use Rattle.gql_merged.specs.declared.step.Step.{Step}
 use Rattle.gql_merged.specs.declared.step.Step.TheVariants as step
-use Rattle.gql_merged.proofs.TaskLemmas.{map_append}
 
 module _ (V : Type 0) where
   spots-Absent : (path : List PathSegment) → spots {V = V} shape.Absent path ≡ []
@@ -61,7 +60,7 @@ module _ (V : Type 0) where
   found_more found found' all its rest item left left' b steps path own is left_is path_is own_is added before =
       let long : length left' ≡ suc (length left) = ap length left_is ∙ length-append left (b ∷ []) ∙ (let e : length left + 1 ≡ suc (length left) = omega arith in e) in
       let at : own ≡ path_of steps ++ segment.Index (length left) ∷ []
-      = own_is ∙ ap path_of path_is ∙ map_append segment_of steps (step.Index (length left) ∷ []) in
+      = own_is ∙ ap path_of path_is ∙ map-append segment_of steps (step.Index (length left) ∷ []) in
       let others = numbered (suc (length left)) (map spots rest) (path_of steps) in
       (λ i. added i ++ numbered (long i) (map spots rest) (path_of steps))
       ∙ append_assoc found (spots item own) others

@@ -1,7 +1,8 @@
 -- The tasks of an object, made one after another.
 use Rattle.std.proofs.Common.{◌≡◌, ℕ, zero, suc, ◌+◌, ◌<◌, ◌≤◌, Bool, true, false, List, [], ◌∷◌, ◌++◌, length, map, take, get_or, refl, ap, sym, ◌∙◌, append_assoc, arith}
-use Rattle.std.proofs.lemmas.List.{append-nil, take_more}
-use Rattle.std.specs.List.{flat_map, zip}
+use Rattle.std.proofs.lemmas.Grind.{flat_map-append}
+use Rattle.std.proofs.lemmas.List.{append-nil, length-map, map-append, take_more}
+use Rattle.std.specs.List.{zip}
 use Rattle.std.specs.declared.alloc.Global.{Global}
 use Rattle.std.specs.declared.rc.Rc.{Rc}
 use Rattle.gql_base.specs.Pairs.{names_of, values_of}
@@ -26,14 +27,6 @@ use Rattle.gql_merged.specs.declared.level.Node.{Node}
 use Rattle.gql_merged.specs.declared.parent.Parent.{Parent}
 use Rattle.gql_merged.specs.declared.task.Task.{Task}
 
-pub map_append : {A B : Type 0} (f : A → B) (xs ys : List A) → map f (xs ++ ys) ≡ map f xs ++ map f ys
-map_append f [] ys = refl
-map_append f (x ∷ xs) ys = ap (λ zs. f x ∷ zs) (map_append f xs ys)
-
-pub flat_append : {X Y : Type 0} (f : X → List Y) (one other : List X) → flat_map f (one ++ other) ≡ flat_map f one ++ flat_map f other
-flat_append f [] other = refl
-flat_append f (x ∷ one) other = ap (λ ys. f x ++ ys) (flat_append f one other) ∙ sym (append_assoc (f x) (flat_map f one) (flat_map f other))
-
 pub zip_values : {T : Type 0} (names : List (List ℕ)) (values : List T) → length values ≡ length names → values_of (zip names values) ≡ values
 zip_values [] [] long = refl
 zip_values [] (v ∷ values) long = absurd (omega arith)
@@ -46,12 +39,8 @@ zip_names [] (v ∷ values) long = absurd (omega arith)
 zip_names (n ∷ names) [] long = absurd (omega arith)
 zip_names (n ∷ names) (v ∷ values) long = ap (λ ns. n ∷ ns) (zip_names names values (let e : length values ≡ length names = omega arith in e))
 
-pub map_length : {A B : Type 0} (f : A → B) (xs : List A) → length (map f xs) ≡ length xs
-map_length f [] = refl
-map_length f (x ∷ xs) = ap suc (map_length f xs)
-
 level_long : (level : Level) → length (map asked_behind level.nodes.items) ≡ length (names_in level.keys)
-level_long level = map_length asked_behind level.nodes.items ∙ level.paired
+level_long level = length-map level.nodes.items asked_behind ∙ level.paired
 
 -- the fields of a level, without their keys
 pub members_values : (level : Level) → values_of (members_of level) ≡ map asked_behind level.nodes.items
@@ -87,7 +76,7 @@ module _ {V : Type 0} where
       → jobs_in tasks' ≡ jobs_in tasks ++ job_by (rooted parent.held) (standing_of parent).spot (asked_by node)
   one_task tasks tasks' task parent node added parent_is node_is calls =
       ap jobs_in added
-      ∙ map_append job_of_task tasks (task ∷ [])
+      ∙ map-append job_of_task tasks (task ∷ [])
       ∙ (λ i. jobs_in tasks ++ job_with (parent_is i) (node_is i) ∷ [])
       ∙ ap (λ js. jobs_in tasks ++ js) (sym (called (rooted parent.held) node.basis (standing_of parent).spot (united node.group) node.asks calls))
 
@@ -106,12 +95,12 @@ module _ {V : Type 0} where
   tasks_more root spot nodes i node first tasks tasks' within read before added =
       let front = map asked_behind (take i nodes) in
       let next : map asked_behind (take (i + 1) nodes) ≡ front ++ asked_behind node ∷ []
-      = ap (map asked_behind) (take_more nodes i node within ∙ ap (λ n. take i nodes ++ n ∷ []) (sym read)) ∙ map_append asked_behind (take i nodes) (node ∷ []) in
+      = ap (map asked_behind) (take_more nodes i node within ∙ ap (λ n. take i nodes ++ n ∷ []) (sym read)) ∙ map-append asked_behind (take i nodes) (node ∷ []) in
       added
       ∙ ap (λ ts. ts ++ job_by root spot (asked_behind node)) before
       ∙ append_assoc first (jobs_by_as root spot front) (job_by root spot (asked_behind node))
       ∙ ap (λ js. first ++ (jobs_by_as root spot front ++ js)) (sym (append-nil (job_by root spot (asked_behind node))))
-      ∙ ap (λ js. first ++ js) (sym (flat_append (job_by root spot) front (asked_behind node ∷ [])))
+      ∙ ap (λ js. first ++ js) (sym (flat_map-append (job_by root spot) front (asked_behind node ∷ [])))
       ∙ ap (λ fs. first ++ jobs_by_as root spot fs) (sym next)
 
 take_past : {X : Type 0} (n : ℕ) (xs : List X) → length xs ≤ n → take n xs ≡ xs

@@ -1,8 +1,5 @@
 -- What an execution knows (GraphQL, October 2021, section 6.2), as the machine holds it.
-use Rattle.std.specs.Prelude.{ℕ, Bool, true, false, List, option_map}
-use Rattle.gql_doc.specs.declared.document.Field.{Field}
-use Rattle.gql_doc.specs.declared.document.Positioned.{Positioned}
-use Rattle.gql_doc.specs.declared.document.Selection.{Selection}
+use Rattle.std.specs.Prelude.{Bool, true, false, option_map}
 use Rattle.gql_meaning.specs.Execution.{Execution, setting_in}
 use Rattle.gql_meaning.specs.TableSetting.{Schema}
 use Rattle.gql_request.specs.QueryEnv.{levels_of}
@@ -11,7 +8,7 @@ use Rattle.gql_request.specs.declared.query_env.IntrospectionMode.TheVariants as
 use Rattle.gql_resolve.specs.Layers.{layers_of}
 use Rattle.gql_resolve.specs.Variables.{known_in}
 use Rattle.gql_schema.specs.Table.{types_of}
-use Rattle.gql_select.specs.Collected.{collect_within, Setting}
+use Rattle.gql_select.specs.Collected.{Setting}
 use Rattle.gql_merged.specs.declared.basis.Basis.{Basis}
 
 -- whether fields of the schema alone have values
@@ -42,10 +39,3 @@ execution_of basis = record {
 -- what the fields of the request are read by
 abbrev pub setting_by : Basis → Setting
 setting_by basis = setting_in (execution_of basis)
-
--- an object's fields in the selections, as many levels of fragments deep as are left (section
--- 6.3.2)
-abbrev pub fields_within : Basis → ℕ → List ℕ → List (Positioned Selection)
-    → List (Positioned Field)
-fields_within basis left object selections =
-    collect_within (setting_by basis) left object selections

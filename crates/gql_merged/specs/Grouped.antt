@@ -8,7 +8,7 @@ use Rattle.gql_select.specs.Collected.{Setting}
 use Rattle.gql_select.specs.Documents.{reading}
 use Rattle.gql_select.specs.Reading.{keyed, merged}
 use Rattle.gql_merged.specs.Basis.{setting_by}
-use Rattle.gql_merged.specs.FieldsWithin.{collected}
+use Rattle.gql_merged.specs.Collected.{collected}
 use Rattle.gql_merged.specs.declared.basis.Basis.{Basis}
 use Rattle.gql_merged.specs.declared.basis.Grouping.{Grouping}
 use Rattle.gql_merged.specs.declared.basis.Grouping.TheVariants as grouping

@@ -18,8 +18,9 @@ module _ {R Own World Future L H P : Type 0} (e : Parts R Own World Future L H P
 
   -- memory was wanting, behind so many whole phases
   pub record KeyCut (keys : ℕ) (want : NoMemory) : Type 0 where
-    pub cut : (first : Moment R Future L H P) (done left : List e.plan.Task) → InTurn e first old done
-        → length done ≡ keys → CutInTurn e first new (done ++ root ∷ left) want
+    pub cut : (first : Moment R Future L H P) (done left : List e.plan.Task)
+        → InTurn e first old done → length done ≡ keys
+        → CutInTurn e first new (done ++ root ∷ left) want
 
 -- the task of a root key of a mutation
 abbrev pub IsKey : {V : Type 0} → Job V → Type 0

@@ -4,10 +4,10 @@ pub mod Assembled
 pub mod Assembling
 pub mod Basis
 pub mod Beneath
+pub mod Collected
 pub mod Completing
 pub mod Counted
 pub mod Entries
-pub mod FieldsWithin
 pub mod Filling
 pub mod Fitting
 pub mod Grouped

@@ -21,7 +21,7 @@ use Rattle.gql_select.specs.Grouped.{in_turn, Mutating, serial_grouped, serial_r
 use Rattle.gql_select.specs.Reading.{merged}
 use Rattle.gql_merged.specs.Assembling.{IsRight}
 use Rattle.gql_merged.specs.Basis.{execution_of, setting_by}
-use Rattle.gql_merged.specs.FieldsWithin.{collected}
+use Rattle.gql_merged.specs.Collected.{collected}
 use Rattle.gql_merged.specs.Jobs.{Job, jobs_at_as}
 use Rattle.gql_merged.specs.Merged.{members_by}
 use Rattle.gql_merged.specs.Run.{basis_by, basis_of, job_subject, place_at_root, root_selections}

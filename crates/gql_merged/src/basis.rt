@@ -1,3 +1,4 @@
+use gql_collect::Collector;
 use gql_request::QueryEnv;
 use gql_resolve::Layers;
 use gql_schema::Types;
@@ -44,4 +45,20 @@ pub struct Basis<'a> {
     pub entities: Option<u32>,
     pub layers: Layers<'a>,
     pub grouping: Grouping,
+}
+
+impl<'a> Basis<'a> {
+    ghost use Rattle.gql_collect.specs.Collecting.{ReadsAlike};
+    ghost use Rattle.gql_merged.specs.Basis.{setting_by};
+
+    /// What CollectFields needs of it.
+    pub fn collector(&self) -> Collector<'a>
+        ensures { ReadsAlike result (setting_by self.now) }
+    {
+        Collector {
+            types: self.types,
+            fragments: &self.env.fragments,
+            levels: self.env.levels(),
+        }
+    }
 }

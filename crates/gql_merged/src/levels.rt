@@ -1,12 +1,12 @@
 //! The fields of an object, one for each key, with what each asks (GraphQL, October 2021, sections
 //! 6.3.1 and 6.3.2).
-ghost use Rattle.std.specs.Prelude.{◌≡◌, ◌++◌, map, IfOk, OnOk};
+ghost use Rattle.std.specs.Prelude.{◌≡◌, map, IfOk};
 ghost use Rattle.gql_doc.specs.Depth.{field_set};
 ghost use Rattle.gql_request.specs.QueryEnv.{NestsIn};
 ghost use Rattle.gql_select.specs.Collected.{own_selections};
 ghost use Rattle.gql_merged.specs.Basis.{setting_by};
 ghost use Rattle.gql_select.specs.Behind.{all_behind};
-ghost use Rattle.gql_merged.specs.FieldsWithin.{collected};
+ghost use Rattle.gql_merged.specs.Collected.{collected};
 ghost use Rattle.gql_merged.specs.Grouped.{groups_by};
 ghost use Rattle.gql_merged.specs.Groups.{united};
 ghost use Rattle.gql_merged.specs.Known.{IsOfAsked};
@@ -16,20 +16,32 @@ ghost use Rattle.gql_merged.specs.Within.{AllNest};
 use crate::asking::asks_for;
 use crate::asks::Asks;
 use crate::basis::{Basis, Grouping};
-use crate::fields_within::{add_fields, collect_fields};
 use crate::group::{Group, Groups};
 use crate::grouping::group_fields;
 use crate::key_names::Keys;
 use crate::level::{Level, Node};
 use crate::uniting::item_for;
 use gql_base::{Made, Name};
-use gql_doc::{Field, Positioned};
+use gql_collect::{collect_fields, collect_merged_fields};
+use gql_doc::{Field, Positioned, Selection};
 use gql_schema::{SchemaType, Types};
 use std::alloc::Global;
 use std::rc::Rc;
 
+/// The fields of an object in selections.
+pub fn fields_in<'a>(
+    alloc: Global,
+    basis: &Basis<'a>,
+    object: &str,
+    selections: &'a [Positioned<Selection>],
+) -> Made<Vec<&'a Positioned<Field>>>
+    ensures { IfOk result (λ fields. all_behind fields.items
+        ≡ collected basis.entry.now object.now selections.entry.now) }
+{
+    collect_fields(alloc, &basis.collector(), object, selections)
+}
+
 /// The fields of an object in the sets of all occurrences of a key.
-#[tactic(auto, using(crate::proofs::LevelLemmas::beneath_more))]
 pub fn fields_beneath<'a>(
     alloc: Global,
     basis: &Basis<'a>,
@@ -39,27 +51,8 @@ pub fn fields_beneath<'a>(
     ensures { IfOk result (λ fields. all_behind fields.items
         ≡ collected basis.entry.now object.now (own_selections (united group.entry.now))) }
 {
-    let first = group.first;
-    let selections = first.node.selection_set.node.items.as_slice();
-    let mut fields = collect_fields(alloc, basis, object, selections)?;
-    for occurrence in group.more.as_slice() {
-        add_occurrence_fields(basis, object, occurrence, &mut fields)?;
-    }
-    Ok(fields)
-}
-
-/// Adds the fields of an object in the set of an occurrence.
-fn add_occurrence_fields<'a>(
-    basis: &Basis<'a>,
-    object: &str,
-    occurrence: &'a Positioned<Field>,
-    fields: &mut Vec<&'a Positioned<Field>>,
-) -> Made<()>
-    ensures { OnOk result (all_behind fields.new.items ≡ all_behind fields.old.items
-        ++ collected basis.entry.now object.now (own_selections occurrence.entry.now)) }
-{
-    let selections = occurrence.node.selection_set.node.items.as_slice();
-    add_fields(basis, basis.env.levels(), object, selections, fields)
+    let more = group.more.as_slice();
+    collect_merged_fields(alloc, &basis.collector(), object, group.first, more)
 }
 
 /// The level of an object with these fields, grouped so, whose sets nest within the levels of the

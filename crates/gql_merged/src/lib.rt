@@ -12,7 +12,6 @@ mod asks;
 mod assembling;
 mod basis;
 mod completing;
-mod fields_within;
 mod filling;
 mod giving;
 mod group;

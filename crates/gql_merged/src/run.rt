@@ -26,9 +26,8 @@ ghost use Rattle.gql_merged.specs.Tasks.{jobs_in};
 
 use crate::assembling::{add_open, assemble};
 use crate::basis::{Basis, Grouping};
-use crate::fields_within::collect_fields;
 use crate::level::Level;
-use crate::levels::level_of;
+use crate::levels::{fields_in, level_of};
 use crate::members::members_at;
 use crate::parent::{Held, Parent};
 use crate::task_making::make_tasks;
@@ -165,7 +164,7 @@ fn root_level<'a, V>(alloc: Global, by: Grouping, scene: &Scene<'a, V>) -> Made<
     };
     let object = scene.object.type_name();
     let selections = scene.env.operation.node.selection_set.node.items.as_slice();
-    let fields = collect_fields(alloc, &basis, object, selections)?;
+    let fields = fields_in(alloc, &basis, object, selections)?;
     let own = grouping_for(scene.env.operation.node.ty, by);
     level_of(alloc, &basis, own, object, fields)
 }

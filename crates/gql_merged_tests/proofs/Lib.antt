@@ -1,1 +1,2 @@
+mod PieceRows
 mod StoreRows

@@ -47,11 +47,13 @@ member_refl m = (refl, alike_refl m.1)
 member_trans : (l m n : List ℕ × Place) → AreAlikeMembers l m → AreAlikeMembers m n → AreAlikeMembers l n
 member_trans l m n one other = (one.0 ∙ other.0, alike_trans l.1 m.1 n.1 one.1 other.1)
 
-paired_refl : {X : Type 0} (R : X → X → Type 0) → ((x : X) → R x x) → (xs : List X) → Paired R xs xs
+-- lists are paired with themselves, where each item stands in the relation with itself
+pub paired_refl : {X : Type 0} (R : X → X → Type 0) → ((x : X) → R x x) → (xs : List X) → Paired R xs xs
 paired_refl R is [] = tt
 paired_refl R is (x ∷ xs) = (is x, paired_refl R is xs)
 
-paired_trans : {X : Type 0} (R : X → X → Type 0) → ((x y z : X) → R x y → R y z → R x z) → (xs ys zs : List X) → Paired R xs ys → Paired R ys zs → Paired R xs zs
+-- with third ones, by second ones
+pub paired_trans : {X : Type 0} (R : X → X → Type 0) → ((x y z : X) → R x y → R y z → R x z) → (xs ys zs : List X) → Paired R xs ys → Paired R ys zs → Paired R xs zs
 paired_trans R is [] [] [] one other = tt
 paired_trans R is [] [] (z ∷ zs) one other = absurd other
 paired_trans R is [] (y ∷ ys) zs one other = absurd one

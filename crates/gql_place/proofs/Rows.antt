@@ -1,10 +1,15 @@
 -- Some responses, computed: what is raised, joined and told.
-use Rattle.std.proofs.Common.{rules, ◌≡◌, ℕ, pos, true, false, List, [], ◌∷◌, None}
+use Rattle.std.proofs.Common.{rules, ◌≡◌, ℕ, pos, true, false, List, [], ◌∷◌, map, None, refl, ap}
 use Rattle.std.specs.Prelude.{codes}
+use Rattle.std.specs.declared.alloc.Global.{Global}
+use Rattle.std.specs.declared.vec.Vec.{Vec}
 use Rattle.gql_base.specs.declared.error.Error.{Error}
 use Rattle.gql_base.specs.declared.path_segment.PathSegment.TheVariants.{Field, Index}
 use Rattle.gql_base.specs.declared.pos.Pos.{Pos}
+use Rattle.gql_base.specs.declared.value.Value.{Value}
 use Rattle.gql_base.specs.declared.value.Value.TheVariants as value
+use Rattle.gql_place.specs.declared.pieces.MemberPieces.TheVariants as member_pieces
+use Rattle.gql_place.specs.declared.pieces.Pieces.TheVariants as pieces
 use Rattle.gql_place.specs.declared.place.Place.{Place}
 use Rattle.gql_place.specs.declared.place.Tree.{Tree, the_lemmas}
 use Rattle.gql_place.specs.declared.place.Tree.TheVariants as tree
@@ -12,7 +17,7 @@ use Rattle.gql_place.specs.Alike.{Same}
 use Rattle.gql_place.specs.Faults.{faults_of, located}
 use Rattle.gql_place.specs.HeaderOps.{ops_of}
 use Rattle.gql_place.specs.Join.{join}
-use Rattle.gql_place.specs.Pieces.{data_place}
+use Rattle.gql_place.specs.Pieces.{data_place, members_in, places_in}
 use Rattle.gql_place.specs.Raised.{raised}
 use Rattle.gql_request.specs.declared.header_op.HeaderOp.{HeaderOp}
 
@@ -106,3 +111,12 @@ fault_differs is =
     let one : faults_of (nullable (tree.Fault bad)) ≡ located field_pos [] bad ∷ [] = search (rules, the_lemmas) in
     let same : faults_of (data_place value.Null) ≡ faults_of (nullable (tree.Fault bad)) = is.faults_are [] in
     cc
+
+-- data in a row stands for a place of each value
+row_of_data : (values : Vec Value Global) → values.items ≡ value.Null ∷ value.Number (pos 1) ∷ []
+    → places_in (pieces.Data values) ≡ data_place value.Null ∷ data_place (value.Number (pos 1)) ∷ []
+row_of_data values are = ap (map data_place) are
+
+-- a member of data keeps its name
+member_of_data : members_in (member_pieces.Data ((codes "a", value.Null) ∷ [])) ≡ (codes "a", data_place value.Null) ∷ []
+member_of_data = refl

@@ -2,7 +2,8 @@ use Rattle.std.proofs.Common.{◌≤◌, take, length, sym, subst, arith}
 use Rattle.std.proofs.lemmas.List.{take_all}
 use Rattle.gql_select.specs.Behind.{all_behind}
 use Rattle.gql_conflicts.specs.Groups.{AreGroups}
-use Rattle.gql_conflicts.proofs.WalkLemmas.{bare, behind_more, groups_told}
+use Rattle.gql_conflicts.proofs.WalkLemmas.{bare, groups_told}
+use Rattle.gql_collect.proofs.OccurrenceLemmas.{behind_more}
 use Rattle.gql_conflicts.proofs.grouping.group_fields.Goals as goal
 
 pub add_occurrence-requires : goal.add_occurrence-requires

@@ -1,5 +1,5 @@
 use Rattle.std.proofs.Common.{ap, ◌∙◌}
-use Rattle.gql_merged.specs.FieldsWithin.{collected}
+use Rattle.gql_merged.specs.Collected.{collected}
 use Rattle.gql_merged.specs.Run.{basis_by}
 use Rattle.gql_merged.proofs.RunLemmas.{root_nest}
 use Rattle.gql_merged.proofs.run.root_level.Goals as goal

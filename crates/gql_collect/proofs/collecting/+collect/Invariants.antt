@@ -1,16 +1,15 @@
 use Rattle.std.proofs.Common.{◌≡◌, ◌+◌, ◌*◌, ◌-◌, ◌++◌, drop}
 use Rattle.std.specs.List.{flat_map}
 use Rattle.gql_doc.specs.declared.document.Selection.{out-Selection}
-use Rattle.gql_merged.specs.Basis.{fields_within}
+use Rattle.gql_collect.specs.Collecting.{fields_here, fields_within}
 use Rattle.gql_select.specs.Behind.{all_behind}
-use Rattle.gql_merged.specs.FieldsWithin.{fields_here}
-use Rattle.gql_merged.proofs.fields_within.+collect.Given as goal
+use Rattle.gql_collect.proofs.collecting.+collect.Given as goal
 
 abbrev pub invariant-add_fields-loop-selection : goal.invariant-add_fields-loop-selection
 invariant-add_fields-loop-selection l =
     all_behind l.fields.items
-    ++ flat_map (λ selection. fields_here l.basis (l.left - 1) l.object (out-Selection selection.node)) (drop l.selection-index l.selections)
-    ≡ all_behind l.initial.fields.items ++ fields_within l.basis l.left l.object l.selections
+    ++ flat_map (λ selection. fields_here l.collector (l.left - 1) l.object (out-Selection selection.node)) (drop l.selection-index l.selections)
+    ≡ all_behind l.initial.fields.items ++ fields_within l.collector l.left l.object l.selections
 
 abbrev pub decreases-add_fields : goal.decreases-add_fields
 decreases-add_fields l = 3 * l.left

@@ -1,32 +1,32 @@
 //! CollectFields (GraphQL, October 2021, section 6.3.2): the fields of an object in selections, in
-//! document order, before anything is skipped.
+//! document order, before anything is skipped, as many levels of fragments deep as are left.
 ghost use Rattle.std.specs.Prelude.{◌≡◌, ◌++◌, OnOk};
 ghost use Rattle.gql_doc.specs.declared.document.Selection.{out-Selection};
-ghost use Rattle.gql_conflicts.specs.Collecting.{fields_here, fields_of_inline_here};
+ghost use Rattle.gql_collect.specs.Collecting.{fields_here, fields_of_inline_here};
 ghost use Rattle.gql_select.specs.Behind.{all_behind};
-ghost use Rattle.gql_conflicts.specs.Collecting.{fields_of_name, fields_within};
+ghost use Rattle.gql_collect.specs.Collecting.{fields_of_name, fields_within};
 
-use crate::reader::Reader;
+use crate::collector::Collector;
 use gql_base::Made;
 use gql_doc::{Field, InlineFragment, Positioned, Selection};
 
 /// Adds the fields of an object in selections, as many levels of fragments deep as are left.
 #[cycle(collect)]
 pub(crate) fn add_fields<'a>(
-    reader: &Reader<'a>,
+    collector: &Collector<'a>,
     left: usize,
     object: &str,
     selections: &'a [Positioned<Selection>],
     fields: &mut Vec<&'a Positioned<Field>>,
 ) -> Made<()>
     ensures { OnOk result (all_behind fields.new.items ≡ all_behind fields.old.items
-        ++ fields_within reader.entry.now left object.now selections.entry.now) }
+        ++ fields_within collector.entry.now left object.now selections.entry.now) }
 {
     if left == 0 {
         return Ok(());
     }
     for selection in selections {
-        add_selection(reader, left - 1, object, &selection.node, fields)?;
+        add_selection(collector, left - 1, object, &selection.node, fields)?;
     }
     Ok(())
 }
@@ -34,14 +34,14 @@ pub(crate) fn add_fields<'a>(
 /// Adds the fields that a selection stands for.
 #[cycle(collect)]
 fn add_selection<'a>(
-    reader: &Reader<'a>,
+    collector: &Collector<'a>,
     left: usize,
     object: &str,
     selection: &'a Selection,
     fields: &mut Vec<&'a Positioned<Field>>,
 ) -> Made<()>
     ensures { OnOk result (all_behind fields.new.items ≡ all_behind fields.old.items
-        ++ fields_here reader.entry.now left object.now (out-Selection selection.entry.now)) }
+        ++ fields_here collector.entry.now left object.now (out-Selection selection.entry.now)) }
 {
     match selection {
         Selection::Field(field) => {
@@ -50,10 +50,10 @@ fn add_selection<'a>(
         }
         Selection::FragmentSpread(spread) => {
             let name = spread.node.fragment_name.node.as_str();
-            add_spread(reader, left, object, name, fields)
+            add_spread(collector, left, object, name, fields)
         }
         Selection::InlineFragment(fragment) => {
-            add_inline(reader, left, object, &fragment.node, fields)
+            add_inline(collector, left, object, &fragment.node, fields)
         }
     }
 }
@@ -61,22 +61,22 @@ fn add_selection<'a>(
 /// Adds the fields of a named fragment, if there is one and it applies to the object.
 #[cycle(collect)]
 fn add_spread<'a>(
-    reader: &Reader<'a>,
+    collector: &Collector<'a>,
     left: usize,
     object: &str,
     name: &str,
     fields: &mut Vec<&'a Positioned<Field>>,
 ) -> Made<()>
     ensures { OnOk result (all_behind fields.new.items ≡ all_behind fields.old.items
-        ++ fields_of_name reader.entry.now left object.now name.now) }
+        ++ fields_of_name collector.entry.now left object.now name.now) }
 {
-    match reader.fragments.get(name) {
+    match collector.fragments.get(name) {
         None => Ok(()),
         Some(fragment) => {
             let condition = fragment.node.type_condition.node.as_str();
-            if reader.rooted.types.covers(Some(condition), object) {
+            if collector.types.covers(Some(condition), object) {
                 let selections = fragment.node.selection_set.node.items.as_slice();
-                add_fields(reader, left, object, selections, fields)
+                add_fields(collector, left, object, selections, fields)
             } else {
                 Ok(())
             }
@@ -87,25 +87,24 @@ fn add_spread<'a>(
 /// Adds the fields of a fragment in place, which applies to each object where it has no condition.
 #[cycle(collect)]
 fn add_inline<'a>(
-    reader: &Reader<'a>,
+    collector: &Collector<'a>,
     left: usize,
     object: &str,
     fragment: &'a InlineFragment,
     fields: &mut Vec<&'a Positioned<Field>>,
 ) -> Made<()>
     ensures { OnOk result (all_behind fields.new.items ≡ all_behind fields.old.items
-        ++ fields_of_inline_here reader.entry.now left object.now fragment.entry.now) }
+        ++ fields_of_inline_here collector.entry.now left object.now fragment.entry.now) }
 {
     let selections = fragment.selection_set.node.items.as_slice();
     match &fragment.type_condition {
-        None => add_fields(reader, left, object, selections, fields),
+        None => add_fields(collector, left, object, selections, fields),
         Some(condition) => {
-            if reader
-                .rooted
+            if collector
                 .types
                 .covers(Some(condition.node.as_str()), object)
             {
-                add_fields(reader, left, object, selections, fields)
+                add_fields(collector, left, object, selections, fields)
             } else {
                 Ok(())
             }

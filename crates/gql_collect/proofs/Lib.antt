@@ -1,0 +1,3 @@
+mod AlikeLemmas
+pub mod OccurrenceLemmas
+mod Rows
