@@ -1,5 +1,6 @@
-//! CollectFields (GraphQL, October 2021, section 6.3.2): the fields of an object in selections, in
-//! document order, before anything is skipped, as many levels of fragments deep as are left.
+//! CollectFields (GraphQL, October 2021, section 6.3.2) in selections as they are given: the fields
+//! of an object, in document order, as many levels of fragments deep as are left. No directive is
+//! looked at: what `@skip` and `@include` leave out is taken out of the selections before.
 ghost use Rattle.std.specs.Prelude.{◌≡◌, ◌++◌, OnOk};
 ghost use Rattle.gql_doc.specs.declared.document.Selection.{out-Selection};
 ghost use Rattle.gql_collect.specs.Collecting.{fields_here, fields_of_inline_here};

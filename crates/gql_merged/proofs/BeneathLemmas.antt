@@ -24,7 +24,8 @@ use Rattle.gql_merged.specs.Collected.{collected}
 use Rattle.gql_merged.specs.Grouped.{groups_in}
 use Rattle.gql_merged.specs.Groups.{united}
 use Rattle.gql_merged.specs.Jobs.{completed_by, Job, job_at, jobs_at, jobs_at_as, jobs_beneath, jobs_of_as}
-use Rattle.gql_merged.specs.Parents.{jobs_here, jobs_of_standing, spot_found, Standing, standing_at, standing_behind}
+use Rattle.gql_merged.specs.Listed.{AreBelow}
+use Rattle.gql_merged.specs.Parents.{jobs_here, jobs_of_standing, spot_found, Standing, standing_at, standing_behind, steps_by}
 use Rattle.gql_merged.specs.Steps.{path_of}
 use Rattle.gql_merged.specs.Stored.{Spot, spots}
 use Rattle.gql_merged.specs.Tasks.{IsDeep}
@@ -37,6 +38,7 @@ use Rattle.gql_merged.specs.declared.parent.Parent.{Parent}
 use Rattle.gql_merged.specs.declared.step.Step.{Step}
 use Rattle.gql_merged.proofs.JobLemmas.{level_jobs}
 use Rattle.gql_merged.proofs.NestLemmas.{collected_nest, every_both}
+use Rattle.gql_merged.proofs.PathLemmas.{trail_some}
 use Rattle.gql_merged.proofs.WithinLemmas.{both_within, groups_all}
 
 -- what holds of all holds of each
@@ -87,21 +89,20 @@ module _ {V : Type 0} where
       (λ field asking q. (let e = length-append spot.path (segment.Field (key_text field) ∷ []) in omega arith)) selections
       (every_of (λ field. Unit {0}) (λ field. tt) (values_of (groups_in false basis spot.object selections)))
 
-  found_below : (found : List (Found V)) → AllByRecursion (λ (spot : Spot V). 0 < length spot.path) (map spot_found found)
+  -- objects that were found aren't at the root
+  pub found_below : (found : List (Found V)) → AreBelow (map spot_found found)
   found_below [] = tt
-  found_below (f ∷ found) = ((let e = long f.path.items in let b = f.below in omega arith), found_below found)
+  found_below (f ∷ found) = ((let e = long (steps_by f.trail) in let b = trail_some f.trail in omega arith), found_below found)
     where
       long : (steps : List Step) → length (path_of steps) ≡ length steps
       long [] = refl
       long (s ∷ steps) = ap suc (long steps)
 
-  -- the tasks beneath an answer are deep, where its objects were found
-  pub deep_found : (job : Job V) (answer : Answer V) (found : List (Found V)) → map spot_found found ≡ spots (completed_by job answer) job.path
-      → AllByRecursion IsDeep (jobs_beneath job answer)
-  deep_found job answer found is =
+  -- the tasks beneath an answer are deep, where its objects aren't at the root
+  pub deep_spots : (job : Job V) (answer : Answer V) → AreBelow (spots (completed_by job answer) job.path) → AllByRecursion IsDeep (jobs_beneath job answer)
+  deep_spots job answer below =
       every_flat IsDeep (λ (spot : Spot V). 0 < length spot.path) (jobs_at job.basis (own_selections job.field))
-      (λ spot some. deep_at job.basis (own_selections job.field) spot some) (spots (completed_by job answer) job.path)
-      (subst (AllByRecursion (λ (spot : Spot V). 0 < length spot.path)) is (found_below found))
+      (λ spot some. deep_at job.basis (own_selections job.field) spot some) (spots (completed_by job answer) job.path) below
 
   -- a task whose set is within so many levels, on this basis
   pub record IsBelow (basis : Basis) (n : ℕ) (job : Job V) : Type 0 where

@@ -19,7 +19,7 @@ module _ (V : Type 0) (table : TypeTable) where
   nullable_at (TypeRef-F.NonNull inner) = refl
   nullable_at (TypeRef-F.List inner) = refl
 
-  nullable_is : (ty : TypeRef) → not (is_nullable ty) ≡ (completing {V = V} table ty).non_null
+  pub nullable_is : (ty : TypeRef) → not (is_nullable ty) ≡ (completing {V = V} table ty).non_null
   nullable_is ty =
       nullable_at (out-TypeRef ty)
       ∙ ap (λ (c : Completing V). c.non_null) (sym (fold-roll-TypeRef (Completing V) (completing_step table) (out-TypeRef ty)) ∙ ap (completing table) (roll-out-TypeRef ty))

@@ -15,13 +15,14 @@ use Rattle.gql_merged.specs.Asks.{arguments_in, resolver_in}
 use Rattle.gql_merged.specs.Groups.{united}
 use Rattle.gql_merged.specs.Jobs.{asked_by_job, Job}
 use Rattle.gql_merged.specs.Levels.{Asked, asked_by}
-use Rattle.gql_merged.specs.Parents.{path_to, rooted, value_of}
+use Rattle.gql_merged.specs.Parents.{path_to, rooted, steps_by, value_of}
 use Rattle.gql_merged.specs.Steps.{path_of}
 use Rattle.gql_merged.specs.Tasks.{job_of_task, jobs_in}
 use Rattle.gql_merged.specs.declared.parent.Held.{Held}
 use Rattle.gql_merged.specs.declared.parent.Held.TheVariants as held
 use Rattle.gql_merged.specs.declared.step.Step.{Step}
 use Rattle.gql_merged.specs.declared.task.Task.{Task}
+use Rattle.gql_merged.proofs.PathLemmas.{trail_some}
 
 and_true : (b : Bool) → (b && true) ≡ b
 and_true true = refl
@@ -41,8 +42,8 @@ module _ {V : Type 0} where
   -- a task is a root of a mutation where it stands at the root of one
   root_at : (held : Held V) (asked : Asked) (key : List ℕ) → (is_mutation asked.basis.env.now.operation.node.ty && is_single (path_to held ++ segment.Field key ∷ [])) ≡ rooted held asked
   root_at (held.Root root) asked key = and_true (is_mutation asked.basis.env.now.operation.node.ty)
-  root_at (held.Found found) asked key =
-      ap (λ b. is_mutation asked.basis.env.now.operation.node.ty && b) (not_single found.path.items (segment.Field key) found.below)
+  root_at (held.Found value trail) asked key =
+      ap (λ b. is_mutation asked.basis.env.now.operation.node.ty && b) (not_single (steps_by trail) (segment.Field key) (trail_some trail))
       ∙ and_false (is_mutation asked.basis.env.now.operation.node.ty)
 
   -- the task of a number as it is known and as it is held

@@ -19,6 +19,8 @@ pub mod JoiningLemmas
 pub mod KeyLemmas
 pub mod LeafLemmas
 pub mod LevelLemmas
+pub mod ListedLemmas
+pub mod ListingLemmas
 pub mod MergedLemmas
 pub mod MovingLemmas
 pub mod NestLemmas
@@ -34,4 +36,5 @@ pub mod StandingLemmas
 pub mod StoredLemmas
 pub mod TaskLemmas
 pub mod UnitingLemmas
+pub mod ValueLemmas
 pub mod WithinLemmas

@@ -9,23 +9,16 @@ use Rattle.gql_doc.specs.Depth.{field_set}
 use Rattle.gql_doc.specs.declared.document.Field.{Field}
 use Rattle.gql_doc.specs.declared.document.Positioned.{Positioned}
 use Rattle.gql_request.specs.QueryEnv.{levels_of, NestsIn}
-use Rattle.gql_select.specs.Collected.{own_selections, Setting}
+use Rattle.gql_select.specs.Collected.{Setting}
 use Rattle.gql_merged.specs.Basis.{setting_by}
-use Rattle.gql_merged.specs.Beneath.{IsBeneath}
 use Rattle.gql_merged.specs.Grouped.{groups_by}
 use Rattle.gql_merged.specs.Groups.{under_names, united}
-use Rattle.gql_merged.specs.Levels.{asked_behind, asked_in, asked_of, asked_on}
-use Rattle.gql_merged.specs.Parents.{spot_found, standing_at, standing_behind, standing_of}
-use Rattle.gql_merged.specs.Steps.{path_of}
+use Rattle.gql_merged.specs.Levels.{asked_behind, asked_of, asked_on}
 use Rattle.gql_merged.specs.Within.{AllNest}
 use Rattle.gql_merged.specs.declared.basis.Basis.{Basis}
 use Rattle.gql_merged.specs.declared.basis.Grouping.{Grouping}
 use Rattle.gql_merged.specs.declared.group.Group.{Group}
-use Rattle.gql_merged.specs.declared.level.Level.{Level}
 use Rattle.gql_merged.specs.declared.level.Node.{Node}
-use Rattle.gql_merged.specs.declared.parent.Found.{Found}
-use Rattle.gql_merged.specs.declared.parent.Held.TheVariants as held
-use Rattle.gql_merged.specs.declared.parent.Parent.{Parent}
 use Rattle.gql_merged.proofs.LevelLemmas.{asked_zipped}
 use Rattle.gql_merged.proofs.NestLemmas.{both_nests}
 use Rattle.gql_merged.proofs.TaskLemmas.{zip_values}
@@ -56,13 +49,3 @@ module _ (basis : Basis) (by : Grouping) (names : List (List ℕ)) (groups : Lis
         ap (zip names) made
         ∙ sym (asked_zipped basis object names (map united groups))
         ∙ ap (asked_on basis object) (is (setting_by basis))
-
--- an object that was found stands on the level of its name
-pub stands_found : {V : Type 0} (node : Node) (object : List ℕ) (level : Rc Level Global) (found : Found V) (parent : Rc (Parent V) Global)
-    → parent.value ≡ record { level = level; held = held.Found found } → object ≡ found.object → IsBeneath node object level.value
-    → standing_behind parent ≡ standing_at node.basis (own_selections (united node.group)) (spot_found found)
-stands_found node object level found parent is same beneath =
-    let object_is = beneath.object_is ∙ same in
-    let members_are = beneath.members_are ∙ ap (λ o. asked_in node.basis o (own_selections (united node.group))) same in
-    ap standing_of is
-    ∙ (λ i. record { spot = record { object = object_is i; parent = found.value; path = path_of found.path.items }; members = members_are i })

@@ -10,9 +10,9 @@ use Rattle.gql_engine.specs.declared.given.Given.{Given}
 use Rattle.gql_engine.specs.declared.given.Given.TheVariants.{Answered, Put}
 use Rattle.gql_place.specs.declared.piece.Piece.{Piece}
 use Rattle.gql_merged.specs.Entries.{laid}
-use Rattle.gql_merged.specs.Assembling.{IsMadeAlone, IsPutAlone}
+use Rattle.gql_merged.specs.Assembling.{IsMadeAlone}
 use Rattle.gql_merged.specs.Fitting.{entries_in, entry_of, IsFilledWith, made_beneath}
-use Rattle.gql_merged.specs.Holds.{HoldsGiven, HoldsSince, store_in}
+use Rattle.gql_merged.specs.Holds.{ComesAlone, HoldsGiven, HoldsSince, store_in}
 use Rattle.gql_merged.specs.Jobs.{completed_by, Job, jobs_at}
 use Rattle.gql_merged.specs.Parents.{standing_at, standing_behind}
 use Rattle.gql_merged.specs.Standing.{PutsAt}
@@ -118,32 +118,46 @@ completes_task tasks tasks' more kept kept' places places' k task given there ta
       deep = deep;
     }
 
--- a task was given what came to no object: its place is put
-pub record PutsAlone (V : Type 0) (tasks : List (Task V)) (places places' : List (Option Piece)) (number : ℕ) (filled : Filled V) (job : Job V) (given : Given V) : Type 0 where
-  pub there : slice_get (jobs_in tasks) number ≡ Some job
-  pub filled_is : IsFilledWith given job filled
-  pub none : made_beneath given job ≡ []
-  pub put : IsPutAlone filled number places places'
+map_none : {A B : Type 0} (f : A → B) (xs : List A) → map f xs ≡ [] → xs ≡ []
+map_none f [] none = refl
+map_none f (x ∷ xs) none = absurd (cc)
 
-module _ {V : Type 0} {tasks : List (Task V)} {places places' : List (Option Piece)} {number : ℕ} {filled : Filled V} {job : Job V} {given : Given V}
-    (done : PutsAlone V tasks places places' number filled job given) where
+-- where what a task was given came to no object, no tasks are made beneath it
+none_made : {V : Type 0} (given : Given V) (job : Job V) (filled : Filled V) → IsFilledWith given job filled → filled.parents.items ≡ [] → made_beneath given job ≡ []
+none_made (Answered answer) job filled fits none =
+    ap (flat_map (jobs_at job.basis (own_selections job.field)))
+    (map_none (standing_at job.basis (own_selections job.field)) (spots (completed_by job answer) job.path) (sym fits.parents_are ∙ ap (map standing_behind) none))
+none_made (Put put) job filled fits none = refl
+
+-- a task was given what came to no object: what is kept of its place is put
+pub record PutsAlone (V : Type 0) (tasks : List (Task V)) (places places' : List (Option Piece)) (number : ℕ) (job : Job V) (given : Given V) : Type 0 where
+  pub there : slice_get (jobs_in tasks) number ≡ Some job
+  pub piece : Piece
+  pub comes : ComesAlone given job piece
+  pub puts : PutsAt (Some piece) number places places'
+
+module _ {V : Type 0} {tasks : List (Task V)} {places places' : List (Option Piece)} {number : ℕ} {job : Job V} {given : Given V}
+    (done : PutsAlone V tasks places places' number job given) where
+  none : made_beneath given job ≡ []
+  none = none_made given job done.comes.filled done.comes.fits done.comes.none
+
   pub alone_has : (other : Job V) → slice_get (jobs_in tasks) number ≡ Some other → HasMade (jobs_in tasks) (jobs_in tasks) (made_beneath given other) 0
   alone_has other is =
       let same : job ≡ other = (let e : Some job ≡ Some other = sym done.there ∙ is in cc) in
-      let none : made_beneath given other ≡ [] = ap (made_beneath given) (sym same) ∙ done.none in
-      (sym (append-nil (jobs_in tasks)) ∙ ap (λ js. jobs_in tasks ++ js) (sym none), ap length (sym none))
+      let nothing : made_beneath given other ≡ [] = ap (made_beneath given) (sym same) ∙ none in
+      (sym (append-nil (jobs_in tasks)) ∙ ap (λ js. jobs_in tasks ++ js) (sym nothing), ap length (sym nothing))
 
   pub alone_holds : (kept : List (Kept V)) → HoldsGiven (jobs_in tasks) (store_in kept places') number given
   alone_holds kept =
-      stored_put (IsFilledWith given) (made_beneath given) IsMadeAlone (jobs_in tasks) (store_in kept places') number job filled done.put.piece done.there done.filled_is done.none done.put.puts.here
-      done.put.made
+      stored_put (IsFilledWith given) (made_beneath given) IsMadeAlone (jobs_in tasks) (store_in kept places') number job done.comes.filled done.piece done.there done.comes.fits none
+      done.puts.here done.comes.made
 
   pub alone_keeps_since : (kept : List (Kept V)) (base other : ℕ) (g : Given V) → (other ≡ number → ⊥) → HoldsSince base (jobs_in tasks) (store_in kept places) other g
       → HoldsSince base (jobs_in tasks) (store_in kept places') other g
   alone_keeps_since kept base other g differs held = elim held [
     | inl away ↦ inl away
     | inr stored ↦ inr (stored_beside (IsFilledWith g) (made_beneath g) IsMadeAlone (jobs_in tasks) (store_in kept places) (store_in kept places') other refl
-        (done.put.puts.others other differs) stored)
+        (done.puts.others other differs) stored)
   ]
 
   -- where nothing else of the plan changes
@@ -158,23 +172,13 @@ module _ {V : Type 0} {tasks : List (Task V)} {places places' : List (Option Pie
 pub no_items : {X : Type 0} (xs : List X) (n : ℕ) → n ≡ length xs → true ≡ (n == 0) → xs ≡ []
 no_items xs n long is = no_length xs (sym long ∙ is-zero n is)
 
-map_none : {A B : Type 0} (f : A → B) (xs : List A) → map f xs ≡ [] → xs ≡ []
-map_none f [] none = refl
-map_none f (x ∷ xs) none = absurd (cc)
-
--- where what a task was given came to no object, no tasks are made beneath it
-none_made : {V : Type 0} (given : Given V) (job : Job V) (filled : Filled V) → IsFilledWith given job filled → filled.parents.items ≡ [] → made_beneath given job ≡ []
-none_made (Answered answer) job filled fits none =
-    ap (flat_map (jobs_at job.basis (own_selections job.field)))
-    (map_none (standing_at job.basis (own_selections job.field)) (spots (completed_by job answer) job.path) (sym fits.parents_are ∙ ap (map standing_behind) none))
-none_made (Put put) job filled fits none = refl
-
-pub puts_alone : {V : Type 0} (tasks : List (Task V)) (places places' : List (Option Piece)) (number : ℕ) (filled : Filled V) (task : Task V) (given : Given V)
-    → slice_get tasks number ≡ Some task → IsFilledWith given (job_of_task task) filled → filled.parents.items ≡ [] → IsPutAlone filled number places places'
-    → PutsAlone V tasks places places' number filled (job_of_task task) given
-puts_alone tasks places places' number filled task given there filled_is none put = record {
+-- where what is put is what it comes to
+pub puts_alone : {V : Type 0} (tasks : List (Task V)) (places places' : List (Option Piece)) (number : ℕ) (task : Task V) (given : Given V) (piece : Piece)
+    → slice_get tasks number ≡ Some task → ComesAlone given (job_of_task task) piece → PutsAt (Some piece) number places places'
+    → PutsAlone V tasks places places' number (job_of_task task) given
+puts_alone tasks places places' number task given piece there comes puts = record {
   there = get_map job_of_task tasks number task there;
-  filled_is = filled_is;
-  none = none_made given (job_of_task task) filled filled_is none;
-  put = put;
+  piece = piece;
+  comes = comes;
+  puts = puts;
 }

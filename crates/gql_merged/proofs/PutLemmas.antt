@@ -1,8 +1,5 @@
 -- Places by their numbers.
 use Rattle.std.proofs.Common.{◌≡◌, ℕ, zero, suc, ◌<◌, ◌≤◌, List, [], ◌∷◌, ◌++◌, length, Option, Some, None, slice_get, slice_set, refl, ap, ◌∙◌, arith}
-use Rattle.gql_place.specs.declared.piece.Piece.{Piece}
-use Rattle.gql_merged.specs.Assembling.{IsMadeAlone, IsPutAlone}
-use Rattle.gql_merged.specs.declared.kept.Filled.{Filled}
 use Rattle.gql_merged.specs.Standing.{stands_for, PutsAt}
 
 -- the place that stands at a number
@@ -72,8 +69,3 @@ puts_behind o first os os' n same long is = record {
 -- past the end each place is open
 pub puts_none : {P : Type 0} (os : List (Option P)) (n : ℕ) → length os ≤ n → PutsAt None n os os
 puts_none os n past = record { here = put_past os n past; others = λ k differs. refl }
-
--- what is kept of the place of a task with none beneath it is put
-pub alone_put : {V : Type 0} (filled : Filled V) (piece : Piece) (number : ℕ) (places places' : List (Option Piece)) → IsMadeAlone filled piece
-    → PutsAt (Some piece) number places places' → IsPutAlone filled number places places'
-alone_put filled piece number places places' made puts = record { piece = piece; made = made; puts = puts }

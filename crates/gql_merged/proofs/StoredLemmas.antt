@@ -24,11 +24,11 @@ module _ (V : Type 0) where
   spots-Fault : (error : Error) (path : List PathSegment) → spots {V = V} (shape.Fault error) path ≡ []
   spots-Fault error path = search (rules, the_lemmas)
 
-  spots-Object : (object : List ℕ) (parent : FieldValue V) (path : List PathSegment)
+  pub spots-Object : (object : List ℕ) (parent : FieldValue V) (path : List PathSegment)
       → spots (shape.Object object parent) path ≡ record { object = object; parent = parent; path = path } ∷ []
   spots-Object object parent path = search (rules, the_lemmas)
 
-  spots-List : (non_null : Bool) (items : List (Completed V)) (path : List PathSegment)
+  pub spots-List : (non_null : Bool) (items : List (Completed V)) (path : List PathSegment)
       → spots (shape.List non_null items) path ≡ numbered 0 (map spots items) path
   spots-List non_null items path = search (rules, the_lemmas)
 

@@ -20,7 +20,7 @@ use Rattle.gql_merged.specs.Fitting.{IsFilled}
 use Rattle.gql_merged.specs.Jobs.{Job, jobs_beneath}
 use Rattle.gql_merged.specs.Merged.{place_by}
 use Rattle.gql_merged.specs.Parents.{Standing, standing_behind}
-use Rattle.gql_merged.specs.Standing.{IsStored, present, put_open, PutsAt, Store}
+use Rattle.gql_merged.specs.Standing.{IsStored, present, put_open, Store}
 use Rattle.gql_merged.specs.Within.{IsWithin}
 use Rattle.gql_merged.specs.declared.kept.Filled.{Filled}
 use Rattle.gql_merged.specs.declared.kept.Kept.{Kept}
@@ -58,13 +58,6 @@ module _ {V : Type 0} where
   -- the same with no tasks beneath it
   abbrev pub IsMadeAlone : Filled V → Piece → Type 0
   IsMadeAlone filled piece = IsMade filled [] piece
-
-  -- the place of a task with no tasks beneath it is put
-  pub record IsPutAlone (filled : Filled V) (number : ℕ) (places places' : List (Option Piece))
-      : Type 0 where
-    pub piece : Piece
-    pub made : IsMadeAlone filled piece
-    pub puts : PutsAt (Some piece) number places places'
 
   -- the place of a task is put where it is open, of the places beneath it, which are taken off
   pub record IsPutOpen (kept : Kept V) (places places' : List (Option Piece)) : Type 0 where

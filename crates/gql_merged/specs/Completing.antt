@@ -3,18 +3,18 @@ use Rattle.std.specs.Prelude.{◌≡◌, ℕ, true, false, List, Option, Some, N
 use Rattle.gql_base.specs.Kinds.{enum_name_of, is_null}
 use Rattle.gql_base.specs.declared.error.Error.{Error}
 use Rattle.gql_base.specs.declared.value.Value.{Value}
+use Rattle.gql_base.specs.declared.value.Value.TheVariants as value_kind
 use Rattle.gql_meaning.specs.Completion.{at_enum, at_items, at_scalar, Completed, Completing, shown}
 use Rattle.gql_place.specs.declared.shape.Shape.TheVariants as shape
 use Rattle.gql_resolve.specs.FieldValue.{value_in}
 use Rattle.gql_resolve.specs.declared.field_value.FieldValue.{FieldValue}
 use Rattle.gql_schema.specs.ScalarRule.{takes}
 use Rattle.gql_schema.specs.declared.scalar_rule.ScalarRule.{ScalarRule}
-use Rattle.gql_merged.specs.Stored.{Bare}
 
--- a value as a leaf, as it stands
-abbrev pub leaf_of : Option Value → Bare
-leaf_of None = shape.Absent
-leaf_of (Some value) = shape.Leaf value
+-- the value of a leaf, as it stands
+abbrev pub leaf_of : Option Value → Value
+leaf_of None = value_kind.Null
+leaf_of (Some value) = value
 
 -- a value is a leaf of the scalar of this name and rule as it stands
 pub record IsShown (name : List ℕ) (rule : ScalarRule) (value : Value) : Type 0 where
@@ -39,18 +39,16 @@ module _ {V : Type 0} where
   abbrev pub item_at : List ℕ → List (List ℕ) → Value → Completed V
   item_at name items value = absent_if_null value (at_enum name items (enum_name_of value))
 
-  -- the value of what is given as a leaf, if anything is
-  abbrev pub leaf_given : Option (FieldValue V) → Bare
-  leaf_given None = shape.Absent
+  -- the same of what is given, if anything is
+  abbrev pub leaf_given : Option (FieldValue V) → Value
+  leaf_given None = value_kind.Null
   leaf_given (Some given) = leaf_of (value_in given)
 
   -- the same of what a resolver's result gives
-  abbrev pub leaf_in : Result (Option (FieldValue V)) Error → Bare
-  leaf_in (Err error) = shape.Absent
+  abbrev pub leaf_in : Result (Option (FieldValue V)) Error → Value
+  leaf_in (Err error) = value_kind.Null
   leaf_in (Ok given) = leaf_given given
 
-  -- what is given comes to the leaf that it is as it stands
-  pub record IsLeaf (whole : Completed V) (left : Bare) : Type 0 where
-    pub value : Value
-    pub whole_is : whole ≡ shape.Leaf value
-    pub left_is : left ≡ shape.Leaf value
+  -- what is given comes to the leaf of this value
+  abbrev pub IsLeaf : Completed V → Value → Type 0
+  IsLeaf whole value = whole ≡ shape.Leaf value

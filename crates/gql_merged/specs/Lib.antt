@@ -18,6 +18,7 @@ pub mod KeyNames
 pub mod Keys
 pub mod Known
 pub mod Levels
+pub mod Listed
 pub mod Merged
 pub mod MergedLaws
 pub mod NeverRoots

@@ -1,5 +1,5 @@
 -- Paths by their steps.
-use Rattle.std.specs.Prelude.{ℕ, suc, List, ◌∷◌, ◌++◌, drop, map, take}
+use Rattle.std.specs.Prelude.{ℕ, suc, List, [], ◌∷◌, ◌++◌, Option, Some, None, drop, map, take}
 use Rattle.gql_base.specs.declared.path_segment.PathSegment.{PathSegment}
 use Rattle.gql_base.specs.declared.path_segment.PathSegment.TheVariants as segment
 use Rattle.gql_merged.specs.declared.step.Step.{Step}
@@ -13,6 +13,11 @@ segment_of (step.Index index) = segment.Index index
 -- the path of these steps
 abbrev pub path_of : List Step → List PathSegment
 path_of steps = map segment_of steps
+
+-- the step to the item of this index, if there is one
+abbrev pub index_step : Option ℕ → List Step
+index_step None = []
+index_step (Some index) = step.Index index ∷ []
 
 -- a path with this segment at a place, over the one that stands there, or behind all
 abbrev pub written : ℕ → PathSegment → List PathSegment → List PathSegment

@@ -1,27 +1,21 @@
 //! What a task comes to with what it is given, and the tasks beneath it.
-ghost use Rattle.std.specs.Prelude.{◌≡◌, ◌++◌, true, map, IfOk, OnOk};
+ghost use Rattle.std.specs.Prelude.{◌≡◌, ◌++◌, true, IfOk, OnOk};
 ghost use Rattle.std.specs.List.{AllByRecursion};
 ghost use Rattle.gql_merged.specs.Asks.{is_call};
 ghost use Rattle.gql_merged.specs.Fitting.{IsFilled, IsFilledWith, made_beneath, put_shape};
 ghost use Rattle.gql_merged.specs.Jobs.{jobs_beneath};
-ghost use Rattle.gql_merged.specs.Parents.{spot_found};
-ghost use Rattle.gql_merged.specs.Stored.{bare, spots};
-ghost use Rattle.gql_merged.specs.Tasks.{IsDeep, job_of_task, jobs_in, job_with, path_with};
+ghost use Rattle.gql_merged.specs.Tasks.{IsDeep, job_of_task, jobs_in, job_with};
 
-use crate::completing::complete_known;
 use crate::kept::Filled;
 use crate::known::Known;
-use crate::leaves::{is_leaf, leaf_in};
 use crate::level::Node;
-use crate::parent::{Found, Held, Parent};
-use crate::paths::steps_with;
-use crate::standing::place_found;
-use crate::storing::store;
+use crate::parent::Parent;
+use crate::placing::place_answer;
 use crate::task::Task;
-use gql_base::{Error, Items, Made, Name, Value};
+use gql_base::{Error, Items, Made, Value};
 use gql_engine::Given;
 use gql_place::Shape;
-use gql_resolve::{Answer, FieldValue};
+use gql_resolve::Answer;
 use std::alloc::Global;
 
 /// What a task comes to with what it is given. The tasks beneath it are made behind the others.
@@ -73,57 +67,16 @@ fn fill_answer<'a, V: Drop>(
         name: ty.type_name(),
         ty: node.ty,
     };
-    if is_leaf(&known, ty, &result) {
-        return Ok(Filled {
-            pos: node.group.first.pos,
-            non_null: !ty.is_nullable(),
-            added,
-            headers,
-            whole: node.basis.grouping.keeps_whole(),
-            shape: leaf_in(result),
-            parents: Vec::new(alloc),
-        });
-    }
-    let whole = complete_known(alloc, &known, ty, result)?;
-    let mut found = Vec::new(alloc);
-    let shape = take_apart(alloc, &parent.held, node, whole, &mut found)?;
-    let parents = place_found(alloc, node, found, tasks)?;
+    let placed = place_answer(alloc, &parent.held, node, &known, ty, result, tasks)?;
     Ok(Filled {
         pos: node.group.first.pos,
         non_null: !ty.is_nullable(),
         added,
         headers,
         whole: node.basis.grouping.keeps_whole(),
-        shape,
-        parents,
+        shape: placed.shape,
+        parents: placed.parents,
     })
-}
-
-/// What is left of a completed answer without its objects, which are found at their paths.
-fn take_apart<'a, V: Drop>(
-    alloc: Global,
-    held: &Held<'a, V>,
-    node: &Node<'a>,
-    shape: Shape<Name, FieldValue<V>>,
-    found: &mut Vec<Found<'a, V>>,
-) -> Made<Shape<(), ()>>
-    ensures bare { IfOk result (λ left. left ≡ bare shape) }
-    ensures found { OnOk result (map spot_found found.new.items ≡ map spot_found found.old.items
-        ++ spots shape (path_with held.entry.now node.entry.now)) }
-{
-    match shape {
-        Shape::Absent => Ok(Shape::Absent),
-        Shape::Leaf(value) => Ok(Shape::Leaf(value)),
-        Shape::Fault(error) => Ok(Shape::Fault(error)),
-        Shape::Object(object, value) => {
-            let mut path = steps_with(alloc, held, node)?;
-            store(alloc, Shape::Object(object, value), &mut path, found)
-        }
-        Shape::List(non_null, items) => {
-            let mut path = steps_with(alloc, held, node)?;
-            store(alloc, Shape::List(non_null, items), &mut path, found)
-        }
-    }
 }
 
 /// What a task comes to with what a hook puts in the place of its answer.

@@ -17,6 +17,13 @@ pub struct Filled<'a, V> {
     pub parents: Vec<Rc<Parent<'a, V>>>,
 }
 
+/// An answer without its objects, and these, each with its fields.
+#[derive(Drop)]
+pub struct Placed<'a, V> {
+    pub shape: Shape<(), ()>,
+    pub parents: Vec<Rc<Parent<'a, V>>>,
+}
+
 /// What is kept of a task: its number, the number of the first task beneath it, their count, and
 /// what it came to.
 #[derive(Drop)]

@@ -201,7 +201,8 @@ fn is_possible_object(types: &Types, name: &str, object: &str) -> bool
     is_object(types.get(object)) && types.covers(Some(name), object)
 }
 
-fn is_object(ty: Option<&SchemaType>) -> bool
+/// Whether an object type was looked up.
+pub(crate) fn is_object(ty: Option<&SchemaType>) -> bool
     ensures { result ≡ is_known_object (option_copied ty.entry) }
 {
     match ty {

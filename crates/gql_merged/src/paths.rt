@@ -1,9 +1,9 @@
 //! The paths of tasks.
-ghost use Rattle.std.specs.Prelude.{◌≡◌, ◌<◌, ◌≤◌, length, IfOk, OnOk};
+ghost use Rattle.std.specs.Prelude.{◌≡◌, ◌<◌, ◌≤◌, [], ◌∷◌, ◌++◌, drop, length, take, IfOk, OnOk};
 ghost use Rattle.gql_base.specs.declared.path_segment.PathSegment.TheVariants.{Field};
 ghost use Rattle.gql_merged.specs.Groups.{united};
-ghost use Rattle.gql_merged.specs.Parents.{steps_to, value_of};
-ghost use Rattle.gql_merged.specs.Steps.{path_of, segment_of, written};
+ghost use Rattle.gql_merged.specs.Parents.{index_of, steps_before, value_of};
+ghost use Rattle.gql_merged.specs.Steps.{index_step, path_of, segment_of, written};
 ghost use Rattle.gql_merged.specs.Tasks.{path_with};
 ghost use Rattle.gql_engine.specs.Path.{key_text};
 
@@ -21,17 +21,27 @@ pub(crate) fn value_in<'c, 'a, V>(held: &'c Held<'a, V>) -> &'c FieldValue<V>
 {
     match held {
         Held::Root(root) => *root,
-        Held::Found(found) => &found.value,
+        Held::Found(value, _) => value,
     }
 }
 
-/// The steps to the object whose fields are asked.
+/// The steps to the object whose fields are asked, or to the list of which it is an item.
 fn steps_in<'c, 'a, V>(held: &'c Held<'a, V>) -> &'c [Step<'a>]
-    ensures { result.now ≡ steps_to held.now }
+    ensures { result.now ≡ steps_before held.now }
 {
     match held {
         Held::Root(_) => &[],
-        Held::Found(found) => found.path.as_slice(),
+        Held::Found(_, trail) => trail.steps.as_slice(),
+    }
+}
+
+/// The index of that object in its list.
+fn index_in<V>(held: &Held<'_, V>) -> Option<usize>
+    ensures { result ≡ index_of held.now }
+{
+    match held {
+        Held::Root(_) => None,
+        Held::Found(_, trail) => trail.index,
     }
 }
 
@@ -54,13 +64,26 @@ pub(crate) fn steps_with<'a, V>(
     ensures some { IfOk result (λ steps. 0 < length steps.items) }
 {
     let mut steps = copy_steps(alloc, steps_in(held))?;
+    push_index(&mut steps, index_in(held))?;
     steps.push(Step::Key(key_at(node)))?;
     Ok(steps)
 }
 
+/// Adds the step to the item of an index, if there is one.
+fn push_index(steps: &mut Vec<Step<'_>>, index: Option<usize>) -> Made<()>
+    ensures { OnOk result (steps.new.items ≡ steps.old.items ++ index_step index) }
+{
+    match index {
+        None => Ok(()),
+        Some(index) => {
+            steps.push(Step::Index(index))?;
+            Ok(())
+        }
+    }
+}
+
 /// Writes the path of a field of an object over what stands in the buffer, segment by segment, so
 /// that each text is written in the memory of the one that stood there.
-#[tactic(auto, using(crate::proofs::PathLemmas::written_ends))]
 pub(crate) fn write_path<V>(
     alloc: Global,
     held: &Held<'_, V>,
@@ -70,11 +93,37 @@ pub(crate) fn write_path<V>(
     ensures { OnOk result (path.new.items ≡ path_with held.now node.now) }
 {
     let steps = steps_in(held);
-    path.truncate(steps.len() + 1);
+    write_steps(alloc, steps, path)?;
+    match index_in(held) {
+        None => write_last(alloc, path, steps.len(), Step::Key(key_at(node))),
+        Some(index) => {
+            write_step(alloc, path, steps.len(), Step::Index(index))?;
+            write_last(alloc, path, steps.len() + 1, Step::Key(key_at(node)))
+        }
+    }
+}
+
+/// Writes steps over the front of a path.
+#[tactic(auto, using(crate::proofs::PathLemmas::front_ends))]
+fn write_steps(alloc: Global, steps: &[Step<'_>], path: &mut Vec<PathSegment>) -> Made<()>
+    ensures { OnOk result (path.new.items
+        ≡ path_of steps.entry.now ++ drop (length steps.entry.now) path.old.items) }
+{
     for (place, step) in steps.iter().enumerate() {
         write_step(alloc, path, place, *step)?;
     }
-    write_step(alloc, path, steps.len(), Step::Key(key_at(node)))
+    Ok(())
+}
+
+/// Writes a step at a place of a path, with nothing behind it.
+#[tactic(auto, using(crate::proofs::PathLemmas::written_last))]
+fn write_last(alloc: Global, path: &mut Vec<PathSegment>, place: usize, step: Step<'_>) -> Made<()>
+    requires { place ≤ length path.old.items }
+    ensures { OnOk result (path.new.items
+        ≡ take place path.old.items ++ segment_of step.entry ∷ []) }
+{
+    path.truncate(place + 1);
+    write_step(alloc, path, place, step)
 }
 
 /// Writes a step at a place of a path, over what stands there, or behind all.

@@ -60,12 +60,17 @@ fn parent_of<'a, V: Drop>(
     ensures jobs { IfOk result (λ parent. jobs_here parent.value
         ≡ jobs_of_standing (standing_behind parent)) }
 {
-    let level = level_beneath(alloc, node, found.object.as_str(), levels)?;
+    let Found {
+        object,
+        value,
+        trail,
+    } = found;
+    let level = level_beneath(alloc, node, object.as_str(), levels)?;
     let parent = Rc::new(
         alloc,
         Parent {
             level,
-            held: Held::Found(found),
+            held: Held::Found(value, trail),
         },
     )?;
     Ok(parent)
@@ -118,7 +123,7 @@ fn add_level<'a>(
 }
 
 /// The fields of the objects of a name beneath a field.
-fn make_level<'a>(alloc: Global, node: &Node<'a>, object: &str) -> Made<Level<'a>>
+pub(crate) fn make_level<'a>(alloc: Global, node: &Node<'a>, object: &str) -> Made<Level<'a>>
     ensures { IfOk result (λ level. IsBeneath node.entry.now object.now level) }
 {
     let fields = fields_beneath(alloc, &node.basis, object, &node.group)?;

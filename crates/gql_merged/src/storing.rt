@@ -1,16 +1,17 @@
 //! Completed answers, taken apart: their objects go into one list, and what is left has no object's
 //! value any more.
 ghost use Rattle.std.specs.Prelude.{◌≡◌, ◌<◌, [], ◌∷◌, ◌++◌, length, map, IfOk, OnOk};
-ghost use Rattle.gql_merged.specs.Parents.{spot_found};
+ghost use Rattle.gql_merged.specs.Parents.{spot_found, steps_by};
 ghost use Rattle.gql_merged.specs.Steps.{path_of};
 ghost use Rattle.gql_merged.specs.Stored.{bare, numbered, spots};
 
-use crate::parent::Found;
+use crate::parent::{Found, Trail};
 use crate::step::Step;
 use gql_base::{Items, Made, Name};
 use gql_place::Shape;
 use gql_resolve::FieldValue;
 use std::alloc::Global;
+use std::rc::Rc;
 
 /// Stores the objects of a completed answer at a path.
 #[cycle(store)]
@@ -93,13 +94,22 @@ fn add_found<'a, V: Drop>(
     ensures { OnOk result (map spot_found found.new.items ≡ map spot_found found.old.items
         ++ record { object = object; parent = value; path = path_of path.entry.now } ∷ []) }
 {
-    let path = copy_steps(alloc, path)?;
+    let trail = trail_along(alloc, path)?;
     found.push(Found {
         object,
         value,
-        path,
+        trail,
     })?;
     Ok(())
+}
+
+/// The way along steps.
+fn trail_along<'a>(alloc: Global, steps: &[Step<'a>]) -> Made<Trail<'a>>
+    requires { 0 < length steps.now }
+    ensures { IfOk result (λ trail. steps_by trail ≡ steps.entry.now) }
+{
+    let steps = Rc::new(alloc, copy_steps(alloc, steps)?)?;
+    Ok(Trail { steps, index: None })
 }
 
 /// A copy of steps.

@@ -9,7 +9,8 @@ ghost use Rattle.gql_merged.specs.declared.task.Task.{Task as TaskOf};
 
 use crate::assembling::{open_place, piece_alone, put_place_at};
 use crate::giving::fill_given;
-use crate::kept::{Filled, Kept};
+use crate::kept::Kept;
+use crate::leaves::leaf_alone;
 use crate::level::Node;
 use crate::paths::{value_in, write_path};
 use crate::task::Task;
@@ -45,7 +46,7 @@ pub struct TreePlan<'a, V> {
 impl<'a, V: Drop> TreePlan<'a, V> {
     ghost use Rattle.std.specs.Prelude.{ℕ, ◌≡◌, ◌<◌, ◌++◌, ◌∷◌, [], Ok, None, Some, length, OnOk};
     ghost use Rattle.gql_engine.specs.declared.given.Given.TheVariants.{Put};
-    ghost use Rattle.gql_merged.specs.Assembling.{IsPutAlone};
+    ghost use Rattle.gql_merged.specs.Standing.{PutsAt};
     ghost use Rattle.gql_merged.specs.Holds.{HoldsSince, store_in};
     ghost use Rattle.gql_merged.specs.Tasks.{job_of_task, jobs_in};
 
@@ -96,18 +97,15 @@ impl<'a, V: Drop> TreePlan<'a, V> {
         (kept, places)
     }
 
-    /// Puts the place of a task that came to no object.
-    #[tactic(auto, using(crate::proofs::PutLemmas::alone_put))]
-    fn put_alone(&mut self, alloc: Global, number: usize, filled: Filled<'a, V>) -> Made<()>
-        requires within { number < length self.old.tasks.items }
-        requires alone { filled.parents.items ≡ [] }
+    /// Puts what is kept of the place of a task.
+    fn put_piece(&mut self, number: usize, piece: Piece) -> Made<()>
+        requires { number < length self.old.tasks.items }
         ensures tasks { self.new.tasks ≡ self.old.tasks }
         ensures kept { self.new.kept ≡ self.old.kept }
         ensures base { self.new.base ≡ self.old.base }
-        ensures puts { OnOk result (IsPutAlone filled.entry number
+        ensures puts { OnOk result (PutsAt (Some piece) number
             self.old.places.items self.new.places.items) }
     {
-        let piece = piece_alone(alloc, filled)?;
         put_place_at(&mut self.places, number, piece)?;
         Ok(())
     }
@@ -192,11 +190,18 @@ impl<'a, V: Drop> Plan<V> for TreePlan<'a, V> {
             → HoldsSince self.new.base (jobs_in self.new.tasks.items)
             (store_in self.new.kept.items self.new.places.items) other g) }
     {
+        let given = match leaf_alone(alloc, &self.tasks[number], given) {
+            Ok(value) => {
+                self.put_piece(number, Piece::Data(value))?;
+                return Ok(0);
+            }
+            Err(given) => given,
+        };
         let first = self.tasks.len();
         let mut more = Vec::new(alloc);
         let filled = fill_given(alloc, &self.tasks[number], given, &mut more)?;
         if filled.parents.is_empty() {
-            self.put_alone(alloc, number, filled)?;
+            self.put_piece(number, piece_alone(alloc, filled)?)?;
             return Ok(0);
         }
         let count = more.len();

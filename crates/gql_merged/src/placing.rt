@@ -1,0 +1,122 @@
+//! The objects of an answer, each with its fields and its tasks, and what is left of the answer.
+ghost use Rattle.std.specs.Prelude.{◌≡◌, ◌++◌, map, IfOk, OnOk};
+ghost use Rattle.std.specs.List.{flat_map};
+ghost use Rattle.gql_base.specs.TypeRef.{innermost};
+ghost use Rattle.gql_meaning.specs.Completion.{shape_of};
+ghost use Rattle.gql_schema.specs.Table.{types_of};
+ghost use Rattle.gql_select.specs.Collected.{own_selections};
+ghost use Rattle.gql_merged.specs.Groups.{united};
+ghost use Rattle.gql_merged.specs.Listed.{AreBelow};
+ghost use Rattle.gql_merged.specs.Parents.{jobs_of_standing, spot_found, standing_at};
+ghost use Rattle.gql_merged.specs.Parents.{standing_behind};
+ghost use Rattle.gql_merged.specs.Stored.{bare, spots};
+ghost use Rattle.gql_merged.specs.Tasks.{jobs_in, path_with};
+
+use crate::completing::complete_known;
+use crate::kept::Placed;
+use crate::known::Known;
+use crate::level::Node;
+use crate::list_objects::place_list;
+use crate::object_lists::object_list;
+use crate::parent::{Found, Held};
+use crate::paths::steps_with;
+use crate::standing::place_found;
+use crate::storing::store;
+use crate::task::Task;
+use gql_base::{Error, Made, Name, TypeRef};
+use gql_place::Shape;
+use gql_resolve::FieldValue;
+use std::alloc::Global;
+
+/// What a result comes to at a type, without its objects, and these, each with its tasks behind the
+/// others. A list of objects of one name, which most with many objects are, needs no completion.
+pub(crate) fn place_answer<'a, V: Drop>(
+    alloc: Global,
+    held: &Held<'a, V>,
+    node: &Node<'a>,
+    known: &Known<'_>,
+    ty: &TypeRef,
+    outcome: Result<Option<FieldValue<V>>, Error>,
+    tasks: &mut Vec<Task<'a, V>>,
+) -> Made<Placed<'a, V>>
+    requires { known.now.name.now ≡ innermost ty.now }
+    ensures shape { IfOk result (λ placed. placed.shape
+        ≡ bare (shape_of (types_of known.now.types.now) ty.now outcome)) }
+    ensures parents { IfOk result (λ placed. map standing_behind placed.parents.items
+        ≡ map (standing_at node.entry.now.basis (own_selections (united node.entry.now.group)))
+        (spots (shape_of (types_of known.now.types.now) ty.now outcome)
+        (path_with held.entry.now node.entry.now))) }
+    ensures tasks { OnOk result (jobs_in tasks.new.items ≡ jobs_in tasks.old.items
+        ++ flat_map jobs_of_standing
+        (map (standing_at node.entry.now.basis (own_selections (united node.entry.now.group)))
+        (spots (shape_of (types_of known.now.types.now) ty.now outcome)
+        (path_with held.entry.now node.entry.now)))) }
+    ensures below { OnOk result (AreBelow
+        (spots (shape_of (types_of known.now.types.now) ty.now outcome)
+        (path_with held.entry.now node.entry.now))) }
+{
+    match object_list(known, ty, &outcome) {
+        Some(non_null) => place_list(alloc, held, node, known.name, non_null, outcome, tasks),
+        None => place_completed(alloc, held, node, known, ty, outcome, tasks),
+    }
+}
+
+/// The same of any result, which is completed first.
+fn place_completed<'a, V: Drop>(
+    alloc: Global,
+    held: &Held<'a, V>,
+    node: &Node<'a>,
+    known: &Known<'_>,
+    ty: &TypeRef,
+    outcome: Result<Option<FieldValue<V>>, Error>,
+    tasks: &mut Vec<Task<'a, V>>,
+) -> Made<Placed<'a, V>>
+    requires { known.now.name.now ≡ innermost ty.now }
+    ensures shape { IfOk result (λ placed. placed.shape
+        ≡ bare (shape_of (types_of known.now.types.now) ty.now outcome)) }
+    ensures parents { IfOk result (λ placed. map standing_behind placed.parents.items
+        ≡ map (standing_at node.entry.now.basis (own_selections (united node.entry.now.group)))
+        (spots (shape_of (types_of known.now.types.now) ty.now outcome)
+        (path_with held.entry.now node.entry.now))) }
+    ensures tasks { OnOk result (jobs_in tasks.new.items ≡ jobs_in tasks.old.items
+        ++ flat_map jobs_of_standing
+        (map (standing_at node.entry.now.basis (own_selections (united node.entry.now.group)))
+        (spots (shape_of (types_of known.now.types.now) ty.now outcome)
+        (path_with held.entry.now node.entry.now)))) }
+    ensures below { OnOk result (AreBelow
+        (spots (shape_of (types_of known.now.types.now) ty.now outcome)
+        (path_with held.entry.now node.entry.now))) }
+{
+    let whole = complete_known(alloc, known, ty, outcome)?;
+    let mut found = Vec::new(alloc);
+    let shape = take_apart(alloc, held, node, whole, &mut found)?;
+    let parents = place_found(alloc, node, found, tasks)?;
+    Ok(Placed { shape, parents })
+}
+
+/// What is left of a completed answer without its objects, which are found at their paths.
+fn take_apart<'a, V: Drop>(
+    alloc: Global,
+    held: &Held<'a, V>,
+    node: &Node<'a>,
+    shape: Shape<Name, FieldValue<V>>,
+    found: &mut Vec<Found<'a, V>>,
+) -> Made<Shape<(), ()>>
+    ensures bare { IfOk result (λ left. left ≡ bare shape) }
+    ensures found { OnOk result (map spot_found found.new.items ≡ map spot_found found.old.items
+        ++ spots shape (path_with held.entry.now node.entry.now)) }
+{
+    match shape {
+        Shape::Absent => Ok(Shape::Absent),
+        Shape::Leaf(value) => Ok(Shape::Leaf(value)),
+        Shape::Fault(error) => Ok(Shape::Fault(error)),
+        Shape::Object(object, value) => {
+            let mut path = steps_with(alloc, held, node)?;
+            store(alloc, Shape::Object(object, value), &mut path, found)
+        }
+        Shape::List(non_null, items) => {
+            let mut path = steps_with(alloc, held, node)?;
+            store(alloc, Shape::List(non_null, items), &mut path, found)
+        }
+    }
+}
