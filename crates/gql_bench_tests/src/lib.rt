@@ -6,8 +6,6 @@ mod asking;
 #[cfg(test)]
 mod bench_tests;
 #[cfg(test)]
-mod mutation_tests;
-#[cfg(test)]
 mod parts;
 #[cfg(test)]
 mod place_tests;

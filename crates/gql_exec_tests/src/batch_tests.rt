@@ -68,16 +68,12 @@ fn answer(alloc: Global, queries: &[&str]) -> Result<Option<(Text, usize)>, Batc
 /// A batch that is tried.
 #[derive(Clone, Copy)]
 enum Case {
-    Empty,
-    One,
     Voting,
     Refused,
 }
 
 /// The queries of a batch, the responses to them, and how many polls are told.
-const CASES: [(Case, &str, usize); 4] = [
-    (Case::Empty, "[]", 0),
-    (Case::One, "[{\"data\":{\"last\":7}}]", 2),
+const CASES: [(Case, &str, usize); 2] = [
     (
         Case::Voting,
         "[{\"data\":{\"last\":7}},{\"data\":{\"vote\":7}},{\"data\":{\"last\":3}}]",
@@ -108,8 +104,6 @@ fn is_answered(
 /// Whether the batch of a case has these responses.
 fn is_right(alloc: Global, case: Case, json: &str, polls: usize) -> Result<bool, BatchNoMemory> {
     match case {
-        Case::Empty => is_answered(alloc, &[], json, polls),
-        Case::One => is_answered(alloc, &["{ last }"], json, polls),
         Case::Voting => is_answered(
             alloc,
             &["{ last }", "mutation { vote }", "{ last }"],

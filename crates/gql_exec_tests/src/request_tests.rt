@@ -2,7 +2,7 @@
 use crate::ballot::{Ballot, Last};
 use gql_base::{Made, NoMemory, Text, TypeRef};
 use gql_exec::{DynamicRequest, Schema};
-use gql_request::{Data, Hooks, Request};
+use gql_request::{Hooks, Request};
 use gql_schema::{Field, Object, SchemaType};
 use std::alloc::{AllocError, Global};
 use std::test::Fail;
@@ -80,8 +80,8 @@ fn query_is_answered(
     is_answered(alloc, apart, Request::new(alloc, query)?, json, polls)
 }
 
-/// Requests that are admitted, and refused ones, whose set is never asked.
-const ANSWERS: [(&str, &str, usize); 9] = [
+/// Requests that are admitted, and a refused one, whose set is never asked.
+const ANSWERS: [(&str, &str, usize); 4] = [
     ("{ value }", "{\"data\":{\"value\":7}}", 2),
     (
         "{ a: value __typename b: value }",
@@ -94,36 +94,9 @@ const ANSWERS: [(&str, &str, usize); 9] = [
         0,
     ),
     (
-        "{ % }",
-        "{\"data\":null,\"errors\":[{\"message\":\"Syntax error: unexpected character\",\
-\"locations\":[{\"line\":1,\"column\":3}]}]}",
-        0,
-    ),
-    (
         "{ nope }",
         "{\"data\":null,\"errors\":[{\"message\":\"Unknown field \\\"nope\\\" on type \\\"Query\\\".\",\
 \"locations\":[{\"line\":1,\"column\":3}]}]}",
-        0,
-    ),
-    (
-        "query A { value } query B { value }",
-        "{\"data\":null,\"errors\":[{\"message\":\"Operation name required in request.\"}]}",
-        0,
-    ),
-    (
-        "subscription { value }",
-        "{\"data\":null,\"errors\":[{\"message\":\"Subscriptions are not supported on this transport.\"}]}",
-        0,
-    ),
-    (
-        "mutation { value }",
-        "{\"data\":null,\"errors\":[{\"message\":\"Mutation root not found\"}]}",
-        0,
-    ),
-    (
-        "{ ...F } fragment F on Query { ...F }",
-        "{\"data\":null,\"errors\":[{\"message\":\"The recursion depth of the query cannot be greater than `32`\",\
-\"locations\":[{\"line\":1,\"column\":30}]}]}",
         0,
     ),
 ];
@@ -162,37 +135,5 @@ fn requests_that_are_executed_apart(rt: HostRuntime) -> Result<(), Fail> {
             "at {query}"
         );
     }
-    Ok(())
-}
-
-/// Whether a request for the schema alone asks no resolver.
-fn asks_for_the_schema(alloc: Global) -> Result<bool, NoMemory> {
-    let request = Request::new(alloc, "{ __typename value }")?.only_introspection();
-    let json = "{\"data\":{\"__typename\":\"Query\",\"value\":null}}";
-    is_answered(alloc, false, request, json, 0)
-}
-
-#[test]
-fn a_request_for_the_schema_alone(rt: HostRuntime) -> Result<(), Fail> {
-    assert!(rt; asks_for_the_schema(rt.alloc()).map_err(|_| AllocError)?);
-    Ok(())
-}
-
-/// Whether a request is made ready, with so many levels of sets.
-fn is_ready(alloc: Global, query: &str, levels: usize) -> Made<bool> {
-    let Some(schema) = schema(alloc)? else {
-        return Ok(false);
-    };
-    let request = Request::new(alloc, query)?;
-    let ready = schema.ready(alloc, &mut Hooks::none(alloc), &request, &Data::new(alloc))?;
-    match ready {
-        Ok(ready) => Ok(ready.env.levels() == levels && ready.entities.is_none()),
-        Err(_) => Ok(false),
-    }
-}
-
-#[test]
-fn a_request_is_made_ready(rt: HostRuntime) -> Result<(), Fail> {
-    assert!(rt; is_ready(rt.alloc(), "{ value }", 33)?);
     Ok(())
 }

@@ -22,18 +22,6 @@ fn sound(alloc: Global) -> Made<SchemaBuilder> {
     builder(alloc, "Int")
 }
 
-/// A builder whose field has a type that isn't registered.
-fn unsound(alloc: Global) -> Made<SchemaBuilder> {
-    builder(alloc, "Nothing")
-}
-
-/// A builder whose `Query` was registered twice: the second one stands.
-fn replaced(alloc: Global) -> Made<SchemaBuilder> {
-    let field = Field::new(alloc, "f", TypeRef::named(alloc, "Nothing")?, 0)?;
-    let query = Object::new(alloc, "Query")?.field(alloc, field)?;
-    sound(alloc)?.register(alloc, SchemaType::Object(query))
-}
-
 /// A builder with all that a schema can be told.
 fn full(alloc: Global) -> Made<SchemaBuilder> {
     Ok(
@@ -46,19 +34,6 @@ fn full(alloc: Global) -> Made<SchemaBuilder> {
     )
 }
 
-/// An object type with a key.
-fn entity(alloc: Global) -> Made<SchemaType> {
-    let field = Field::new(alloc, "id", TypeRef::named(alloc, "ID")?, 0)?;
-    let object = Object::new(alloc, "Keyed")?.field(alloc, field)?;
-    Ok(SchemaType::Object(object.key(alloc, "id")?))
-}
-
-/// A builder whose object has a key.
-fn keyed(alloc: Global) -> Made<SchemaBuilder> {
-    let entity = entity(alloc)?;
-    Ok(sound(alloc)?.register(alloc, entity)?.entity_resolver(4))
-}
-
 /// A copy of a builder whose requests may ask for the schema alone.
 fn copied(alloc: Global) -> Made<SchemaBuilder> {
     sound(alloc)?.introspection_only().try_clone(alloc)
@@ -69,17 +44,15 @@ fn copied(alloc: Global) -> Made<SchemaBuilder> {
 enum Case {
     Sound,
     Full,
-    Keyed,
     Copied,
 }
 
-const CASES: [Case; 4] = [Case::Sound, Case::Full, Case::Keyed, Case::Copied];
+const CASES: [Case; 3] = [Case::Sound, Case::Full, Case::Copied];
 
 fn build(alloc: Global, case: Case) -> Made<SchemaBuilder> {
     match case {
         Case::Sound => sound(alloc),
         Case::Full => full(alloc),
-        Case::Keyed => keyed(alloc),
         Case::Copied => copied(alloc),
     }
 }
@@ -89,7 +62,6 @@ fn is_of(case: Case, schema: &Schema) -> bool {
     match case {
         Case::Sound => is_plain(schema),
         Case::Full => is_full(schema),
-        Case::Keyed => has_entities(schema),
         Case::Copied => is_introspection_only(schema),
     }
 }
@@ -136,14 +108,6 @@ fn is_full(schema: &Schema) -> bool {
         && schema.entities(IntrospectionMode::Enabled) == None
 }
 
-/// Whether entities are resolved, but for requests without introspection.
-fn has_entities(schema: &Schema) -> bool {
-    has_type(schema, "_Entity")
-        && schema.entities(IntrospectionMode::Enabled) == Some(4)
-        && schema.entities(IntrospectionMode::IntrospectionOnly) == Some(4)
-        && schema.entities(IntrospectionMode::Disabled) == None
-}
-
 fn is_introspection_only(schema: &Schema) -> bool {
     schema.mode(IntrospectionMode::Disabled) == IntrospectionMode::IntrospectionOnly
 }
@@ -176,22 +140,6 @@ fn schemas_have_what_their_builders_were_told(rt: HostRuntime) -> Result<(), Fai
     Ok(())
 }
 
-/// Whether a builder is refused for its field's type, which isn't registered.
-fn is_refused(alloc: Global, builder: SchemaBuilder) -> Made<bool> {
-    match builder.finish(alloc)? {
-        Ok(_) => Ok(false),
-        Err(error) => Ok(error.rule == 1 && error.text.as_str() == "Type \"Nothing\" not found"),
-    }
-}
-
-#[test]
-fn unsound_tables_are_refused(rt: HostRuntime) -> Result<(), Fail> {
-    let alloc = rt.alloc();
-    assert!(rt; is_refused(alloc, unsound(alloc)?)?);
-    assert!(rt; is_refused(alloc, replaced(alloc)?)?);
-    Ok(())
-}
-
 /// A copy of a request whose root has the number 5.
 fn rooted(alloc: Global) -> Made<DynamicRequest<i64>> {
     let request = Request::new(alloc, "{ f }")?.root_value(FieldValue::own(5));
@@ -202,29 +150,9 @@ fn is_rooted(request: &DynamicRequest<i64>) -> bool {
     request.inner.query.as_str() == "{ f }" && request.root_value.as_own() == Some(&5)
 }
 
-/// A request that says nothing of its root.
-fn bare(alloc: Global) -> Made<DynamicRequest<i64>> {
-    Ok(DynamicRequest::from(Request::new(alloc, "{ f }")?))
-}
-
-/// Whether the root's value is null.
-fn is_bare(request: &DynamicRequest<i64>) -> bool {
-    match request.root_value.as_value() {
-        Some(Value::Null) => true,
-        _ => false,
-    }
-}
-
 #[test]
 fn a_request_has_the_value_of_its_root(rt: HostRuntime) -> Result<(), Fail> {
     let request = rooted(rt.alloc())?;
     assert!(rt; is_rooted(&request));
-    Ok(())
-}
-
-#[test]
-fn without_a_value_the_root_is_null(rt: HostRuntime) -> Result<(), Fail> {
-    let request = bare(rt.alloc())?;
-    assert!(rt; is_bare(&request));
     Ok(())
 }

@@ -1,7 +1,7 @@
 //! Enums of values that names stand for.
-use crate::error_tests::{expected, message_of};
+use crate::error_tests::message_of;
 use crate::input_type_tests::{heart, named, qualified, shown};
-use gql_base::{Made, Name, Number, Text, Value, literal_of};
+use gql_base::{Made, Name, Text, Value, literal_of};
 use gql_input::{
     EnumItem, EnumType, InputType, InputValueResult, enum_value, parse_enum, parse_enum_named,
 };
@@ -94,11 +94,6 @@ fn read_name(alloc: Global, name: &str) -> Made<Option<Colour>> {
     Ok(read(alloc, Value::Enum(Name::new(alloc, name)?))?.ok())
 }
 
-/// The colour of a name that stands in a string.
-fn read_text(alloc: Global, name: &str) -> Made<Option<Colour>> {
-    Ok(read(alloc, Value::String(Text::new(alloc, name)?))?.ok())
-}
-
 #[test]
 fn colours_of_names(rt: HostRuntime) -> Result<(), Fail> {
     let alloc = rt.alloc();
@@ -106,45 +101,9 @@ fn colours_of_names(rt: HostRuntime) -> Result<(), Fail> {
         ("RED", Some(Colour::Red)),
         ("GREEN", Some(Colour::Green)),
         ("BLUE", None),
-        ("red", None),
     ] {
         assert_eq!(rt; read_name(alloc, name)?, colour, "{name}");
-        assert_eq!(rt; read_text(alloc, name)?, colour, "{name}");
     }
-    Ok(())
-}
-
-/// The message of a refusal at the colours, or an empty text where there is none.
-fn refusal(alloc: Global, value: Value) -> Made<Text> {
-    match read(alloc, value)? {
-        Ok(_) => Text::new(alloc, ""),
-        Err(message) => Ok(message),
-    }
-}
-
-#[test]
-fn names_of_no_colour(rt: HostRuntime) -> Result<(), Fail> {
-    let alloc = rt.alloc();
-    let message = "Failed to parse \"Colour\": Enumeration type does not contain value \"BLUE\".";
-    let name = Value::Enum(Name::new(alloc, "BLUE")?);
-    assert_eq!(rt; refusal(alloc, name)?.as_str(), message);
-    let text = Value::String(Text::new(alloc, "BLUE")?);
-    assert_eq!(rt; refusal(alloc, text)?.as_str(), message);
-    Ok(())
-}
-
-#[test]
-fn values_that_are_no_names(rt: HostRuntime) -> Result<(), Fail> {
-    let alloc = rt.alloc();
-    let message = "Expected input type \"Colour\", found 1.";
-    let number = Value::Number(Number::from_i64(1));
-    assert_eq!(rt; refusal(alloc, number)?.as_str(), message);
-    let number = Value::Number(Number::from_i64(1));
-    assert_eq!(rt; expected::<Colour>(alloc, number)?.as_str(), message);
-    assert_eq!(rt;
-        refusal(alloc, Value::Null)?.as_str(),
-        "Expected input type \"Colour\", found null."
-    );
     Ok(())
 }
 
@@ -152,12 +111,6 @@ fn values_that_are_no_names(rt: HostRuntime) -> Result<(), Fail> {
 fn literal(alloc: Global, colour: Colour) -> Made<Text> {
     let value = enum_value(alloc, colour)?;
     literal_of(alloc, &value)
-}
-
-/// The colour that is read back from the value that stands for one.
-fn read_back(alloc: Global, colour: Colour) -> Made<Option<Colour>> {
-    let value = enum_value(alloc, colour)?;
-    Ok(read(alloc, value)?.ok())
 }
 
 #[test]
@@ -172,18 +125,8 @@ fn values_of_colours(rt: HostRuntime) -> Result<(), Fail> {
 }
 
 #[test]
-fn items_are_read_back(rt: HostRuntime) -> Result<(), Fail> {
-    let alloc = rt.alloc();
-    for item in Colour::items() {
-        assert_eq!(rt; read_back(alloc, item.value)?, Some(item.value));
-    }
-    Ok(())
-}
-
-#[test]
 fn names_of_the_type(rt: HostRuntime) -> Result<(), Fail> {
     assert_eq!(rt; named::<Colour>(), "Colour");
-    assert_eq!(rt; named::<Option<Colour>>(), "Colour");
     assert_eq!(rt; qualified::<Colour>(rt.alloc())?.as_str(), "Colour!");
     Ok(())
 }

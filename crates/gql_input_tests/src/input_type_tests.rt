@@ -1,6 +1,6 @@
 //! The input types, each public call once, at values that are made by small functions.
 use crate::error_tests::message_of;
-use gql_base::{Boxed, Made, Name, Number, Text, Value, literal_of};
+use gql_base::{Boxed, Made, Number, Text, Value, literal_of};
 use gql_input::InputType;
 use std::alloc::Global;
 use std::test::Fail;
@@ -43,68 +43,9 @@ fn values_of_options_and_boxes(rt: HostRuntime) -> Result<(), Fail> {
     let alloc = rt.alloc();
     let null = Some(Value::Null);
     assert_eq!(rt; given::<Option<i32>>(alloc, null)?.as_str(), "null");
-    assert_eq!(rt; given::<Option<bool>>(alloc, None)?.as_str(), "null");
     assert_eq!(rt; given::<Option<i32>>(alloc, number(-3))?.as_str(), "-3");
     let truth = Some(Value::Boolean(false));
     assert_eq!(rt; given::<Boxed<bool>>(alloc, truth)?.as_str(), "false");
-    Ok(())
-}
-
-#[test]
-fn numbers_out_of_range(rt: HostRuntime) -> Result<(), Fail> {
-    let alloc = rt.alloc();
-    for (value, text) in [
-        (2_147_483_647, "2147483647"),
-        (-2_147_483_648, "-2147483648"),
-        (
-            2_147_483_648,
-            "Expected input type \"Int\", found 2147483648.",
-        ),
-        (
-            -2_147_483_649,
-            "Expected input type \"Int\", found -2147483649.",
-        ),
-    ] {
-        assert_eq!(rt; given::<i32>(alloc, number(value))?.as_str(), text);
-    }
-    Ok(())
-}
-
-#[test]
-fn absent_values(rt: HostRuntime) -> Result<(), Fail> {
-    let alloc = rt.alloc();
-    assert_eq!(rt;
-        given::<i32>(alloc, None)?.as_str(),
-        "Expected input type \"Int\", found null."
-    );
-    assert_eq!(rt;
-        given::<bool>(alloc, None)?.as_str(),
-        "Expected input type \"Boolean\", found null."
-    );
-    assert_eq!(rt;
-        given::<Boxed<Text>>(alloc, None)?.as_str(),
-        "Expected input type \"String\", found null."
-    );
-    Ok(())
-}
-
-#[test]
-fn values_of_other_kinds(rt: HostRuntime) -> Result<(), Fail> {
-    let alloc = rt.alloc();
-    let text = string(alloc, "true")?;
-    assert_eq!(rt;
-        given::<bool>(alloc, text)?.as_str(),
-        "Expected input type \"Boolean\", found \"true\"."
-    );
-    let name = Some(Value::Enum(Name::new(alloc, "RED")?));
-    assert_eq!(rt;
-        given::<Text>(alloc, name)?.as_str(),
-        "Expected input type \"String\", found RED."
-    );
-    assert_eq!(rt;
-        given::<Option<bool>>(alloc, number(1))?.as_str(),
-        "Expected input type \"Boolean\", found 1."
-    );
     Ok(())
 }
 
@@ -125,7 +66,6 @@ fn hearts_of_values(rt: HostRuntime) -> Result<(), Fail> {
     assert_eq!(rt; heart(&7i32), Some(7));
     assert!(rt; is_own_heart(&Text::new(alloc, "a")?));
     assert_eq!(rt; heart(&Some(3i32)), Some(3));
-    assert_eq!(rt; heart::<i32, Option<i32>>(&None), None);
     assert_eq!(rt; heart(&Boxed::new(alloc, false)?), Some(false));
     Ok(())
 }
@@ -147,7 +87,6 @@ fn names_of_types(rt: HostRuntime) -> Result<(), Fail> {
     assert_eq!(rt; named::<Text>(), "String");
     assert_eq!(rt; named::<Option<Text>>(), "String");
     assert_eq!(rt; named::<Boxed<i32>>(), "Int");
-    assert_eq!(rt; named::<Boxed<Option<bool>>>(), "Boolean");
     Ok(())
 }
 

@@ -2,8 +2,7 @@
 ghost use Rattle.std.specs.Prelude.{◌≡◌, if◌then◌else◌};
 ghost use Rattle.gql_input_tests.specs.declared.scalar_tests.Switch.TheVariants.{On, Off};
 
-use crate::error_tests::message_of;
-use gql_base::{Made, Number, Text, Value, literal_of};
+use gql_base::{Made, Text, Value, literal_of};
 use gql_input::{InputValueError, InputValueResult, ScalarType};
 use std::alloc::Global;
 use std::test::Fail;
@@ -64,14 +63,6 @@ fn read<T: ScalarType + Drop>(alloc: Global, value: Value) -> Made<Option<T>> {
     Ok(T::parse(alloc, value)?.ok())
 }
 
-/// The message of a refusal at a scalar, or an empty text where there is none.
-fn refusal<T: ScalarType + Drop>(alloc: Global, value: Value) -> Made<Text> {
-    match T::parse(alloc, value)? {
-        Ok(_) => Text::new(alloc, ""),
-        Err(error) => message_of(alloc, error.retyped::<bool>()),
-    }
-}
-
 #[test]
 fn values_at_a_scalar(rt: HostRuntime) -> Result<(), Fail> {
     let alloc = rt.alloc();
@@ -80,10 +71,6 @@ fn values_at_a_scalar(rt: HostRuntime) -> Result<(), Fail> {
     let off = read::<Switch>(alloc, Value::Boolean(false))?;
     assert_eq!(rt; off, Some(Switch::Off));
     assert_eq!(rt; read::<Switch>(alloc, Value::Null)?, None);
-    assert_eq!(rt;
-        refusal::<Switch>(alloc, Value::Number(Number::from_i64(1)))?.as_str(),
-        "Expected input type \"Switch\", found 1."
-    );
     Ok(())
 }
 
@@ -94,10 +81,8 @@ fn is_valid<T: ScalarType>(value: &Value) -> bool {
 
 #[test]
 fn values_that_may_stand_at_a_scalar(rt: HostRuntime) -> Result<(), Fail> {
-    let text = Value::String(Text::new(rt.alloc(), "true")?);
     assert!(rt; is_valid::<Switch>(&Value::Boolean(false)));
     assert!(rt; !is_valid::<Switch>(&Value::Null));
-    assert!(rt; !is_valid::<Switch>(&text));
     Ok(())
 }
 

@@ -74,42 +74,6 @@ fn objects(rt: HostRuntime) -> Result<(), Fail> {
     Ok(())
 }
 
-/// The number of the argument `x`.
-fn argument(args: ObjectAccessor<'_>) -> Result<i64, AccessFault<'static>> {
-    Ok(args.try_get("x")?.i64()?)
-}
-
-/// The number of the argument `x` as a text, or the text of the fault.
-fn told(alloc: Global, args: ObjectAccessor<'_>) -> Made<Text> {
-    match argument(args) {
-        Ok(number) => Ok(Text::from_string(format!(in alloc; "{number}")?)),
-        Err(fault) => text_of(alloc, fault),
-    }
-}
-
-/// What is told of the argument `x` where one of a name has a value.
-fn told_of(alloc: Global, name: &str, value: Value) -> Made<Text> {
-    let mut members = Pairs::new(alloc);
-    members.add(Name::new(alloc, name)?, value)?;
-    told(alloc, ObjectAccessor::new(&members))
-}
-
-#[test]
-fn an_argument(rt: HostRuntime) -> Result<(), Fail> {
-    let alloc = rt.alloc();
-    let number = Value::Number(Number::from_i64(-5));
-    assert_eq!(rt; told_of(alloc, "x", number)?.as_str(), "-5");
-    assert_eq!(rt;
-        told_of(alloc, "x", Value::Boolean(true))?.as_str(),
-        "internal: not an signed integer"
-    );
-    assert_eq!(rt;
-        told_of(alloc, "y", Value::Null)?.as_str(),
-        "internal: key \"x\" not found"
-    );
-    Ok(())
-}
-
 /// Whether each reader of a list reads these items.
 fn reads_items(value: &Value) -> Result<bool, AccessFault<'static>> {
     let list = ValueAccessor::new(value).list()?;
@@ -157,7 +121,6 @@ fn texts(rt: HostRuntime) -> Result<(), Fail> {
 fn great_numbers(rt: HostRuntime) -> Result<(), Fail> {
     let number = Value::Number(Number::from_u64(u64::MAX));
     assert_eq!(rt; ValueAccessor::new(&number).u64().ok(), Some(u64::MAX));
-    assert!(rt; ValueAccessor::new(&number).i64().is_err());
     Ok(())
 }
 

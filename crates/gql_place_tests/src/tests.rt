@@ -14,10 +14,6 @@ const TWO_ERRORS: &str =
     "[{\"message\":\"beside\",\"locations\":[{\"line\":1,\"column\":3}],\"path\":[\"values\"]},\
     {\"message\":\"bad\",\"locations\":[{\"line\":1,\"column\":3}],\"path\":[\"values\",0]}]";
 
-/// The error of a second item.
-const SECOND_FAILS: &str =
-    "[{\"message\":\"bad\",\"locations\":[{\"line\":1,\"column\":3}],\"path\":[1]}]";
-
 /// A place that may be null.
 fn place(alloc: Global, tree: Tree) -> Place {
     Place {
@@ -121,21 +117,9 @@ fn joined_objects(alloc: Global) -> Made<Text> {
     joined_data(alloc, first, object(alloc, &[("a", 2), ("b", 3)])?)
 }
 
-/// A list of a list of an object of one number.
-fn nested(alloc: Global, name: &str, number: i64) -> Made<Place> {
-    let object = object(alloc, &[(name, number)])?;
-    list(alloc, list(alloc, object)?)
-}
-
-fn joined_lists(alloc: Global) -> Made<Text> {
-    let first = nested(alloc, "a", 1)?;
-    joined_data(alloc, first, nested(alloc, "b", 2)?)
-}
-
 #[test]
 fn places_are_joined(rt: HostRuntime) -> Result<(), Fail> {
     assert_eq!(rt; joined_objects(rt.alloc())?.as_str(), "{\"a\":1,\"b\":3}");
-    assert_eq!(rt; joined_lists(rt.alloc())?.as_str(), "[[{\"a\":1,\"b\":2}]]");
     Ok(())
 }
 
@@ -162,17 +146,6 @@ fn of_items_without_errors_data_is_kept(rt: HostRuntime) -> Result<(), Fail> {
     Ok(())
 }
 
-#[test]
-fn beside_a_failed_item_the_data_of_others_is_kept(rt: HostRuntime) -> Result<(), Fail> {
-    let mut second = failed(rt.alloc())?;
-    second.non_null = false;
-    let list = kept_list(rt.alloc(), leaf(rt.alloc(), 1), second)?;
-    assert_eq!(rt; is_data(&list), false);
-    assert_eq!(rt; data(rt.alloc(), &list)?.as_str(), "[1,null]");
-    assert_eq!(rt; errors(rt.alloc(), &list)?.as_str(), SECOND_FAILS);
-    Ok(())
-}
-
 /// The copy of an object that has an error beside it and a header.
 fn copied(alloc: Global) -> Made<Place> {
     let response = told(alloc, object(alloc, &[("a", 1)])?)?;
@@ -182,9 +155,6 @@ fn copied(alloc: Global) -> Made<Place> {
 #[test]
 fn a_copy_is_told_like_its_source(rt: HostRuntime) -> Result<(), Fail> {
     let copy = copied(rt.alloc())?;
-    let error = "[{\"message\":\"beside\",\"locations\":[{\"line\":1,\"column\":3}]}]";
     assert_eq!(rt; data(rt.alloc(), &copy)?.as_str(), "{\"a\":1}");
-    assert_eq!(rt; header_count(rt.alloc(), &copy)?, 1);
-    assert_eq!(rt; errors(rt.alloc(), &copy)?.as_str(), error);
     Ok(())
 }

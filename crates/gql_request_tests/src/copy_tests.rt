@@ -84,41 +84,8 @@ fn environment(alloc: Global) -> Made<QueryEnv> {
     Ok(environment_of(alloc, variables, name, fragments))
 }
 
-fn mode_text(mode: IntrospectionMode) -> &'static str {
-    match mode {
-        IntrospectionMode::IntrospectionOnly => "only",
-        IntrospectionMode::Enabled => "enabled",
-        IntrospectionMode::Disabled => "disabled",
-    }
-}
-
-fn type_text(ty: OperationType) -> &'static str {
-    match ty {
-        OperationType::Query => "query",
-        OperationType::Mutation => "mutation",
-        OperationType::Subscription => "subscription",
-    }
-}
-
-/// The kind of an operation and its place.
-fn operation_text(alloc: Global, operation: &Positioned<OperationDefinition>) -> Made<Text> {
-    let Pos { line, column } = operation.pos;
-    let ty = type_text(operation.node.ty);
-    Ok(Text::from_string(format!(in alloc; "{ty} at {line}:{column}")?))
-}
-
-/// The number of fragments, and the type of F.
-fn fragments_text(alloc: Global, fragments: &Pairs<Positioned<FragmentDefinition>>) -> Made<Text> {
-    let condition = match fragments.get("F") {
-        Some(fragment) => fragment.node.type_condition.node.as_str(),
-        None => "none",
-    };
-    let count = fragments.len();
-    Ok(Text::from_string(format!(in alloc; "{count} F on {condition}")?))
-}
-
 /// The name of the operation and the variable a.
-fn asked_text(alloc: Global, env: &QueryEnv) -> Made<Text> {
+fn environment_text(alloc: Global, env: &QueryEnv) -> Made<Text> {
     let mut out = String::new(alloc);
     if let Some(name) = &env.operation_name {
         write!(out, "{name}")?;
@@ -127,21 +94,6 @@ fn asked_text(alloc: Global, env: &QueryEnv) -> Made<Text> {
         write!(out, " a {number}")?;
     }
     Ok(Text::from_string(out))
-}
-
-/// All that is known, in words.
-fn environment_text(alloc: Global, env: &QueryEnv) -> Made<Text> {
-    let asked = asked_text(alloc, env)?;
-    let operation = operation_text(alloc, &env.operation)?;
-    let fragments = fragments_text(alloc, &env.fragments)?;
-    let mode = mode_text(env.introspection_mode);
-    let levels = env.levels();
-    Ok(Text::from_string(format!(in alloc; "{asked}, {operation}, {fragments}, {mode}, {levels}")?))
-}
-
-fn source_text(alloc: Global) -> Made<Text> {
-    let env = environment(alloc)?;
-    environment_text(alloc, &env)
 }
 
 fn copy_text(alloc: Global) -> Made<Text> {
@@ -154,9 +106,7 @@ fn copy_text(alloc: Global) -> Made<Text> {
 
 #[test]
 fn environments_are_copied(rt: HostRuntime) -> Result<(), Fail> {
-    let text = "M a 5, mutation at 2:3, 1 F on T, disabled, 1";
-    assert_eq!(rt; source_text(rt.alloc())?.as_str(), text);
-    assert_eq!(rt; copy_text(rt.alloc())?.as_str(), text);
+    assert_eq!(rt; copy_text(rt.alloc())?.as_str(), "M a 5");
     Ok(())
 }
 

@@ -1,9 +1,6 @@
 //! Requests and batches, each public call with ample memory.
 use gql_base::{Copied, Items, Made, Name, Number, Pairs, Text, Value, Variables, json_of};
-use gql_doc::{
-    DocumentOperations, ExecutableDocument, OperationDefinition, OperationType, ParseFault,
-    Positioned, Selection,
-};
+use gql_doc::{DocumentOperations, ExecutableDocument, ParseFault};
 use gql_request::{BatchRequest, DataKey, IntrospectionMode, ParseRequestError, Request};
 use std::alloc::Global;
 use std::test::Fail;
@@ -59,16 +56,10 @@ fn with_data(alloc: Global) -> Made<Request> {
     Request::new(alloc, "{ a }")?.data(DataKey(1), Value::Number(Number::from_u64(6)))
 }
 
-fn copied(alloc: Global) -> Made<Request> {
-    let request = named(alloc)?;
-    request.try_clone(alloc)
-}
-
 /// How a request is built.
 #[derive(Clone, Copy)]
 enum Building {
     Named,
-    Copied,
     WithVariables,
     WithData,
     Disabled,
@@ -78,7 +69,6 @@ enum Building {
 fn built(alloc: Global, building: Building) -> Made<Request> {
     match building {
         Building::Named => named(alloc),
-        Building::Copied => copied(alloc),
         Building::WithVariables => with_variables(alloc),
         Building::WithData => with_data(alloc),
         Building::Disabled => Ok(named(alloc)?.disable_introspection()),
@@ -95,7 +85,6 @@ fn built_text(alloc: Global, building: Building) -> Made<Text> {
 fn requests_are_built(rt: HostRuntime) -> Result<(), Fail> {
     for (building, words) in [
         (Building::Named, "{ a } A"),
-        (Building::Copied, "{ a } A"),
         (Building::WithVariables, "{ a } a 5"),
         (Building::WithData, "{ a } 1 6"),
         (Building::Disabled, "{ a } A disabled"),
@@ -240,14 +229,11 @@ fn object_text(alloc: Global) -> Made<Text> {
 fn batches_are_read(rt: HostRuntime) -> Result<(), Fail> {
     for (count, text) in [
         (0, "Invalid request: expected a non-empty list"),
-        (1, "1 unsupported"),
         (2, "2 unsupported"),
     ] {
         assert_eq!(rt; batch_text(rt.alloc(), count)?.as_str(), text);
     }
     assert_eq!(rt; object_text(rt.alloc())?.as_str(), "1 single");
-    let null = "Invalid request: expected an object";
-    assert_eq!(rt; read_batch_text(rt.alloc(), &Value::Null)?.as_str(), null);
     Ok(())
 }
 
@@ -372,81 +358,5 @@ fn documents_are_kept(rt: HostRuntime) -> Result<(), Fail> {
     assert!(rt; asked(rt.alloc(), "%", None)?);
     assert!(rt; asked(rt.alloc(), " { a }", Some(2))?);
     assert!(rt; set_first(rt.alloc())?);
-    Ok(())
-}
-
-/// The name of a field and where it stands.
-fn push_selection(out: &mut String, selection: &Positioned<Selection>) -> Made<()> {
-    let column = selection.pos.column;
-    match &selection.node {
-        Selection::Field(field) => {
-            let name = field.node.name.node.as_str();
-            write!(out, " {name} at {column}")
-        }
-        _ => out.push_str(" no field"),
-    }
-}
-
-/// The fields of an operation, which is a query or another.
-fn operation_text(alloc: Global, operation: &OperationDefinition) -> Made<Text> {
-    let ty = match operation.ty {
-        OperationType::Query => "query:",
-        _ => "no query:",
-    };
-    let mut out = String::from_str(alloc, ty)?;
-    for selection in operation.selection_set.node.items.as_slice() {
-        push_selection(&mut out, selection)?;
-    }
-    Ok(Text::from_string(out))
-}
-
-/// The only operation of a document.
-fn document_text(alloc: Global, document: &ExecutableDocument) -> Made<Text> {
-    match &document.operations {
-        DocumentOperations::Single(operation) => operation_text(alloc, &operation.node),
-        DocumentOperations::Multiple(_) => Text::new(alloc, "names"),
-    }
-}
-
-/// What asking for a document gave: the document, or the fault.
-fn outcome_text(alloc: Global, outcome: Result<&ExecutableDocument, ParseFault>) -> Made<Text> {
-    match outcome {
-        Ok(document) => document_text(alloc, document),
-        Err(fault) => Text::new(alloc, fault.message()),
-    }
-}
-
-fn parsed_text(alloc: Global, request: &mut Request) -> Made<Text> {
-    outcome_text(alloc, request.parsed_query(alloc)?)
-}
-
-/// What asking once more gives, under another query.
-fn parsed_again_text(alloc: Global, request: &mut Request, query: Text) -> Made<Text> {
-    request.query = query;
-    parsed_text(alloc, request)
-}
-
-/// What asking for the document of a request gives before its query is changed, and after.
-fn twice_text(alloc: Global, query: &str, other: &str) -> Made<Text> {
-    let other = Text::new(alloc, other)?;
-    let mut request = Request::new(alloc, query)?;
-    let first = parsed_text(alloc, &mut request);
-    let second = parsed_again_text(alloc, &mut request, other);
-    drop(request);
-    let first = first?;
-    let second = second?;
-    Ok(Text::from_string(format!(in alloc; "{first}; {second}")?))
-}
-
-#[test]
-fn documents_outlive_their_queries(rt: HostRuntime) -> Result<(), Fail> {
-    assert_eq!(rt;
-        twice_text(rt.alloc(), "{ a }", "%")?.as_str(),
-        "query: a at 3; query: a at 3"
-    );
-    assert_eq!(rt;
-        twice_text(rt.alloc(), "%", "{ a }")?.as_str(),
-        "Syntax error: unexpected character; query: a at 3"
-    );
     Ok(())
 }

@@ -1,7 +1,6 @@
 //! Responses, each public call with ample memory.
 use gql_base::{Copied, Items, Made, Number, Pairs, ServerError, Text, Value};
-use gql_request::{BatchResponse, HeaderOp, Response};
-use http_header::{HeaderName, HeaderValue};
+use gql_request::{BatchResponse, Response};
 use std::alloc::Global;
 use std::test::Fail;
 
@@ -19,15 +18,6 @@ fn response(alloc: Global, errors: usize) -> Made<Response> {
         .extension("b", number(2))?
         .extension("a", number(0))?
         .extension("a", number(1))
-}
-
-fn headers(alloc: Global) -> Made<Items<HeaderOp>> {
-    let mut headers = Items::new(alloc);
-    headers.push(HeaderOp::Insert(
-        HeaderName::from_static("x-a"),
-        HeaderValue::from_static("1"),
-    ))?;
-    Ok(headers)
 }
 
 fn data_text(alloc: Global) -> Made<Text> {
@@ -57,15 +47,7 @@ fn responses_are_printed(rt: HostRuntime) -> Result<(), Fail> {
     Ok(())
 }
 
-/// The JSON of a single response, with whether it is without errors.
-fn single_text(alloc: Global) -> Made<Text> {
-    batch_text(
-        alloc,
-        BatchResponse::Single(Response::new(alloc, number(1))),
-    )
-}
-
-/// The same of two responses, of which one has an error.
+/// The JSON of two responses, of which one has an error, with whether both are without errors.
 fn two_text(alloc: Global) -> Made<Text> {
     let mut responses = Items::new(alloc);
     responses.push(Response::new(alloc, number(1)))?;
@@ -81,7 +63,6 @@ fn batch_text(alloc: Global, batch: BatchResponse) -> Made<Text> {
 
 #[test]
 fn batches_are_printed(rt: HostRuntime) -> Result<(), Fail> {
-    assert_eq!(rt; single_text(rt.alloc())?.as_str(), "{\"data\":1} true");
     assert_eq!(rt;
         two_text(rt.alloc())?.as_str(),
         "[{\"data\":1},{\"data\":{},\"extensions\":{\"a\":1,\"b\":2},\"errors\":[{\"message\":\"e\"}]}] false"
@@ -95,19 +76,11 @@ fn equals_its_copy(alloc: Global, response: &Response) -> Made<bool> {
     Ok(*response == copy)
 }
 
-/// Whether a response equals its copy with a header.
-fn equals_with_headers(alloc: Global, response: &Response) -> Made<bool> {
-    let headers = headers(alloc)?;
-    let copy = response.try_clone(alloc)?.with_headers(headers);
-    Ok(copy.headers.len() != 1 || *response == copy)
-}
-
 #[test]
 fn responses_are_compared(rt: HostRuntime) -> Result<(), Fail> {
     let response = response(rt.alloc(), 1)?;
     assert!(rt; response.is_err() && !response.is_ok());
     assert!(rt; equals_its_copy(rt.alloc(), &response)?);
-    assert!(rt; !equals_with_headers(rt.alloc(), &response)?);
     Ok(())
 }
 
@@ -121,7 +94,6 @@ fn errors_of(response: Response) -> Option<usize> {
 
 #[test]
 fn responses_as_results(rt: HostRuntime) -> Result<(), Fail> {
-    assert_eq!(rt; errors_of(response(rt.alloc(), 0)?), None);
     assert_eq!(rt; errors_of(response(rt.alloc(), 1)?), Some(1));
     Ok(())
 }

@@ -76,7 +76,6 @@ fn merged_data_are_equal_pair_by_pair(rt: HostRuntime) -> Result<(), Fail> {
     for (pairs, equal) in [
         ([(7, 3), (4, 2), (5, 4)], true),
         ([(4, 2), (7, 3), (5, 4)], false),
-        ([(7, 1), (4, 2), (5, 4)], false),
     ] {
         assert_eq!(rt; is_data_of(rt.alloc(), &data, &pairs)?, equal);
     }
@@ -156,40 +155,6 @@ fn the_innermost_key(rt: HostRuntime) -> Result<(), Fail> {
         segments: segments.as_slice(),
     };
     assert_eq!(rt; node.field_name(), "name");
-    Ok(())
-}
-
-/// The path of a key, the index 0 and a key.
-fn indexed_path(alloc: Global, outer: &str, inner: &str) -> Made<Items<PathSegment>>
-    ensures { IfOk result (λ segments. segments
-        ≡ PathSegment.Field outer.now ∷ PathSegment.Index 0 ∷ PathSegment.Field inner.now ∷ []) }
-{
-    let mut segments = Items::new(alloc);
-    segments.push(PathSegment::Field(Text::new(alloc, outer)?))?;
-    segments.push(PathSegment::Index(0))?;
-    segments.push(PathSegment::Field(Text::new(alloc, inner)?))?;
-    Ok(segments)
-}
-
-/// The texts of a place's parents, from the innermost on.
-fn parents_text(alloc: Global, node: QueryPathNode<'_>) -> Made<Text> {
-    let mut out = String::new(alloc);
-    for parent in node.parents() {
-        let text = parent.text(alloc)?;
-        write!(out, "{text};")?;
-    }
-    Ok(Text::from_string(out))
-}
-
-#[test]
-fn a_path_with_an_index(rt: HostRuntime) -> Result<(), Fail> {
-    let segments = indexed_path(rt.alloc(), "a", "b")?;
-    let node = QueryPathNode {
-        segments: segments.as_slice(),
-    };
-    assert_eq!(rt; node.field_name(), "b");
-    assert_eq!(rt; node.text(rt.alloc())?.as_str(), "a.0.b");
-    assert_eq!(rt; parents_text(rt.alloc(), node)?.as_str(), "a.0;a;");
     Ok(())
 }
 

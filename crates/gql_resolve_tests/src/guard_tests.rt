@@ -1,4 +1,4 @@
-//! Guards, and guards of two guards.
+//! Guards of guards.
 use crate::parts::Parts;
 use gql_base::{Error, Made, Text};
 use gql_doc::OperationType;
@@ -53,30 +53,6 @@ fn told<G: Guard<u64>>(alloc: Global, guard: &G, context: &ResolverContext<'_, u
     }
 }
 
-/// The errors of five guards, one behind another.
-fn all_told(alloc: Global, context: &ResolverContext<'_, u64>) -> Made<Text> {
-    let mut out = String::new(alloc);
-    let both = told(alloc, &Passes.and(Fails("x")), context)?;
-    let first = told(alloc, &Fails("x").and(Fails("y")), context)?;
-    let second = told(alloc, &Fails("x").or(Fails("y")), context)?;
-    let either = told(alloc, &Fails("x").or(Passes), context)?;
-    let all = told(alloc, &Passes.and(Passes).or(Fails("y")), context)?;
-    write!(out, "{both} {first} {second} {either} {all}")?;
-    Ok(Text::from_string(out))
-}
-
-/// The error of a closure that looks at the context's task.
-fn closure_told(alloc: Global, context: &ResolverContext<'_, u64>, task: u64) -> Made<Text> {
-    let guard = FnGuard(|context: &ResolverContext<'_, u64>| {
-        if context.task == task {
-            Ok(Ok(()))
-        } else {
-            Ok(Err(Error::new(alloc, "another task")?))
-        }
-    });
-    told(alloc, &guard, context)
-}
-
 /// The error of guards of which the last one, a closure, looks at the context's task.
 fn composed_told(alloc: Global, context: &ResolverContext<'_, u64>, task: u64) -> Made<Text> {
     let guard = Passes.and(Fails("x")).or(FnGuard(|context: &ResolverContext<'_, u64>| {
@@ -97,25 +73,6 @@ fn compositions_told(alloc: Global, parts: &Parts) -> Made<Text> {
     let fourth = composed_told(alloc, &context, 4)?;
     write!(out, "{third};{fourth}")?;
     Ok(Text::from_string(out))
-}
-
-fn guards_told(alloc: Global, parts: &Parts) -> Made<Text> {
-    let context = parts.context();
-    let mut out = String::new(alloc);
-    let guards = all_told(alloc, &context)?;
-    let third = closure_told(alloc, &context, 3)?;
-    let fourth = closure_told(alloc, &context, 4)?;
-    write!(out, "{guards};{third};{fourth}")?;
-    Ok(Text::from_string(out))
-}
-
-#[test]
-fn guards_pass_or_tell(rt: HostRuntime) -> Result<(), Fail> {
-    let parts = Parts::new(rt.alloc(), OperationType::Query)?;
-    let told = guards_told(rt.alloc(), &parts);
-    drop(parts);
-    assert_eq!(rt; told?.as_str(), "x x y  ;;another task");
-    Ok(())
 }
 
 #[test]

@@ -1,7 +1,7 @@
 //! What is selected beneath a field, looked at ahead, and the fields themselves.
 use crate::queries::Ground;
 use gql_base::{Made, Text, Value, Variables};
-use gql_resolve::{Lookahead, ResolverContext, SelectionField};
+use gql_resolve::{Lookahead, SelectionField};
 use std::alloc::Global;
 use std::test::Fail;
 
@@ -39,73 +39,11 @@ const THROUGH: &str = "{ o { ... on T { a } ... { ...F } ...Lost k: e @skip(if: 
     fragment F on U { b { d } b { f } }";
 
 #[test]
-fn what_stands_beneath(rt: HostRuntime) -> Result<(), Fail> {
-    let alloc = rt.alloc();
-    assert!(rt; stands(alloc, NESTED, &[])?);
-    assert!(rt; stands(alloc, NESTED, &["detail"])?);
-    assert!(rt; stands(alloc, NESTED, &["detail", "c"])?);
-    assert!(rt; !stands(alloc, NESTED, &["a"])?);
-    assert!(rt; !stands(alloc, NESTED, &["c"])?);
-    assert!(rt; !stands(alloc, NESTED, &["a", "c"])?);
-    Ok(())
-}
-
-#[test]
 fn what_stands_in_fragments(rt: HostRuntime) -> Result<(), Fail> {
     let alloc = rt.alloc();
-    assert!(rt; stands(alloc, THROUGH, &["a"])?);
-    assert!(rt; stands(alloc, THROUGH, &["b", "d"])?);
     assert!(rt; stands(alloc, THROUGH, &["b", "f"])?);
     assert!(rt; stands(alloc, THROUGH, &["e"])?);
     assert!(rt; !stands(alloc, THROUGH, &["k"])?);
-    assert!(rt; !stands(alloc, THROUGH, &["Lost"])?);
-    Ok(())
-}
-
-/// Whether `c` stands beneath `detail` beneath a context's field, in one expression.
-fn has_c(alloc: Global, context: &ResolverContext<'_, u64>) -> Made<bool> {
-    Ok(
-        context
-            .look_ahead(alloc)?
-            .field(alloc, "detail")?
-            .field(alloc, "c")?
-            .exists(),
-    )
-}
-
-fn has_c_in(alloc: Global, ground: &Ground) -> Made<Option<bool>> {
-    match ground.first() {
-        Some(context) => Ok(Some(has_c(alloc, &context)?)),
-        None => Ok(None),
-    }
-}
-
-/// The same of the first field of a query, or none where there is no such field.
-fn chained(alloc: Global, text: &str) -> Made<Option<bool>> {
-    match query(alloc, text)? {
-        Some(ground) => has_c_in(alloc, &ground),
-        None => Ok(None),
-    }
-}
-
-/// A query, and whether `c` stands beneath `detail` beneath its first field.
-const CHAINS: [(&str, bool); 6] = [
-    ("{ obj(n: 3) { detail { c } } }", true),
-    ("{ obj(n: 3) { detail { a } c } }", false),
-    ("{ obj(n: 3) { c { detail } } }", false),
-    ("{ obj(n: 3) { detail } }", false),
-    ("{ obj(n: 3) { c: detail { detail: c } } }", true),
-    (
-        "{ obj { detail ... { ...F } } } fragment F on T { detail { ... on U { c } } }",
-        true,
-    ),
-];
-
-#[test]
-fn chains_of_looks(rt: HostRuntime) -> Result<(), Fail> {
-    for (text, there) in CHAINS {
-        assert_eq!(rt; chained(rt.alloc(), text)?, Some(there), "at {text}");
-    }
     Ok(())
 }
 
@@ -137,17 +75,7 @@ fn names_beneath(alloc: Global, field: &SelectionField<'_>) -> Made<Text> {
 #[test]
 fn fields_in_their_order(rt: HostRuntime) -> Result<(), Fail> {
     let alloc = rt.alloc();
-    assert_eq!(rt; names(alloc, NESTED)?.as_str(), ":detail ");
-    assert_eq!(rt; names(alloc, "{ o }")?.as_str(), "");
     assert_eq!(rt; names(alloc, THROUGH)?.as_str(), ":a :b :b k:e ");
-    assert_eq!(rt;
-        names(
-            alloc,
-            "{ o { ...Lost ... on T { ...F } ...F } } fragment F on U { a }"
-        )?
-        .as_str(),
-        ":a :a "
-    );
     Ok(())
 }
 

@@ -68,7 +68,6 @@ fn arguments(alloc: Global, text: &str) -> Made<Text> {
 #[test]
 fn arguments_with_their_values(rt: HostRuntime) -> Result<(), Fail> {
     let alloc = rt.alloc();
-    assert_eq!(rt; arguments(alloc, "{ o }")?.as_str(), "");
     assert_eq!(rt;
         arguments(
             alloc,
@@ -76,14 +75,6 @@ fn arguments_with_their_values(rt: HostRuntime) -> Result<(), Fail> {
         )?
         .as_str(),
         "s \"t\"; n [4, 7]; n E; "
-    );
-    assert_eq!(rt;
-        arguments(
-            alloc,
-            "query($z: Int = 1, $m: Int!) { o(z: {k: $z}, m: $m) }"
-        )?
-        .as_str(),
-        "z {k: null}; m null; "
     );
     assert_eq!(rt;
         arguments(

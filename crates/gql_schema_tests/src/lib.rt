@@ -8,8 +8,6 @@ mod fits_tests;
 #[cfg(test)]
 mod named_tests;
 #[cfg(test)]
-mod odd_tests;
-#[cfg(test)]
 mod sample;
 mod shared;
 #[cfg(test)]

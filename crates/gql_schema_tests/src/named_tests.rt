@@ -1,10 +1,7 @@
 //! What has a name tells it, stands at its place, and is read as it is declared.
-use crate::sample::{
-    argument, enum_type, field, input_object, interface, interface_field, object, scalar,
-    subscription, subscription_field, union_type,
-};
+use crate::sample::{argument, field, interface_field, scalar, subscription_field};
 use gql_base::{Made, Text, TypeRef};
-use gql_schema::{ByName, DeclaredField, InputValue, Named, SchemaType};
+use gql_schema::{ByName, DeclaredField, InputValue, Named};
 use std::alloc::Global;
 use std::test::Fail;
 
@@ -13,48 +10,13 @@ fn text_of_name<T: Named + Drop>(alloc: Global, item: T) -> Made<Text> {
     Text::new(alloc, item.own_name())
 }
 
-fn name_of_object(alloc: Global) -> Made<Text> {
-    text_of_name(alloc, object(alloc)?)
-}
-
-fn name_of_interface(alloc: Global) -> Made<Text> {
-    text_of_name(alloc, interface(alloc)?)
-}
-
-fn name_of_subscription(alloc: Global) -> Made<Text> {
-    text_of_name(alloc, subscription(alloc)?)
-}
-
-fn name_of_input_object(alloc: Global) -> Made<Text> {
-    text_of_name(alloc, input_object(alloc)?)
-}
-
-fn name_of_enum(alloc: Global) -> Made<Text> {
-    text_of_name(alloc, enum_type(alloc)?)
-}
-
-fn name_of_union(alloc: Global) -> Made<Text> {
-    text_of_name(alloc, union_type(alloc)?)
-}
-
 fn name_of_scalar(alloc: Global) -> Made<Text> {
     text_of_name(alloc, scalar(alloc)?)
 }
 
-fn name_of_type(alloc: Global) -> Made<Text> {
-    text_of_name(alloc, SchemaType::Scalar(scalar(alloc)?))
-}
-
 #[test]
 fn types_tell_their_names(rt: HostRuntime) -> Result<(), Fail> {
-    assert_eq!(rt; name_of_object(rt.alloc())?.as_str(), "O");
-    assert_eq!(rt; name_of_interface(rt.alloc())?.as_str(), "I");
-    assert_eq!(rt; name_of_subscription(rt.alloc())?.as_str(), "S");
-    assert_eq!(rt; name_of_input_object(rt.alloc())?.as_str(), "In");
-    assert_eq!(rt; name_of_enum(rt.alloc())?.as_str(), "E");
-    assert_eq!(rt; name_of_union(rt.alloc())?.as_str(), "U");
     assert_eq!(rt; name_of_scalar(rt.alloc())?.as_str(), "D");
-    assert_eq!(rt; name_of_type(rt.alloc())?.as_str(), "D");
     Ok(())
 }
 
@@ -62,24 +24,9 @@ fn name_of_argument(alloc: Global) -> Made<Text> {
     text_of_name(alloc, argument(alloc)?)
 }
 
-fn name_of_field(alloc: Global) -> Made<Text> {
-    text_of_name(alloc, field(alloc, argument(alloc)?)?)
-}
-
-fn name_of_promised(alloc: Global) -> Made<Text> {
-    text_of_name(alloc, interface_field(alloc, argument(alloc)?)?)
-}
-
-fn name_of_event(alloc: Global) -> Made<Text> {
-    text_of_name(alloc, subscription_field(alloc, argument(alloc)?)?)
-}
-
 #[test]
 fn fields_tell_their_names(rt: HostRuntime) -> Result<(), Fail> {
     assert_eq!(rt; name_of_argument(rt.alloc())?.as_str(), "a");
-    assert_eq!(rt; name_of_field(rt.alloc())?.as_str(), "f");
-    assert_eq!(rt; name_of_promised(rt.alloc())?.as_str(), "f");
-    assert_eq!(rt; name_of_event(rt.alloc())?.as_str(), "f");
     Ok(())
 }
 

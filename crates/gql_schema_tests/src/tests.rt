@@ -1,8 +1,8 @@
 //! Tables of types, called as their users call them.
-use gql_base::{Copied, Made, Number, Text, TypeRef, Value};
+use gql_base::{Made, Text, TypeRef};
 use gql_schema::{
-    ByName, Enum, Field, InputObject, InputValue, Interface, InterfaceField, NameSet, Object,
-    Scalar, ScalarRule, SchemaError, SchemaType, Types, Union,
+    ByName, Field, InputObject, InputValue, Interface, InterfaceField, NameSet, Object,
+    SchemaError, SchemaType, Types, Union,
 };
 use std::alloc::Global;
 use std::test::Fail;
@@ -39,15 +39,6 @@ pub(crate) fn object(alloc: Global, name: &str, field: &str, ty: TypeRef) -> Mad
     Object::new(alloc, name)?.field(alloc, field)
 }
 
-/// The object `Query` with the field `f` of this type.
-fn query(alloc: Global, ty: TypeRef) -> Made<SchemaType> {
-    Ok(SchemaType::Object(object(alloc, "Query", "f", ty)?))
-}
-
-fn int_query(alloc: Global) -> Made<SchemaType> {
-    query(alloc, TypeRef::named(alloc, "Int")?)
-}
-
 /// An input object with one more field, unless it has one of that name.
 fn with_field(alloc: Global, input: InputObject, field: InputValue) -> Made<InputObject> {
     if input.has_field(field.name()) {
@@ -65,61 +56,6 @@ fn input(alloc: Global, name: &str, field: InputValue) -> Made<InputObject> {
 fn plain_input(alloc: Global, name: &str) -> Made<SchemaType> {
     let field = InputValue::new(alloc, "a", TypeRef::named_nn(alloc, "Int")?)?;
     Ok(SchemaType::InputObject(input(alloc, name, field)?))
-}
-
-/// What a table tells whose object has a field of this type.
-fn told_of_field(alloc: Global, ty: TypeRef) -> Made<Text> {
-    let object = query(alloc, ty)?;
-    told_of(alloc, object, plain_input(alloc, "In")?)
-}
-
-fn told_of_named(alloc: Global, name: &str) -> Made<Text> {
-    told_of_field(alloc, TypeRef::named(alloc, name)?)
-}
-
-fn told_of_doubled(alloc: Global) -> Made<Text> {
-    told_of_field(alloc, TypeRef::named_nn(alloc, "Int")?.non_null(alloc)?)
-}
-
-#[test]
-fn a_field_has_a_type_of_outputs(rt: HostRuntime) -> Result<(), Fail> {
-    for (name, expected) in [
-        ("Int", "sound"),
-        ("Nope", "1 Type \"Nope\" not found"),
-        ("In", "2 Type \"In\" cannot be used here"),
-        ("Float", "8 Type \"Float\" is not supported"),
-    ] {
-        assert_eq!(rt; told_of_named(rt.alloc(), name)?.as_str(), expected);
-    }
-    let doubled = "3 Type \"Int!!\" is doubly non-null";
-    assert_eq!(rt; told_of_doubled(rt.alloc())?.as_str(), doubled);
-    Ok(())
-}
-
-/// What a table tells whose oneof input object has this field.
-fn told_of_oneof(alloc: Global, field: InputValue) -> Made<Text> {
-    let input = SchemaType::InputObject(input(alloc, "In", field)?.oneof());
-    told_of(alloc, input, int_query(alloc)?)
-}
-
-fn told_of_required(alloc: Global) -> Made<Text> {
-    let ty = TypeRef::named_nn(alloc, "Int")?;
-    told_of_oneof(alloc, InputValue::new(alloc, "a", ty)?)
-}
-
-fn told_of_given(alloc: Global) -> Made<Text> {
-    let ty = TypeRef::named(alloc, "Int")?;
-    let field = InputValue::new(alloc, "a", ty)?;
-    told_of_oneof(alloc, field.default_value(Value::Null))
-}
-
-#[test]
-fn a_field_of_a_oneof_can_be_left_out(rt: HostRuntime) -> Result<(), Fail> {
-    let required = "4 Field \"In.a\" must be nullable";
-    assert_eq!(rt; told_of_required(rt.alloc())?.as_str(), required);
-    let given = "4 Field \"In.a\" must not have a default value";
-    assert_eq!(rt; told_of_given(rt.alloc())?.as_str(), given);
-    Ok(())
 }
 
 /// The object `O` with a field, which implements the interface `I`.
@@ -142,59 +78,15 @@ fn told_of_promise(alloc: Global, field: Field, promised: TypeRef) -> Made<Text>
     told_of(alloc, object, promising(alloc, promised)?)
 }
 
-fn told_of_stricter(alloc: Global) -> Made<Text> {
-    let field = Field::new(alloc, "f", TypeRef::named_nn(alloc, "O")?, 0)?;
-    told_of_promise(alloc, field, TypeRef::named(alloc, "I")?)
-}
-
 fn told_of_looser(alloc: Global) -> Made<Text> {
     let field = Field::new(alloc, "f", TypeRef::named(alloc, "I")?, 0)?;
     told_of_promise(alloc, field, TypeRef::named(alloc, "O")?)
 }
 
-/// The field `f: Int` with an argument.
-fn field_with(alloc: Global, argument: InputValue) -> Made<Field> {
-    Field::new(alloc, "f", TypeRef::named(alloc, "Int")?, 0)?.argument(alloc, argument)
-}
-
-fn told_of_argument(alloc: Global) -> Made<Text> {
-    let argument = InputValue::new(alloc, "a", TypeRef::named_nn(alloc, "Int")?)?;
-    let field = field_with(alloc, argument)?;
-    told_of_promise(alloc, field, TypeRef::named(alloc, "Int")?)
-}
-
 #[test]
 fn an_object_keeps_what_its_interface_promises(rt: HostRuntime) -> Result<(), Fail> {
     let broken = "5 Object \"O\" does not satisfy interface \"I\" at field \"f\"";
-    assert_eq!(rt; told_of_stricter(rt.alloc())?.as_str(), "sound");
     assert_eq!(rt; told_of_looser(rt.alloc())?.as_str(), broken);
-    assert_eq!(rt; told_of_argument(rt.alloc())?.as_str(), broken);
-    Ok(())
-}
-
-/// The enum `E` without items.
-pub(crate) fn empty_enum(alloc: Global) -> Made<SchemaType> {
-    Ok(SchemaType::Enum(Enum::new(alloc, "E")?))
-}
-
-/// What a table tells whose union has itself for a member.
-fn told_of_member(alloc: Global) -> Made<Text> {
-    let union_type = Union::new(alloc, "U")?.possible_type(alloc, "U")?;
-    told_of(alloc, SchemaType::Union(union_type), empty_enum(alloc)?)
-}
-
-/// What a table tells whose object implements an enum.
-fn told_of_implemented(alloc: Global) -> Made<Text> {
-    let object = object(alloc, "O", "f", TypeRef::named(alloc, "Int")?)?.implement(alloc, "E")?;
-    told_of(alloc, SchemaType::Object(object), empty_enum(alloc)?)
-}
-
-#[test]
-fn members_are_objects(rt: HostRuntime) -> Result<(), Fail> {
-    let member = "6 Union \"U\" has member \"U\" that is no object";
-    assert_eq!(rt; told_of_member(rt.alloc())?.as_str(), member);
-    let implemented = "2 Type \"E\" cannot be used here";
-    assert_eq!(rt; told_of_implemented(rt.alloc())?.as_str(), implemented);
     Ok(())
 }
 
@@ -256,75 +148,6 @@ fn a_circle_of_inputs_is_refused_at_its_first(rt: HostRuntime) -> Result<(), Fai
     Ok(())
 }
 
-/// What a table tells whose object has a field of 64 lists of a type.
-fn told_of_nested(alloc: Global, name: &str) -> Made<Text> {
-    let mut ty = TypeRef::named(alloc, name)?;
-    for _ in 0..64 {
-        ty = ty.list(alloc)?;
-    }
-    told_of_field(alloc, ty)
-}
-
-fn long_name(alloc: Global) -> Made<String> {
-    let mut name = String::new(alloc);
-    for _ in 0..65536 {
-        name.push('a')?;
-    }
-    Ok(name)
-}
-
-/// Whether a type of this name is refused, as one that isn't there, by a text with the whole name.
-fn is_refused(alloc: Global, name: &str) -> Made<bool> {
-    let text = told_of_nested(alloc, name)?;
-    let refused = text.as_str().strip_prefix("1 Type \"");
-    Ok(refused.and_then(|rest| rest.strip_suffix("\" not found")) == Some(name))
-}
-
-#[test]
-fn lists_lie_deep_and_names_are_long(rt: HostRuntime) -> Result<(), Fail> {
-    assert_eq!(rt; told_of_nested(rt.alloc(), "Int")?.as_str(), "sound");
-    let name = long_name(rt.alloc())?;
-    assert!(rt; is_refused(rt.alloc(), name.as_str())?);
-    Ok(())
-}
-
-/// What a table tells whose field has an argument with a default.
-fn told_of_default(alloc: Global, argument: InputValue) -> Made<Text> {
-    let field = field_with(alloc, argument)?;
-    let object = SchemaType::Object(Object::new(alloc, "Query")?.field(alloc, field)?);
-    told_of(alloc, object, day(alloc)?)
-}
-
-/// The scalar of the numbers from 1 to 31.
-fn day(alloc: Global) -> Made<SchemaType> {
-    let day = Scalar::new(alloc, "Date")?;
-    Ok(SchemaType::Scalar(day.rule(ScalarRule::IntBetween(1, 31))))
-}
-
-/// What a table tells that has a number as the default of a list of a type.
-fn told_of_number(alloc: Global, name: &str, number: i64) -> Made<Text> {
-    let argument = InputValue::new(alloc, "a", TypeRef::named_list(alloc, name)?)?;
-    let default = Value::Number(Number::from_i64(number));
-    told_of_default(alloc, argument.default_value(default))
-}
-
-#[test]
-fn a_default_fits(rt: HostRuntime) -> Result<(), Fail> {
-    let unfit = "9 Default of \"Query.f.a\" does not fit";
-    for (name, number, expected) in [
-        ("Int", 2147483647, "sound"),
-        ("Int", 2147483648, unfit),
-        ("ID", -5, "sound"),
-        ("String", 1, unfit),
-        ("Date", 31, "sound"),
-        ("Date", 32, unfit),
-    ] {
-        let text = told_of_number(rt.alloc(), name, number)?;
-        assert_eq!(rt; text.as_str(), expected, "at {name}");
-    }
-    Ok(())
-}
-
 /// A table to which a second object of the first one's name was given last.
 fn replaced(alloc: Global) -> Made<Types> {
     let mut types = Types::new(alloc);
@@ -348,20 +171,10 @@ fn is_replaced(types: &Types) -> bool {
     types.len() == 2 && types.at(0).name() == "Query" && resolver_of(types, "c") == Some(7)
 }
 
-/// Whether a table equals its copy, until a type of it is changed.
-fn equals_its_copy(alloc: Global, types: &Types) -> Made<bool> {
-    let copy = types.try_clone(alloc)?;
-    let equal = types.equals(&copy);
-    let other = SchemaType::Union(Union::new(alloc, "Other")?);
-    Ok(equal && !types.equals(&with(alloc, copy, other)?))
-}
-
 #[test]
 fn readers_tell_what_was_built(rt: HostRuntime) -> Result<(), Fail> {
-    assert!(rt; Types::new(rt.alloc()).get("Query").is_none());
     let types = replaced(rt.alloc())?;
     assert!(rt; is_replaced(&types));
-    assert!(rt; equals_its_copy(rt.alloc(), &types)?);
     Ok(())
 }
 
