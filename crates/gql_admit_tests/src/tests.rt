@@ -210,7 +210,8 @@ pub fn variables(alloc: Global) -> Made<Variables> {
     let mut members = Pairs::new(alloc);
     members.add(Name::new(alloc, "on")?, Value::Boolean(true))?;
     members.add(Name::new(alloc, "no")?, Value::Number(Number::from_i64(1)))?;
-    Ok(Variables::from_value(alloc, Value::Object(members)))
+    let members = Value::object(alloc, members)?;
+    Ok(Variables::from_value(alloc, members))
 }
 
 /// What is kept of the set of the only operation.

@@ -2,9 +2,9 @@
 -- threads may read it at once. Searches above them that meet one twice end at their limits without these lemmas.
 use denote.Param.Send.{IsSend, IsSync, sendable}
 use Rattle.gql_base.proofs.boxed.Boxed.TheSendSync as boxed
+use Rattle.gql_base.proofs.common.Common.TheSendSync as common
 use Rattle.gql_base.proofs.items.Items.TheSendSync as items
 use Rattle.gql_base.proofs.name.Name.TheSendSync as name
-use Rattle.gql_base.proofs.names.Names.TheSendSync as names
 use Rattle.gql_base.proofs.number.Number.TheSendSync as number
 use Rattle.gql_base.proofs.pairs.Pairs.TheSendSync as pairs
 use Rattle.gql_base.proofs.text.Text.TheSendSync as text
@@ -15,65 +15,85 @@ use Rattle.gql_base.specs.contracts.value.Value as value
 
 pub value_send : IsSend value.the_row
 value_send = search (
-  knot.send-Value,
-  knot.hole_send-Value,
+  knot.both_send-Value,
   name.the_send,
-  names.the_send,
+  name.the_sync,
   number.the_send,
+  number.the_sync,
   text.the_send,
+  text.the_sync,
+  common.the_send,
+  common.the_sync,
   items.the_send,
+  items.the_sync,
   pairs.the_send,
+  pairs.the_sync,
   sendable,
 ) depth 20
 
 pub value_sync : IsSync value.the_row
 value_sync = search (
-  knot.sync-Value,
-  knot.hole_sync-Value,
+  knot.both_sync-Value,
+  name.the_send,
   name.the_sync,
-  names.the_sync,
+  number.the_send,
   number.the_sync,
+  text.the_send,
   text.the_sync,
+  common.the_send,
+  common.the_sync,
+  items.the_send,
   items.the_sync,
+  pairs.the_send,
   pairs.the_sync,
   sendable,
 ) depth 20
 
 pub type_ref_send : IsSend type_ref.the_row
-type_ref_send = search (type_knot.send-TypeRef, type_knot.hole_send-TypeRef, name.the_send, boxed.the_send, sendable) depth 20
+type_ref_send = search (type_knot.send-TypeRef, name.the_send, boxed.the_send, sendable) depth 20
 
 pub type_ref_sync : IsSync type_ref.the_row
-type_ref_sync = search (type_knot.sync-TypeRef, type_knot.hole_sync-TypeRef, name.the_sync, boxed.the_sync, sendable) depth 20
+type_ref_sync = search (type_knot.sync-TypeRef, name.the_sync, boxed.the_sync, sendable) depth 20
 
 -- the same where one of them is a field of another type
 pub value_field_send : IsSend value.the_field.row
 value_field_send = search (
-  knot.send-Value,
-  knot.hole_send-Value,
+  knot.both_send-Value,
   name.the_send,
-  names.the_send,
+  name.the_sync,
   number.the_send,
+  number.the_sync,
   text.the_send,
+  text.the_sync,
+  common.the_send,
+  common.the_sync,
   items.the_send,
+  items.the_sync,
   pairs.the_send,
+  pairs.the_sync,
   sendable,
 ) depth 20
 
 pub value_field_sync : IsSync value.the_field.row
 value_field_sync = search (
-  knot.sync-Value,
-  knot.hole_sync-Value,
+  knot.both_sync-Value,
+  name.the_send,
   name.the_sync,
-  names.the_sync,
+  number.the_send,
   number.the_sync,
+  text.the_send,
   text.the_sync,
+  common.the_send,
+  common.the_sync,
+  items.the_send,
   items.the_sync,
+  pairs.the_send,
   pairs.the_sync,
   sendable,
 ) depth 20
 
 pub type_ref_field_send : IsSend type_ref.the_field.row
-type_ref_field_send = search (type_knot.send-TypeRef, type_knot.hole_send-TypeRef, name.the_send, boxed.the_send, sendable) depth 20
+type_ref_field_send = search (type_knot.send-TypeRef, name.the_send, boxed.the_send, sendable) depth 20
 
 pub type_ref_field_sync : IsSync type_ref.the_field.row
-type_ref_field_sync = search (type_knot.sync-TypeRef, type_knot.hole_sync-TypeRef, name.the_sync, boxed.the_sync, sendable) depth 20
+type_ref_field_sync = search (type_knot.sync-TypeRef, name.the_sync, boxed.the_sync, sendable) depth 20

@@ -7,6 +7,7 @@ pub mod Pairs
 pub mod Same
 pub mod Separated
 pub mod TypeRef
+pub mod Variables
 pub mod formers
 pub mod PathSegment
 pub mod Kinds

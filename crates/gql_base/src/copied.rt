@@ -96,45 +96,16 @@ pub fn copies<T: Copied + Drop>(alloc: Global, items: &[T]) -> Made<Vec<T>>
 
 impl Copied for Value {
     fn try_clone(&self, alloc: Global) -> Made<Value> {
-        copy_value(alloc, self)
+        match self {
+            Value::Null => Ok(Value::Null),
+            Value::Boolean(truth) => Ok(Value::Boolean(*truth)),
+            Value::Number(number) => Ok(Value::Number(*number)),
+            Value::String(text) => Ok(Value::String(text.try_clone(alloc)?)),
+            Value::Enum(name) => Ok(Value::Enum(name.try_clone(alloc)?)),
+            Value::List(items) => Ok(Value::List(items.try_clone(alloc)?)),
+            Value::Object(members) => Ok(Value::Object(members.try_clone(alloc)?)),
+        }
     }
-}
-
-#[cycle(copy)]
-fn copy_value(alloc: Global, value: &Value) -> Made<Value>
-    ensures { IfOk result (λ copy. copy ≡ value.now) }
-{
-    match value {
-        Value::Null => Ok(Value::Null),
-        Value::Boolean(truth) => Ok(Value::Boolean(*truth)),
-        Value::Number(number) => Ok(Value::Number(*number)),
-        Value::String(text) => Ok(Value::String(text.try_clone(alloc)?)),
-        Value::Enum(name) => Ok(Value::Enum(name.try_clone(alloc)?)),
-        Value::List(items) => Ok(Value::List(copy_items(alloc, items.as_slice())?)),
-        Value::Object(members) => Ok(Value::Object(copy_members(alloc, members)?)),
-    }
-}
-
-#[cycle(copy)]
-fn copy_items(alloc: Global, items: &[Value]) -> Made<Items<Value>>
-    ensures { IfOk result (λ copies. copies ≡ items.now) }
-{
-    let mut copies = Items::with_capacity(alloc, items.len())?;
-    for item in items {
-        copies.push(copy_value(alloc, item)?)?;
-    }
-    Ok(copies)
-}
-
-#[cycle(copy)]
-fn copy_members(alloc: Global, members: &Pairs<Value>) -> Made<Pairs<Value>>
-    ensures { IfOk result (λ copies. copies ≡ members.now) }
-{
-    let mut values = Vec::with_capacity(alloc, members.len())?;
-    for place in 0..members.len() {
-        values.push(copy_value(alloc, members.at(place).1)?)?;
-    }
-    members.with_values(alloc, values)
 }
 
 impl Copied for TypeRef {

@@ -3,6 +3,7 @@
 
 mod boxed;
 mod chains;
+mod common;
 mod copied;
 mod equal;
 mod error;
@@ -36,6 +37,7 @@ mod value;
 mod variables;
 
 pub use boxed::Boxed;
+pub use common::Common;
 pub use copied::Copied;
 pub use error::Error;
 pub use error_extension_values::ErrorExtensionValues;

@@ -115,14 +115,14 @@ fn read_any(alloc: Global, form: EnumForm, json: &serde_json::Value) -> Result<V
         serde_json::Value::String(text) => Ok(Value::String(Text::new(alloc, text.as_str())?)),
         serde_json::Value::Array(items) => {
             let values = read_items(alloc, form, items.as_slice())?;
-            Ok(Value::List(values))
+            Ok(Value::list(alloc, values)?)
         }
         serde_json::Value::Object(members) => {
             if form == EnumForm::Marked && has_mark(members) {
                 return read_enum(alloc, members);
             }
             let pairs = read_members(alloc, form, members)?;
-            Ok(Value::Object(pairs.shared(alloc)?))
+            Ok(Value::object(alloc, pairs)?)
         }
     }
 }

@@ -1,7 +1,7 @@
 //! The public types can be moved to threads and shared between them, where what they are made of
 //! can.
 use crate::{
-    Boxed, EnumForm, Error, ErrorExtensionValues, Items, JsonFault, JsonPlace, Name, Names,
+    Boxed, Common, EnumForm, Error, ErrorExtensionValues, Items, JsonFault, JsonPlace, Name, Names,
     NoMemory, Number, Pairs, PathSegment, Pos, ServerError, Text, Told, TypeRef, Value, Variables,
 };
 
@@ -9,6 +9,8 @@ fn shared<T: Send + Sync>() {}
 
 fn public_types<'a>() {
     shared::<Boxed<Value>>();
+    shared::<Common<Items<Value>>>();
+    shared::<Common<Pairs<Value>>>();
     shared::<EnumForm>();
     shared::<Error>();
     shared::<ErrorExtensionValues>();

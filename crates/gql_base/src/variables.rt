@@ -3,6 +3,7 @@ ghost use Rattle.std.specs.Option.{option_copied};
 ghost use Rattle.gql_base.specs.Pairs.{under};
 ghost use Rattle.gql_base.specs.Kinds.{members_of_value};
 
+use crate::common::Common;
 use crate::copied::Copied;
 use crate::made::Made;
 use crate::pairs::Pairs;
@@ -13,7 +14,14 @@ use std::marker::Model;
 /// The values of a request's variables, by name. Contracts see the list of the pairs.
 #[derive(Debug, Drop)]
 pub struct Variables {
-    members: Pairs<Value>,
+    kept: Kept,
+}
+
+/// The members of an object, which others may hold, too, or those of none.
+#[derive(Debug, Drop)]
+enum Kept {
+    Object(Common<Pairs<Value>>),
+    None(Pairs<Value>),
 }
 
 impl Model for Variables {
@@ -26,7 +34,9 @@ impl Model for Variables {
 
     ghost coded = { coded_list (coded× (coded_list coded_ℕ) the_row.coded) };
 
-    ghost view = { λ variables. variables.members };
+    ghost use Rattle.gql_base.specs.Variables.{kept_members};
+
+    ghost view = { λ variables. kept_members variables.kept };
 }
 
 impl Variables {
@@ -35,46 +45,56 @@ impl Variables {
         ensures { result ≡ members_of_value value }
     {
         match value {
-            Value::Object(members) => Variables { members },
+            Value::Object(members) => Variables {
+                kept: Kept::Object(members),
+            },
             _ => Variables {
-                members: Pairs::new(alloc),
+                kept: Kept::None(Pairs::new(alloc)),
             },
         }
     }
 
     /// The variables as an object.
-    pub fn into_value(self) -> Value
-        ensures { result ≡ Value.Object self }
+    pub fn into_value(self, alloc: Global) -> Made<Value>
+        ensures { IfOk result (λ value. value ≡ Value.Object self) }
     {
-        let Variables { members } = self;
-        Value::Object(members)
+        match self.kept {
+            Kept::Object(members) => Ok(Value::Object(members)),
+            Kept::None(members) => Value::object(alloc, members),
+        }
     }
 
     /// The value of a variable, or none where it has none.
     pub fn get(&self, name: &str) -> Option<&Value>
         ensures { option_copied result ≡ under name.now self.now }
     {
-        self.members.get(name)
+        self.as_pairs().get(name)
     }
 
     /// The variables as pairs, borrowed.
     pub fn as_pairs(&self) -> &Pairs<Value>
         ensures { result.now ≡ self.now }
     {
-        &self.members
+        match &self.kept {
+            Kept::Object(members) => members,
+            Kept::None(members) => members,
+        }
     }
 
     /// True exactly where there is no variable.
     pub fn is_empty(&self) -> bool
         ensures { IsTrue result ↔ (self.now ≡ []) }
     {
-        self.members.is_empty()
+        self.as_pairs().is_empty()
     }
 }
 
 impl Copied for Variables {
     fn try_clone(&self, alloc: Global) -> Made<Variables> {
-        let members = self.members.try_clone(alloc)?;
-        Ok(Variables { members })
+        let kept = match &self.kept {
+            Kept::Object(members) => Kept::Object(members.try_clone(alloc)?),
+            Kept::None(members) => Kept::None(members.try_clone(alloc)?),
+        };
+        Ok(Variables { kept })
     }
 }

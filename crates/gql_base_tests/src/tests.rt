@@ -1,7 +1,8 @@
 //! Each public call with ample memory, against texts and values from outside. What a test looks at
 //! is made by small functions beside it, since a test is proved too.
 use gql_base::{
-    Boxed, Copied, Items, Made, Name, NoMemory, Number, Pairs, Text, Value, Variables, json_of,
+    Boxed, Common, Copied, Items, Made, Name, NoMemory, Number, Pairs, Text, Value, Variables,
+    json_of,
 };
 use std::alloc::{AllocError, Global};
 use std::test::Fail;
@@ -19,8 +20,8 @@ pub(crate) fn sample(alloc: Global) -> Made<Value> {
     list.push(Value::Null)?;
     let mut members = Pairs::new(alloc);
     members.add(Name::new(alloc, "a")?, Value::Number(Number::from_i64(1)))?;
-    members.add(Name::new(alloc, "b")?, Value::List(list))?;
-    Ok(Value::Object(members))
+    members.add(Name::new(alloc, "b")?, Value::list(alloc, list)?)?;
+    Value::object(alloc, members)
 }
 
 pub(crate) const SAMPLE: &str = "{\"a\":1,\"b\":[\"x\",null]}";
@@ -95,10 +96,28 @@ fn pairs(rt: HostRuntime) -> Result<(), Fail> {
     Ok(())
 }
 
+/// The numbers 1 and 2, which copies have in common.
+fn common_numbers(alloc: Global) -> Made<Common<Items<u64>>> {
+    let mut numbers = Items::new(alloc);
+    numbers.push(1)?;
+    numbers.push(2)?;
+    Common::new(alloc, numbers)
+}
+
+#[test]
+fn numbers_in_common(rt: HostRuntime) -> Result<(), Fail> {
+    let one = common_numbers(rt.alloc())?;
+    let other = one.try_clone(rt.alloc())?;
+    assert!(rt; one == other);
+    assert_eq!(rt; other.into_inner(rt.alloc())?.as_slice(), [1, 2].as_slice());
+    assert_eq!(rt; one.into_inner(rt.alloc())?.as_slice(), [1, 2].as_slice());
+    Ok(())
+}
+
 /// The JSON text of the variables that a value gives.
 fn variables_of(alloc: Global, value: Value) -> Made<Text> {
     let copy = Variables::from_value(alloc, value).try_clone(alloc)?;
-    let object = copy.into_value();
+    let object = copy.into_value(alloc)?;
     json_of(alloc, &object)
 }
 

@@ -92,7 +92,7 @@ fn value(alloc: Global, text: &str) -> Made<Option<Value>> {
 /// The members of an object.
 fn members(alloc: Global, text: &str) -> Made<Option<Pairs<Value>>> {
     match value(alloc, text)? {
-        Some(Value::Object(members)) => Ok(Some(members)),
+        Some(Value::Object(members)) => Ok(Some(members.into_inner(alloc)?)),
         _ => Ok(None),
     }
 }

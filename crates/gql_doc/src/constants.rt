@@ -18,8 +18,8 @@ pub fn constant_of(alloc: Global, value: &DocValue) -> Made<Value>
         DocValue::Number(number) => Ok(Value::Number(*number)),
         DocValue::String(text) => Ok(Value::String(text.try_clone(alloc)?)),
         DocValue::Enum(name) => Ok(Value::Enum(name.try_clone(alloc)?)),
-        DocValue::List(values) => Ok(Value::List(constants_of(alloc, values.as_slice())?)),
-        DocValue::Object(members) => Ok(Value::Object(members_of(alloc, members)?)),
+        DocValue::List(values) => Value::list(alloc, constants_of(alloc, values.as_slice())?),
+        DocValue::Object(members) => Value::object(alloc, members_of(alloc, members)?),
     }
 }
 

@@ -68,7 +68,7 @@ fn reads_object(value: &Value) -> bool {
 
 #[test]
 fn objects(rt: HostRuntime) -> Result<(), Fail> {
-    let value = Value::Object(members(rt.alloc())?);
+    let value = Value::object(rt.alloc(), members(rt.alloc())?)?;
     assert!(rt; matches!(reads_members(&value), Ok(true)));
     assert!(rt; reads_object(&value));
     Ok(())
@@ -94,7 +94,7 @@ fn reads_items(value: &Value) -> Result<bool, AccessFault<'static>> {
 
 #[test]
 fn lists(rt: HostRuntime) -> Result<(), Fail> {
-    let value = Value::List(items(rt.alloc())?);
+    let value = Value::list(rt.alloc(), items(rt.alloc())?)?;
     assert!(rt; matches!(reads_items(&value), Ok(true)));
     Ok(())
 }

@@ -27,7 +27,7 @@ fn load_row(alloc: Global, names: &Pairs<()>, place: usize) -> Made<Value>
     let mut values = Vec::with_capacity(alloc, 2)?;
     values.push(Value::Number(Number::from_u64(place as u64)))?;
     values.push(Value::String(tag))?;
-    Ok(Value::Object(names.with_values(alloc, values)?))
+    Value::object(alloc, names.with_values(alloc, values)?)
 }
 
 /// The names of a row's members, which all rows share.

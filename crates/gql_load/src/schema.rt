@@ -38,8 +38,8 @@ pub(crate) fn load_schema(alloc: Global, rows: usize) -> Made<SchemaForm>
 fn query_type(alloc: Global, rows: usize) -> Made<TypeForm>
     ensures { IfOk result (λ form. form ≡ query_type rows) }
 {
-    let rows = load_rows(alloc, rows)?;
-    let rule = RuleForm::Const(Answered::Value(Value::List(rows)));
+    let rows = Value::list(alloc, load_rows(alloc, rows)?)?;
+    let rule = RuleForm::Const(Answered::Value(rows));
     let ty = TypeRef::named_nn_list_nn(alloc, "Row")?;
     let mut fields = Pairs::new(alloc);
     fields.add(Name::new(alloc, "rows")?, field_by(alloc, ty, rule))?;

@@ -31,10 +31,12 @@ use Rattle.gql_merged.specs.Completing.{IsLeaf, leaf_in}
 use Rattle.gql_merged.specs.Filling.{tree_with}
 use Rattle.gql_merged.specs.Holds.{ComesAlone, IsLeafAlone}
 use Rattle.gql_merged.specs.Listed.{AreBelow}
+use Rattle.gql_merged.specs.Placed.{IsPlaced}
 use Rattle.gql_merged.specs.Stored.{bare, Spot, spots}
 use Rattle.gql_merged.specs.Tasks.{IsDeep, job_of_task, job_with, path_with}
 use Rattle.gql_merged.specs.declared.group.Group.{Group}
 use Rattle.gql_merged.specs.declared.kept.Filled.{Filled}
+use Rattle.gql_merged.specs.declared.kept.Placed.{Placed}
 use Rattle.gql_merged.specs.declared.level.Node.{Node}
 use Rattle.gql_merged.specs.declared.parent.Found.{Found}
 use Rattle.gql_merged.specs.declared.parent.Parent.{Parent}
@@ -69,6 +71,13 @@ module _ {V : Type 0} (parent : Parent V) (node : Node) (answer : Answer V) wher
     pub whole_is : whole ≡ shape_of (types_of node.basis.types.now) (type_in node.asks) answer.result
     pub found_is : found ≡ spots whole (path_with parent.held node)
     pub below : AreBelow found
+
+  -- an answer whose objects are placed
+  pub takes_placed : (old new : List (Job V)) (placed : Placed V)
+      → IsPlaced node (path_with parent.held node) old new (shape_of (types_of node.basis.types.now) (type_in node.asks) answer.result) placed
+      → Takes (shape_of (types_of node.basis.types.now) (type_in node.asks) answer.result)
+      (spots (shape_of (types_of node.basis.types.now) (type_in node.asks) answer.result) (path_with parent.held node))
+  takes_placed old new placed is = record { whole_is = refl; found_is = refl; below = is.below }
 
   module _ (leaf : Value) (is : IsLeaf (shape_of (types_of node.basis.types.now) (type_in node.asks) answer.result) leaf) where
     -- an answer that is a leaf as it stands has no objects

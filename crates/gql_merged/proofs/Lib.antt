@@ -3,6 +3,7 @@ pub mod ArgumentLemmas
 pub mod AskingLemmas
 pub mod AssembledLemmas
 pub mod AssemblyLemmas
+pub mod BareLemmas
 pub mod BeneathLemmas
 pub mod CompletingLemmas
 pub mod ContextLemmas

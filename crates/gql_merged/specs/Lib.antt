@@ -1,5 +1,6 @@
 pub mod ArgumentValues
 pub mod Asks
+pub mod Bare
 pub mod Assembled
 pub mod Assembling
 pub mod Basis
@@ -23,6 +24,7 @@ pub mod Merged
 pub mod MergedLaws
 pub mod NeverRoots
 pub mod Parents
+pub mod Placed
 pub mod Run
 pub mod Serial
 pub mod Standing

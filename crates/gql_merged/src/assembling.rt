@@ -1,30 +1,23 @@
 //! The places of tasks, put together from the one that was answered last to the first. So the
 //! places beneath a task stand behind all others when it is its turn, and are moved into its own.
 ghost use Rattle.std.specs.Prelude.{ℕ, ◌≡◌, ◌<◌, ◌≤◌, [], List, None, Some};
-ghost use Rattle.std.specs.Prelude.{drop, length, map, take, IfOk, OnOk};
-ghost use Rattle.gql_place.specs.Alike.{Paired, SameMembers};
-ghost use Rattle.gql_place.specs.Pieces.{members_in, place_in};
-ghost use Rattle.gql_merged.specs.Assembling.{AllHeldSince, AreApart, ArePlaced, IsMade};
-ghost use Rattle.gql_merged.specs.Assembling.{IsMadeAlone, IsPutOpen, members_each};
+ghost use Rattle.std.specs.Prelude.{drop, length, take, IfOk, OnOk};
+ghost use Rattle.gql_merged.specs.Assembling.{AllHeldSince, ArePlaced, IsMade};
+ghost use Rattle.gql_merged.specs.Assembling.{IsMadeAlone, IsPutOpen};
 ghost use Rattle.gql_merged.specs.Entries.{laid};
 ghost use Rattle.gql_merged.specs.Fitting.{entries_in};
 ghost use Rattle.gql_merged.specs.Holds.{store_in};
 ghost use Rattle.gql_merged.specs.Jobs.{Job};
-ghost use Rattle.gql_merged.specs.Parents.{standing_behind};
 ghost use Rattle.gql_merged.specs.Standing.{present, stands_for, put_open, PutsAt};
 ghost use Rattle.gql_resolve.specs.Call.{Call};
 ghost use Rattle.gql_resolve.specs.declared.answer.Answer.{Answer};
 
-use crate::filling::fill;
 use crate::kept::{Filled, Kept};
-use crate::members::members_at;
-use crate::parent::Parent;
 use gql_base::Made;
-use gql_place::{MemberPieces, Piece, Place};
+use gql_place::{Piece, Place};
 use std::alloc::Global;
 use std::collections::VecDeque;
 use std::mem;
-use std::rc::Rc;
 
 /// How much room a list of what is kept may have without giving it back.
 const ROOM: usize = 1024;
@@ -182,27 +175,9 @@ fn split_behind(places: &mut Vec<Option<Piece>>, first: usize) -> Made<VecDeque<
 
 /// What is kept of the place of what a task came to, where it came to no object.
 pub(crate) fn piece_alone<'a, V: Drop>(alloc: Global, filled: Filled<'a, V>) -> Made<Piece>
-    requires { filled.parents.items ≡ [] }
     ensures { IfOk result (λ piece. IsMadeAlone filled.entry piece) }
 {
-    let Filled {
-        pos,
-        non_null,
-        added,
-        headers,
-        whole,
-        shape,
-        parents: _,
-    } = filled;
-    let tree = fill(alloc, shape, pos, whole, &mut VecDeque::new(alloc))?;
-    let place = Place {
-        pos,
-        non_null,
-        added,
-        headers,
-        tree,
-    };
-    Piece::new(alloc, whole, place)
+    piece_from(alloc, filled, &mut VecDeque::new(alloc))
 }
 
 /// What is kept of the place of what a task came to, of what is kept of the places beneath it.
@@ -222,8 +197,7 @@ fn piece_from<'a, V: Drop>(
         shape,
         parents,
     } = filled;
-    let mut members = all_members(alloc, parents.as_slice(), whole, own)?;
-    let tree = fill(alloc, shape, pos, whole, &mut members)?;
+    let tree = shape.fill(alloc, pos, whole, parents, own)?;
     let place = Place {
         pos,
         non_null,
@@ -232,23 +206,4 @@ fn piece_from<'a, V: Drop>(
         tree,
     };
     Piece::new(alloc, whole, place)
-}
-
-/// The members of objects, of the places of their tasks.
-fn all_members<'a, V: Drop>(
-    alloc: Global,
-    parents: &[Rc<Parent<'a, V>>],
-    whole: bool,
-    own: &mut VecDeque<Option<Piece>>,
-) -> Made<VecDeque<MemberPieces>>
-    ensures { AreApart whole (map standing_behind parents.entry.now) → IfOk result (λ members.
-        Paired (SameMembers whole) (map members_in members.items)
-        (members_each (map standing_behind parents.entry.now)
-        (map place_in (present own.old.items)))) }
-{
-    let mut members = VecDeque::with_capacity(alloc, parents.len())?;
-    for parent in parents {
-        members.push_back(members_at(alloc, parent.level.as_ref(), whole, own)?)?;
-    }
-    Ok(members)
 }

@@ -120,7 +120,7 @@ fn complete_list_value<V: Drop>(
 {
     match value {
         Value::Null => Ok(Shape::Absent),
-        Value::List(items) => complete_values(alloc, inner, known, items),
+        Value::List(items) => complete_values(alloc, inner, known, items.into_inner(alloc)?),
         _ => fault_of(alloc, "internal: expects an array"),
     }
 }

@@ -65,7 +65,13 @@ fn fill_items(
 }
 
 /// What is kept of the place of an item.
-fn item_piece(alloc: Global, pos: Pos, non_null: bool, whole: bool, tree: Tree) -> Made<Piece>
+pub(crate) fn item_piece(
+    alloc: Global,
+    pos: Pos,
+    non_null: bool,
+    whole: bool,
+    tree: Tree,
+) -> Made<Piece>
     ensures { IfOk result (λ piece. Same whole (place_in piece) (item_of pos non_null tree)) }
 {
     Piece::new(alloc, whole, item_place(alloc, pos, non_null, tree))

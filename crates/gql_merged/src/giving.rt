@@ -6,6 +6,7 @@ ghost use Rattle.gql_merged.specs.Fitting.{IsFilled, IsFilledWith, made_beneath,
 ghost use Rattle.gql_merged.specs.Jobs.{jobs_beneath};
 ghost use Rattle.gql_merged.specs.Tasks.{IsDeep, job_of_task, jobs_in, job_with};
 
+use crate::bare::Bare;
 use crate::kept::Filled;
 use crate::known::Known;
 use crate::level::Node;
@@ -94,7 +95,7 @@ fn fill_put<'a, V>(
         added: Items::new(alloc),
         headers: Items::new(alloc),
         whole: node.basis.grouping.keeps_whole(),
-        shape: shape_put(put),
+        shape: Bare::of(shape_put(put)),
         parents: Vec::new(alloc),
     }
 }

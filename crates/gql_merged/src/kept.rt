@@ -1,6 +1,6 @@
+use crate::bare::Bare;
 use crate::parent::Parent;
 use gql_base::{Error, Items, Pos};
-use gql_place::Shape;
 use gql_request::HeaderOp;
 use std::rc::Rc;
 
@@ -13,14 +13,14 @@ pub struct Filled<'a, V> {
     pub added: Items<Error>,
     pub headers: Items<HeaderOp>,
     pub whole: bool,
-    pub shape: Shape<(), ()>,
+    pub shape: Bare,
     pub parents: Vec<Rc<Parent<'a, V>>>,
 }
 
 /// An answer without its objects, and these, each with its fields.
 #[derive(Drop)]
 pub struct Placed<'a, V> {
-    pub shape: Shape<(), ()>,
+    pub shape: Bare,
     pub parents: Vec<Rc<Parent<'a, V>>>,
 }
 

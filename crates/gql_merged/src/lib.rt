@@ -10,6 +10,7 @@ mod argument_values;
 mod asking;
 mod asks;
 mod assembling;
+mod bare;
 mod basis;
 mod completing;
 mod filling;

@@ -1,20 +1,17 @@
 //! The objects of a list, each with its tasks. They share their fields and the steps to the list.
-ghost use Rattle.std.specs.Prelude.{◌≡◌, [], ◌++◌, map, replicate, IfOk, MatchOption, OnOk, Some};
+ghost use Rattle.std.specs.Prelude.{◌≡◌, [], ◌++◌, map, IfOk, MatchOption, OnOk, Some};
 ghost use Rattle.std.specs.List.{flat_map};
 ghost use Rattle.gql_base.specs.Kinds.{list_of};
-ghost use Rattle.gql_place.specs.declared.shape.Shape.TheVariants as shape;
 ghost use Rattle.gql_resolve.specs.declared.field_value.FieldValue.TheVariants as kind;
-ghost use Rattle.gql_select.specs.Collected.{own_selections};
 ghost use Rattle.gql_merged.specs.Beneath.{IsBeneath};
-ghost use Rattle.gql_merged.specs.Groups.{united};
-ghost use Rattle.gql_merged.specs.Listed.{AreBelow, item_standing, items_behind, items_given};
+ghost use Rattle.gql_merged.specs.Listed.{item_standing, items_behind, items_given};
 ghost use Rattle.gql_merged.specs.Listed.{items_standing, objects_in};
-ghost use Rattle.gql_merged.specs.Parents.{jobs_here, jobs_of_standing, standing_at};
-ghost use Rattle.gql_merged.specs.Parents.{standing_behind};
+ghost use Rattle.gql_merged.specs.Parents.{jobs_here, jobs_of_standing, standing_behind};
+ghost use Rattle.gql_merged.specs.Placed.{IsPlaced};
 ghost use Rattle.gql_merged.specs.Steps.{path_of};
-ghost use Rattle.gql_merged.specs.Stored.{Bare, bare, spots};
 ghost use Rattle.gql_merged.specs.Tasks.{jobs_in, path_with};
 
+use crate::bare::Bare;
 use crate::kept::Placed;
 use crate::level::Node;
 use crate::parent::{Held, Parent, Shared, Trail};
@@ -23,7 +20,6 @@ use crate::standing::make_level;
 use crate::task::Task;
 use crate::task_making::make_tasks;
 use gql_base::{Error, Items, Made, Value};
-use gql_place::Shape;
 use gql_resolve::FieldValue;
 use std::alloc::Global;
 use std::rc::Rc;
@@ -45,18 +41,6 @@ fn shared_by<'a, V>(
     Ok(Shared { level, steps })
 }
 
-/// As many objects, without what they are.
-#[tactic(auto, using(std::proofs::lemmas::List::replicate_more))]
-fn bare_objects(alloc: Global, count: usize) -> Made<Items<Shape<(), ()>>>
-    ensures { IfOk result (λ shapes. shapes ≡ replicate {A = Bare} count (shape.Object tt tt)) }
-{
-    let mut shapes = Items::with_capacity(alloc, count)?;
-    for _object in 0..count {
-        shapes.push(Shape::Object((), ()))?;
-    }
-    Ok(shapes)
-}
-
 /// The objects of a name that a result is a list of, each with its tasks behind the others.
 pub(crate) fn place_list<'a, V: Drop>(
     alloc: Global,
@@ -67,26 +51,14 @@ pub(crate) fn place_list<'a, V: Drop>(
     outcome: Result<Option<FieldValue<V>>, Error>,
     tasks: &mut Vec<Task<'a, V>>,
 ) -> Made<Placed<'a, V>>
-    ensures shape { IfOk result (λ placed. placed.shape
-        ≡ bare (objects_in object.now non_null (items_given outcome))) }
-    ensures parents { IfOk result (λ placed. map standing_behind placed.parents.items
-        ≡ map (standing_at node.entry.now.basis (own_selections (united node.entry.now.group)))
-        (spots (objects_in object.now non_null (items_given outcome))
-        (path_with held.entry.now node.entry.now))) }
-    ensures tasks { OnOk result (jobs_in tasks.new.items ≡ jobs_in tasks.old.items
-        ++ flat_map jobs_of_standing
-        (map (standing_at node.entry.now.basis (own_selections (united node.entry.now.group)))
-        (spots (objects_in object.now non_null (items_given outcome))
-        (path_with held.entry.now node.entry.now)))) }
-    ensures below { OnOk result (AreBelow
-        (spots (objects_in object.now non_null (items_given outcome))
-        (path_with held.entry.now node.entry.now))) }
+    ensures { IfOk result (IsPlaced node.entry.now (path_with held.entry.now node.entry.now)
+        (jobs_in tasks.old.items) (jobs_in tasks.new.items)
+        (objects_in object.now non_null (items_given outcome))) }
 {
     let shared = shared_by(alloc, held, node, object)?;
     let parents = place_objects(alloc, &shared, outcome, tasks)?;
-    let shapes = bare_objects(alloc, parents.len())?;
     Ok(Placed {
-        shape: Shape::List(non_null, shapes),
+        shape: Bare::objects(non_null, parents.len()),
         parents,
     })
 }
@@ -144,16 +116,17 @@ fn place_value<'a, V: Drop>(
         ++ flat_map jobs_of_standing
         (items_standing shared.entry.now 0 (items_behind (Some (kind.Value value))))) }
 {
-    place_values(alloc, shared, values_in(alloc, value), tasks)
+    place_values(alloc, shared, values_in(alloc, value)?, tasks)
 }
 
 /// The items of a value that is a list; others have none.
-fn values_in(alloc: Global, value: Value) -> Items<Value>
-    ensures { MatchOption (list_of value) (result ≡ []) (λ items. result ≡ items) }
+fn values_in(alloc: Global, value: Value) -> Made<Items<Value>>
+    ensures { IfOk result (λ values. MatchOption (list_of value)
+        (values ≡ []) (λ items. values ≡ items)) }
 {
     match value {
-        Value::List(items) => items,
-        _ => Items::new(alloc),
+        Value::List(items) => items.into_inner(alloc),
+        _ => Ok(Items::new(alloc)),
     }
 }
 

@@ -1,17 +1,14 @@
 //! The objects of an answer, each with its fields and its tasks, and what is left of the answer.
 ghost use Rattle.std.specs.Prelude.{◌≡◌, ◌++◌, map, IfOk, OnOk};
-ghost use Rattle.std.specs.List.{flat_map};
 ghost use Rattle.gql_base.specs.TypeRef.{innermost};
 ghost use Rattle.gql_meaning.specs.Completion.{shape_of};
 ghost use Rattle.gql_schema.specs.Table.{types_of};
-ghost use Rattle.gql_select.specs.Collected.{own_selections};
-ghost use Rattle.gql_merged.specs.Groups.{united};
-ghost use Rattle.gql_merged.specs.Listed.{AreBelow};
-ghost use Rattle.gql_merged.specs.Parents.{jobs_of_standing, spot_found, standing_at};
-ghost use Rattle.gql_merged.specs.Parents.{standing_behind};
+ghost use Rattle.gql_merged.specs.Parents.{spot_found};
+ghost use Rattle.gql_merged.specs.Placed.{IsPlaced};
 ghost use Rattle.gql_merged.specs.Stored.{bare, spots};
 ghost use Rattle.gql_merged.specs.Tasks.{jobs_in, path_with};
 
+use crate::bare::Bare;
 use crate::completing::complete_known;
 use crate::kept::Placed;
 use crate::known::Known;
@@ -40,20 +37,9 @@ pub(crate) fn place_answer<'a, V: Drop>(
     tasks: &mut Vec<Task<'a, V>>,
 ) -> Made<Placed<'a, V>>
     requires { known.now.name.now ≡ innermost ty.now }
-    ensures shape { IfOk result (λ placed. placed.shape
-        ≡ bare (shape_of (types_of known.now.types.now) ty.now outcome)) }
-    ensures parents { IfOk result (λ placed. map standing_behind placed.parents.items
-        ≡ map (standing_at node.entry.now.basis (own_selections (united node.entry.now.group)))
-        (spots (shape_of (types_of known.now.types.now) ty.now outcome)
-        (path_with held.entry.now node.entry.now))) }
-    ensures tasks { OnOk result (jobs_in tasks.new.items ≡ jobs_in tasks.old.items
-        ++ flat_map jobs_of_standing
-        (map (standing_at node.entry.now.basis (own_selections (united node.entry.now.group)))
-        (spots (shape_of (types_of known.now.types.now) ty.now outcome)
-        (path_with held.entry.now node.entry.now)))) }
-    ensures below { OnOk result (AreBelow
-        (spots (shape_of (types_of known.now.types.now) ty.now outcome)
-        (path_with held.entry.now node.entry.now))) }
+    ensures { IfOk result (IsPlaced node.entry.now (path_with held.entry.now node.entry.now)
+        (jobs_in tasks.old.items) (jobs_in tasks.new.items)
+        (shape_of (types_of known.now.types.now) ty.now outcome)) }
 {
     match object_list(known, ty, &outcome) {
         Some(non_null) => place_list(alloc, held, node, known.name, non_null, outcome, tasks),
@@ -72,26 +58,18 @@ fn place_completed<'a, V: Drop>(
     tasks: &mut Vec<Task<'a, V>>,
 ) -> Made<Placed<'a, V>>
     requires { known.now.name.now ≡ innermost ty.now }
-    ensures shape { IfOk result (λ placed. placed.shape
-        ≡ bare (shape_of (types_of known.now.types.now) ty.now outcome)) }
-    ensures parents { IfOk result (λ placed. map standing_behind placed.parents.items
-        ≡ map (standing_at node.entry.now.basis (own_selections (united node.entry.now.group)))
-        (spots (shape_of (types_of known.now.types.now) ty.now outcome)
-        (path_with held.entry.now node.entry.now))) }
-    ensures tasks { OnOk result (jobs_in tasks.new.items ≡ jobs_in tasks.old.items
-        ++ flat_map jobs_of_standing
-        (map (standing_at node.entry.now.basis (own_selections (united node.entry.now.group)))
-        (spots (shape_of (types_of known.now.types.now) ty.now outcome)
-        (path_with held.entry.now node.entry.now)))) }
-    ensures below { OnOk result (AreBelow
-        (spots (shape_of (types_of known.now.types.now) ty.now outcome)
-        (path_with held.entry.now node.entry.now))) }
+    ensures { IfOk result (IsPlaced node.entry.now (path_with held.entry.now node.entry.now)
+        (jobs_in tasks.old.items) (jobs_in tasks.new.items)
+        (shape_of (types_of known.now.types.now) ty.now outcome)) }
 {
     let whole = complete_known(alloc, known, ty, outcome)?;
     let mut found = Vec::new(alloc);
     let shape = take_apart(alloc, held, node, whole, &mut found)?;
     let parents = place_found(alloc, node, found, tasks)?;
-    Ok(Placed { shape, parents })
+    Ok(Placed {
+        shape: Bare::of(shape),
+        parents,
+    })
 }
 
 /// What is left of a completed answer without its objects, which are found at their paths.

@@ -221,8 +221,11 @@ fn place_of_root<'a, V: Drop>(
         base: _,
         roots,
     } = plan;
+    let count = tasks.len();
+    // What tasks hold of their objects is free before the places are put together.
+    drop(tasks);
     let mut places = places;
-    add_open(&mut places, tasks.len())?;
+    add_open(&mut places, count)?;
     assemble(alloc, kept, roots, &mut places)?;
     let mut own = VecDeque::from_vec(places);
     root_piece(alloc, pos, root, whole, &mut own)

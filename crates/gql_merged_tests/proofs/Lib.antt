@@ -1,2 +1,3 @@
+mod ListedRows
 mod PieceRows
 mod StoreRows

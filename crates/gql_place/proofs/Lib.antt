@@ -9,3 +9,4 @@ pub mod RaisingLemmas
 pub mod Rows
 pub mod SameLemmas
 pub mod WeightLemmas
+pub mod SendLemmas

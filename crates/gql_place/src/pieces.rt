@@ -148,7 +148,7 @@ fn list_of(alloc: Global, whole: bool, values: Vec<Value>) -> Made<Tree>
     if whole {
         Ok(Tree::List(Items::from_vec(places_of(alloc, values)?)))
     } else {
-        Ok(Tree::Leaf(Value::List(Items::from_vec(values))))
+        Ok(Tree::Leaf(Value::list(alloc, Items::from_vec(values))?))
     }
 }
 
@@ -163,7 +163,7 @@ fn object_of(alloc: Global, whole: bool, values: Pairs<Value>) -> Made<Tree>
         let places = places_of(alloc, values)?;
         Ok(Tree::Object(Pairs::from_parts(names, places)))
     } else {
-        Ok(Tree::Leaf(Value::Object(values)))
+        Ok(Tree::Leaf(Value::object(alloc, values)?))
     }
 }
 

@@ -46,11 +46,11 @@ fn tree_value(alloc: Global, tree: Tree) -> Made<Option<Value>>
         Tree::Leaf(value) => Ok(Some(value)),
         Tree::Fault(_) => Ok(None),
         Tree::Object(members) => match member_values(alloc, members)? {
-            Some(values) => Ok(Some(Value::Object(values))),
+            Some(values) => Ok(Some(Value::object(alloc, values)?)),
             None => Ok(None),
         },
         Tree::List(items) => match values_in(alloc, items.into_vec())? {
-            Some(values) => Ok(Some(Value::List(Items::from_vec(values)))),
+            Some(values) => Ok(Some(Value::list(alloc, Items::from_vec(values))?)),
             None => Ok(None),
         },
     }

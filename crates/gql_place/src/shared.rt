@@ -3,6 +3,6 @@ use crate::Shape;
 
 fn shared<T: Send + Sync>() {}
 
-fn shapes<O: Send + Sync, P: Send + Sync>() {
-    shared::<Shape<O, P>>();
+fn of_shape() {
+    shared::<Shape<u64, u64>>();
 }

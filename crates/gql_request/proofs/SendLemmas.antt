@@ -1,7 +1,9 @@
 -- The types of requests and responses may go to other threads, and threads may read them at once: a lemma for each type that
 -- holds values or documents, from below, as a search that meets one of them twice ends at its limits without them.
 use denote.Param.Send.{IsSend, IsSync, sendable}
+use denote.Ref.{NamedLft}
 use Rattle.gql_base.proofs.SendLemmas.{value_send, value_sync, value_field_send, value_field_sync}
+use Rattle.gql_base.proofs.common.Common.TheSendSync as common
 use Rattle.gql_base.proofs.items.Items.TheSendSync as items
 use Rattle.gql_base.proofs.name.Name.TheSendSync as name
 use Rattle.gql_base.proofs.pairs.Pairs.TheSendSync as pairs
@@ -20,21 +22,22 @@ use Rattle.gql_request.proofs.query_env.IntrospectionMode.TheSendSync as mode
 use Rattle.gql_request.specs.contracts.batch_request.BatchRequest as batch_request
 use Rattle.gql_request.specs.contracts.batch_response.BatchResponse as batch_response
 use Rattle.gql_request.specs.contracts.data.Data as held
+use Rattle.gql_request.specs.contracts.extension_context.ExtensionContext as extension_context
 use Rattle.gql_request.specs.contracts.query_env.QueryEnv as query_env
 use Rattle.gql_request.specs.contracts.request.Request as request
 use Rattle.gql_request.specs.contracts.response.Response as response
 
 pub variables_send : IsSend variables.the_row
-variables_send = search (value_send, pairs.the_send, sendable) depth 20
+variables_send = search (value_send, value_sync, common.the_send, pairs.the_send, pairs.the_sync, sendable) depth 20
 
 pub variables_field_send : IsSend variables.the_field.row
-variables_field_send = search (value_send, pairs.the_send, sendable) depth 20
+variables_field_send = search (value_send, value_sync, common.the_send, pairs.the_send, pairs.the_sync, sendable) depth 20
 
 pub variables_sync : IsSync variables.the_row
-variables_sync = search (value_sync, pairs.the_sync, sendable) depth 20
+variables_sync = search (value_send, value_sync, common.the_sync, pairs.the_send, pairs.the_sync, sendable) depth 20
 
 pub variables_field_sync : IsSync variables.the_field.row
-variables_field_sync = search (value_sync, pairs.the_sync, sendable) depth 20
+variables_field_sync = search (value_send, value_sync, common.the_sync, pairs.the_send, pairs.the_sync, sendable) depth 20
 
 pub extension_values_send : IsSend extension_values.the_row
 extension_values_send = search (value_send, name.the_send, std.crosses, sendable) depth 20
@@ -79,6 +82,12 @@ data_sync = search (value_sync, key_tree.the_field_sync, std.crosses, sendable) 
 
 pub data_field_sync : IsSync held.the_field.row
 data_field_sync = search (value_sync, key_tree.the_field_sync, std.crosses, sendable) depth 20
+
+pub extension_context_send : (a : NamedLft) → IsSend (extension_context.the_row a)
+extension_context_send a = search (data_sync, sendable) depth 20
+
+pub extension_context_sync : (a : NamedLft) → IsSync (extension_context.the_row a)
+extension_context_sync a = search (data_sync, sendable) depth 20
 
 pub query_env_send : IsSend query_env.the_row
 query_env_send = search (

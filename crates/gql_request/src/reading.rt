@@ -99,7 +99,7 @@ pub fn read_extensions(alloc: Global, member: Option<&Value>) -> Result<Pairs<Va
 {
     match member {
         None | Some(Value::Null) => Ok(Pairs::new(alloc)),
-        Some(Value::Object(members)) => Ok(members.try_clone(alloc)?),
+        Some(Value::Object(members)) => Ok(members.try_clone(alloc)?.into_inner(alloc)?),
         Some(_) => Err(Fault::Refused(Reason::NoExtensions)),
     }
 }

@@ -56,7 +56,8 @@ fn variables(alloc: Global) -> Made<Variables> {
     let name = Name::new(alloc, "a")?;
     let mut members = Pairs::new(alloc);
     members.add(name, Value::Number(Number::from_u64(5)))?;
-    Ok(Variables::from_value(alloc, Value::Object(members)))
+    let members = Value::object(alloc, members)?;
+    Ok(Variables::from_value(alloc, members))
 }
 
 #[tactic(auto, using(gql_request::proofs::NestLemmas::empty_within))]

@@ -9,7 +9,7 @@ use std::test::Fail;
 fn object(alloc: Global, name: &str, value: Value) -> Made<Value> {
     let mut members = Pairs::new(alloc);
     members.add(Name::new(alloc, name)?, value)?;
-    Ok(Value::Object(members))
+    Value::object(alloc, members)
 }
 
 /// The variable a with a number.
@@ -99,7 +99,7 @@ fn requests_are_built(rt: HostRuntime) -> Result<(), Fail> {
 fn value_of_kind(alloc: Global, kind: &str) -> Made<Value> {
     match kind {
         "text" => Ok(Value::String(Text::new(alloc, "A")?)),
-        "list" => Ok(Value::List(Items::new(alloc))),
+        "list" => Value::list(alloc, Items::new(alloc)),
         "number" => Ok(Value::Number(Number::from_u64(1))),
         "object" => object(alloc, "a", Value::Number(Number::from_u64(7))),
         _ => Ok(Value::Null),
@@ -108,7 +108,7 @@ fn value_of_kind(alloc: Global, kind: &str) -> Made<Value> {
 
 /// The extensions of a request as JSON.
 fn extensions_text(alloc: Global, extensions: Pairs<Value>) -> Made<Text> {
-    let object = Value::Object(extensions);
+    let object = Value::object(alloc, extensions)?;
     json_of(alloc, &object)
 }
 
@@ -195,9 +195,9 @@ fn batch_text(alloc: Global, count: usize) -> Made<Text> {
 fn objects(alloc: Global, count: usize) -> Made<Value> {
     let mut values = Items::new(alloc);
     for _ in 0..count {
-        values.push(Value::Object(Pairs::new(alloc)))?;
+        values.push(Value::object(alloc, Pairs::new(alloc))?)?;
     }
-    Ok(Value::List(values))
+    Value::list(alloc, values)
 }
 
 fn read_batch_text(alloc: Global, value: &Value) -> Made<Text> {
@@ -222,7 +222,7 @@ fn single_text(batch: BatchRequest) -> &'static str {
 
 /// What is read from an object alone.
 fn object_text(alloc: Global) -> Made<Text> {
-    read_batch_text(alloc, &Value::Object(Pairs::new(alloc)))
+    read_batch_text(alloc, &Value::object(alloc, Pairs::new(alloc))?)
 }
 
 #[test]

@@ -10,7 +10,7 @@ fn number(number: u64) -> Value {
 
 /// A response with some data, extensions, and as many errors as wanted.
 fn response(alloc: Global, errors: usize) -> Made<Response> {
-    let mut response = Response::new(alloc, Value::Object(Pairs::new(alloc)));
+    let mut response = Response::new(alloc, Value::object(alloc, Pairs::new(alloc))?);
     for _ in 0..errors {
         response.errors.push(ServerError::new(alloc, "e", None)?)?;
     }

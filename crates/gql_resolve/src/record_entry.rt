@@ -11,10 +11,10 @@ use std::alloc::Global;
 pub struct RecordEntry {
     /// The task's number, in the order of making.
     pub task: u64,
-    /// The number of the task's resolver.
-    pub resolver: u32,
     /// The text of the path to the task's place.
     pub path: Text,
+    /// The number of the task's resolver.
+    pub resolver: u32,
     /// Whether the answer was there.
     pub ready: bool,
 }

@@ -123,8 +123,8 @@ pub fn resolved_value(alloc: Global, env: &QueryEnv, value: &DocValue) -> Made<V
         DocValue::Number(number) => Ok(Value::Number(*number)),
         DocValue::String(text) => Ok(Value::String(text.try_clone(alloc)?)),
         DocValue::Enum(name) => Ok(Value::Enum(name.try_clone(alloc)?)),
-        DocValue::List(items) => Ok(Value::List(resolve_items(alloc, env, items.as_slice())?)),
-        DocValue::Object(members) => Ok(Value::Object(resolve_members(alloc, env, members)?)),
+        DocValue::List(items) => Value::list(alloc, resolve_items(alloc, env, items.as_slice())?),
+        DocValue::Object(members) => Value::object(alloc, resolve_members(alloc, env, members)?),
     }
 }
 

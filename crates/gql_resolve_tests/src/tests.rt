@@ -5,9 +5,7 @@ use crate::sample::Last;
 use gql_base::{Copied, Error, Items, Made, Value};
 use gql_doc::OperationType;
 use gql_request::{DataContext, DataKey};
-use gql_resolve::{
-    Answer, FieldFuture, FieldValue, Layers, Polled, RecordEntry, ResolverContext, Turns,
-};
+use gql_resolve::{Answer, FieldFuture, FieldValue, Polled, RecordEntry, ResolverContext, Turns};
 use http_header::{HeaderName, HeaderValue};
 use std::alloc::Global;
 use std::test::Fail;
@@ -165,7 +163,5 @@ fn is_send_sync<T: Send + Sync>() {}
 #[test]
 fn types_can_be_shared() {
     is_send_sync::<FieldFuture<u64, u64>>();
-    is_send_sync::<FieldValue<u64>>();
-    is_send_sync::<Layers<'static>>();
     is_send_sync::<RecordEntry>();
 }

@@ -12,7 +12,8 @@ fn variables(alloc: Global) -> Made<Variables> {
     let mut members = Pairs::new(alloc);
     members.insert(Name::new(alloc, "a")?, Value::Number(Number::from_i64(7)))?;
     members.insert(Name::new(alloc, "z")?, Value::Null)?;
-    Ok(Variables::from_value(alloc, Value::Object(members)))
+    let members = Value::object(alloc, members)?;
+    Ok(Variables::from_value(alloc, members))
 }
 
 fn query(alloc: Global, text: &str) -> Made<Option<Ground>> {

@@ -1,8 +1,8 @@
 //! Tables of types, called as their users call them.
 use gql_base::{Made, Text, TypeRef};
 use gql_schema::{
-    ByName, Field, InputObject, InputValue, Interface, InterfaceField, NameSet, Object,
-    SchemaError, SchemaType, Types, Union,
+    Field, InputObject, InputValue, Interface, InterfaceField, Object, SchemaError, SchemaType,
+    Types, Union,
 };
 use std::alloc::Global;
 use std::test::Fail;
@@ -226,13 +226,4 @@ fn entities_have_two_types(rt: HostRuntime) -> Result<(), Fail> {
     assert!(rt; has_entities(&types));
     assert_eq!(rt; told(rt.alloc(), types)?.as_str(), "sound");
     Ok(())
-}
-
-fn is_send_sync<T: Send + Sync>() {}
-
-#[test]
-fn types_can_be_shared() {
-    is_send_sync::<ByName<Field>>();
-    is_send_sync::<NameSet>();
-    is_send_sync::<SchemaError>();
 }

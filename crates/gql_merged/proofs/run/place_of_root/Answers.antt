@@ -12,14 +12,14 @@ use Rattle.gql_merged.proofs.run.place_of_root.Goals as goal
 
 pub assemble-requires : goal.assemble-requires
 assemble-requires g c =
-    c.args.plan.laid ∙ ap Some (sym (c.in_ok-add_open.ensures.length ∙ c.len.ensures ∙ c.args.plan.tasks.ok.0))
+    c.args.plan.laid ∙ ap Some (sym (c.in_ok-add_open.ensures.length ∙ c.len-count.ensures ∙ c.args.plan.tasks.ok.0))
 
 pub returns : goal.returns
 returns g c = λ answer held apart.
     let own = present c.from_vec-own.result.items in
     let jobs = jobs_in c.args.plan.tasks.items in
     let same = length-map c.args.plan.tasks.items job_of_task in
-    let count = c.in_ok-add_open.ensures.length ∙ c.len.ensures ∙ c.args.plan.tasks.ok.0 in
+    let count = c.in_ok-add_open.ensures.length ∙ c.len-count.ensures ∙ c.args.plan.tasks.ok.0 in
     let placed = c.in_ok-assemble.ensures.placed 0 jobs answer (zero_low c.args.plan.roots) (same ∙ sym count)
     (held_over answer 0 jobs c.args.plan.kept.items c.args.plan.places.items c.add_open.new.places.items c.in_ok-add_open.ensures.same (λ k job above is. held k job is)) in
     let right : Paired (IsRight answer) (take c.args.plan.roots jobs) own

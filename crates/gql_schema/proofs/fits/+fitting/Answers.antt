@@ -1,8 +1,8 @@
-use Rattle.std.proofs.Common.{arith, ℕ, List, refl, ap, sym, ◌∙◌, length}
+use Rattle.std.proofs.Common.{arith, rules, ◌≡◌, ℕ, List, refl, ap, sym, ◌∙◌, length}
 use Rattle.std.proofs.lemmas.Option.{slice_get_read}
 use Rattle.gql_base.specs.Pairs.{under}
-use Rattle.gql_base.specs.declared.value.Value.{Value}
-use Rattle.gql_schema.specs.Fits.{Fitting, fits, fits_declared, fitting, fitting_member, is_non_null}
+use Rattle.gql_base.specs.declared.value.Value.{Value, the_lemmas}
+use Rattle.gql_schema.specs.Fits.{Fitting, fits, fits_declared, fits_members, fitting, fitting_member, is_non_null}
 use Rattle.gql_schema.specs.InputObject.{input_fields}
 use Rattle.gql_schema.specs.Table.{types_of}
 use Rattle.gql_schema.proofs.FitsLemmas.{given_fittings, one_member}
@@ -79,3 +79,10 @@ members_fit-returns t c =
     three_third _ _ _ c.members_are_declared.result c.fields_are_given.result c.has_its_number.result c.members_are_declared.ensures
     c.if-not-members_are_declared.false (c.fields_are_given.ensures ∙ sym (given_fittings table c.args.members.now c.args.input.now))
     c.if-not-fields_are_given.false c.has_its_number.ensures
+
+pub value_fits-returns-in-Some-InputObject : goal.value_fits-returns-in-Some-InputObject
+value_fits-returns-in-Some-InputObject t c =
+    let table = types_of c.args.types.now in
+    let fact : c.members_fit.result ≡ fits_members table c.in-Some-InputObject.input c.in-Object.members
+    = c.members_fit.ensures ∙ (λ i. fits_members table (c.in-Some-InputObject.input-is i) (c.deref-in-Some-InputObject.ensures i)) in
+    search (rules, the_lemmas)

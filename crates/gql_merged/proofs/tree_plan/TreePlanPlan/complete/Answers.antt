@@ -41,10 +41,6 @@ returns-in-Ok-clause-keeps g c = λ other given differs held.
     alone_keeps done c.args.self.now.base c.put_piece.new.self.base (ap (λ v. v.items) c.in_ok-put_piece-in-Ok.ensures.tasks) (ap (λ v. v.items) c.in_ok-put_piece-in-Ok.ensures.kept)
     c.in_ok-put_piece-in-Ok.ensures.base other given differs held
 
-pub piece_alone-requires : goal.piece_alone-requires
-piece_alone-requires g c =
-    no_items c.in_ok-filled.filled.parents.items (Rattle.std.specs.Vec.vec_len c.in_ok-filled.filled.parents) c.in_ok-filled.filled.parents.ok.0 c.if-is_empty.ensures
-
 -- what came to no object has its place
 alone : (g : _) (c : goal.After-drop-more-then-is_empty g)
     → PutsAlone g.row.V.Denot c.args.self.now.tasks.items c.args.self.now.places.items c.put_piece-then-is_empty.new.self.places.items c.args.number (job_of_task c.index-2.result.now) c.args.given

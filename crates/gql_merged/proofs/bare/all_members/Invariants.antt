@@ -4,7 +4,7 @@ use Rattle.gql_place.specs.Pieces.{members_in, place_in}
 use Rattle.gql_merged.specs.Assembling.{AreApart, members_each}
 use Rattle.gql_merged.specs.Parents.{standing_behind}
 use Rattle.gql_merged.specs.Standing.{present}
-use Rattle.gql_merged.proofs.assembling.all_members.Given as goal
+use Rattle.gql_merged.proofs.bare.all_members.Given as goal
 
 abbrev pub invariant-loop-parent : goal.invariant-loop-parent
 invariant-loop-parent g l =

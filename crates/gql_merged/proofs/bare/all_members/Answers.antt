@@ -10,7 +10,7 @@ use Rattle.gql_merged.specs.Standing.{present}
 use Rattle.gql_merged.specs.declared.level.Level.{Level}
 use Rattle.gql_merged.specs.declared.parent.Parent.{Parent}
 use Rattle.gql_merged.proofs.GatheredLemmas.{added_members, members_more, members_none, members_whole}
-use Rattle.gql_merged.proofs.assembling.all_members.Goals as goal
+use Rattle.gql_merged.proofs.bare.all_members.Goals as goal
 
 pub loop-parent-init : goal.loop-parent-init
 loop-parent-init g c = λ apart.

@@ -1,9 +1,0 @@
-use Rattle.std.proofs.Common.{◌≡◌, take}
-use Rattle.gql_base.specs.Pairs.{values_of}
-use Rattle.gql_base.proofs.copied.+copy.Given as goal
-
-abbrev pub invariant-copy_items-loop-item : goal.invariant-copy_items-loop-item
-invariant-copy_items-loop-item l = l.copies ≡ take l.item-index l.items
-
-abbrev pub invariant-copy_members-loop-place : goal.invariant-copy_members-loop-place
-invariant-copy_members-loop-place l = l.values.items ≡ values_of (take l.place l.members)
