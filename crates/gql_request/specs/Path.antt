@@ -13,6 +13,10 @@ field_or (Index place) other = other
 abbrev pub last_field : List PathSegment → Option (List ℕ)
 last_field segments = fold (λ last segment. field_or segment last) None segments
 
+-- a list begins with another
+abbrev pub IsFront : {A : Type 0} → List A → List A → Type 0
+IsFront front whole = take (length front) whole ≡ front
+
 -- the prefixes of the lengths from n down to 1
 abbrev pub prefixes_from : {A : Type 0} → ℕ → List A → List (List A)
 prefixes_from zero xs = []

@@ -1,10 +1,12 @@
-ghost use Rattle.std.specs.Prelude.{◌≡◌, ◌<◌, ◌++◌, IsSome, Some, IfOk, OnOk, length, map, codes};
+ghost use Rattle.std.specs.Prelude.{◌≡◌, ◌<◌, ◌++◌, IsSome, Some, IfOk, OnErr, OnOk, length, map};
+ghost use Rattle.std.specs.Prelude.{codes};
 ghost use Rattle.std.specs.Prelude.{string_bytes};
 ghost use Rattle.gql_base.specs.PathSegment.{path_text, segment_text};
 ghost use Rattle.gql_base.specs.Separated.{before};
-ghost use Rattle.gql_request.specs.Path.{last_field};
+ghost use Rattle.gql_request.specs.Path.{IsFront, last_field};
 
 use gql_base::{Items, Made, PathSegment, Text};
+use itoa::Buffer;
 use std::alloc::Global;
 
 /// The room that the text of a path takes at first.
@@ -54,16 +56,27 @@ impl<'a> QueryPathNode<'a> {
     }
 
     /// The texts of the segments, joined by dots.
-    #[tactic(auto, using(gql_base::proofs::SeparatedLemmas::separated_more))]
     pub fn text(&self, alloc: Global) -> Made<Text>
         ensures { IfOk result (λ text. text ≡ path_text self.now.segments.now) }
     {
         let mut out = String::with_capacity(alloc, ROOM)?;
-        for (place, segment) in self.segments.iter().enumerate() {
-            push_dot(&mut out, place)?;
-            push_segment(&mut out, segment)?;
-        }
+        self.push_text(&mut out)?;
         Ok(Text::from_string(out))
+    }
+
+    /// Appends the texts of the segments, joined by dots. Where memory is wanting, some of that may
+    /// stand behind the text already.
+    #[tactic(auto, using(gql_base::proofs::SeparatedLemmas::separated_more))]
+    pub fn push_text(&self, out: &mut String) -> Made<()>
+        ensures ok { OnOk result (string_bytes out.new ≡ string_bytes out.old
+            ++ path_text self.now.segments.now) }
+        ensures front { IsFront (string_bytes out.old) (string_bytes out.new) }
+    {
+        for (place, segment) in self.segments.iter().enumerate() {
+            push_dot(out, place)?;
+            push_segment(out, segment)?;
+        }
+        Ok(())
     }
 }
 
@@ -77,19 +90,21 @@ fn text_of(alloc: Global, segment: &PathSegment) -> Made<Text>
 
 /// Appends the text of a segment.
 fn push_segment(out: &mut String, segment: &PathSegment) -> Made<()>
-    ensures { OnOk result (string_bytes out.new ≡ string_bytes out.old
+    ensures ok { OnOk result (string_bytes out.new ≡ string_bytes out.old
         ++ segment_text segment.now) }
+    ensures err { OnErr result (string_bytes out.new ≡ string_bytes out.old) }
 {
     match segment {
         PathSegment::Field(name) => out.push_str(name.as_str()),
-        PathSegment::Index(index) => write!(out, "{index}"),
+        PathSegment::Index(index) => out.push_str(Buffer::new().format(*index)),
     }
 }
 
 /// Appends a dot, but before the segment at place 0 nothing.
 fn push_dot(out: &mut String, place: usize) -> Made<()>
-    ensures { OnOk result (string_bytes out.new ≡ string_bytes out.old
+    ensures ok { OnOk result (string_bytes out.new ≡ string_bytes out.old
         ++ before (codes ".") place) }
+    ensures err { OnErr result (string_bytes out.new ≡ string_bytes out.old) }
 {
     if place == 0 { Ok(()) } else { out.push('.') }
 }
