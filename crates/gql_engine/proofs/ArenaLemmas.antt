@@ -1,8 +1,8 @@
 -- Tasks that wait, as their states change.
-use Rattle.std.proofs.Common.{ℕ, zero, suc, ◌≡◌, ◌+◌, ◌≤◌, List, [], ◌∷◌, ◌++◌, length, refl, sym, ap, subst, ◌∙◌, arith, zero-add}
+use Rattle.std.proofs.Common.{ℕ, zero, suc, ◌≡◌, ◌+◌, ◌≤◌, List, [], ◌∷◌, ◌++◌, length, refl, sym, ap, subst, ◌∙◌, arith, zero-add, append_assoc, append-nil, length-append}
 use Rattle.std.proofs.lemmas.List.{map-append, length-map}
 use Rattle.std.specs.Prelude.{Some, slice_get, slice_set}
-use Rattle.std.specs.List.{remove}
+use Rattle.std.specs.List.{range_with_len, remove}
 use Rattle.gql_engine.specs.declared.arena.State.{State}
 use Rattle.gql_engine.specs.declared.arena.State.TheVariants as state
 use Rattle.gql_engine.specs.Record.{Mark, untold, begun, ready, waiting_from, waiting}
@@ -81,12 +81,12 @@ waiting_more first (begun ∷ marks) = ap (λ ns. first ∷ ns) (waiting_more (s
 waiting_more first (ready ∷ marks) = waiting_more (suc first) marks ∙ ap (λ n. waiting_from (suc first) marks ++ n ∷ []) (omega arith)
 
 module _ (F : Type 0) where
-  pub fresh_more : (n : ℕ) → fresh_states {F = F} (suc n) ≡ fresh_states n ++ state.Fresh ∷ []
+  fresh_more : (n : ℕ) → fresh_states {F = F} (suc n) ≡ fresh_states n ++ state.Fresh ∷ []
   fresh_more zero = refl
   fresh_more (suc n) = ap (λ ss. state.Fresh ∷ ss) (fresh_more n)
 
   -- one more fresh task at the end waits behind the others
-  pub one_more : (numbers : List ℕ) (states : List (State F)) (n : ℕ) → numbers ≡ waiting_from 0 (marks_of states) → n ≡ length states
+  one_more : (numbers : List ℕ) (states : List (State F)) (n : ℕ) → numbers ≡ waiting_from 0 (marks_of states) → n ≡ length states
       → numbers ++ n ∷ [] ≡ waiting_from 0 (marks_of (states ++ state.Fresh ∷ []))
   one_more numbers states n waits is =
       ap (λ ns. ns ++ n ∷ []) waits
@@ -114,3 +114,29 @@ module _ (F : Type 0) where
       unanswered state.Fresh differs = tt
       unanswered (state.Waiting f) differs = tt
       unanswered state.Done differs = absurd (differs refl)
+
+  -- fresh tasks at the end wait behind the others
+  more_wait : (numbers : List ℕ) (states : List (State F)) (first count : ℕ) → numbers ≡ waiting_from 0 (marks_of states) → first ≡ length states
+      → numbers ++ range_with_len first count ≡ waiting_from 0 (marks_of (states ++ fresh_states count))
+  more_wait numbers states first zero waits is =
+      append-nil numbers ∙ waits ∙ ap (λ ss. waiting_from 0 (marks_of ss)) (sym (append-nil states))
+  more_wait numbers states first (suc count) waits is =
+      sym (append_assoc numbers (first ∷ []) (range_with_len (first + 1) count))
+      ∙ more_wait (numbers ++ first ∷ []) (states ++ state.Fresh ∷ []) (first + 1) count (one_more numbers states first waits is)
+      (let e = length-append states (state.Fresh ∷ []) in omega arith)
+      ∙ ap (λ ss. waiting_from 0 (marks_of ss)) (append_assoc states (state.Fresh ∷ []) (fresh_states count))
+
+  -- once the numbers are added, and all states with them
+  pub all_wait : (numbers added now : List ℕ) (states front all : List (State F)) (first count i : ℕ) → numbers ≡ waiting_from 0 (marks_of states) → first ≡ length states
+      → added ≡ numbers ++ range_with_len first count → now ≡ added → front ≡ states → all ≡ front ++ fresh_states i → i ≡ count
+      → now ≡ waiting_from 0 (marks_of all)
+  all_wait numbers added now states front all first count i waits is more same kept made end =
+      same ∙ more ∙ more_wait numbers states first count waits is
+      ∙ ap (λ ss. waiting_from 0 (marks_of ss)) (sym (made ∙ ap (λ ss. ss ++ fresh_states i) kept ∙ ap (λ n. states ++ fresh_states n) end))
+
+  -- one fresh state more
+  pub one_fresh : (old now new : List (State F)) (n : ℕ) → now ≡ old ++ fresh_states n → new ≡ now ++ state.Fresh ∷ [] → new ≡ old ++ fresh_states (n + 1)
+  one_fresh old now new n front back =
+      let one : n + 1 ≡ suc n = omega arith in
+      back ∙ ap (λ ss. ss ++ state.Fresh ∷ []) front ∙ append_assoc old (fresh_states n) (state.Fresh ∷ [])
+      ∙ ap (λ ss. old ++ ss) (sym (fresh_more n) ∙ ap fresh_states (sym one))

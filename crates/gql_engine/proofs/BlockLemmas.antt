@@ -2,9 +2,10 @@
 use Rattle.std.proofs.Common.{ℕ, zero, suc, ◌≡◌, ◌+◌, ◌-◌, ◌<◌, ◌≤◌, List, [], ◌∷◌, ◌++◌, Some, length, take, drop, slice_get, slice_set, refl, sym, ap, subst, ◌∙◌, arith, append_assoc, append-nil, length-append}
 use Rattle.std.proofs.lemmas.Bool.Decides.{nat_tests}
 use Rattle.std.proofs.lemmas.List.Edits.{remove-append_left, remove-append_right}
-use Rattle.std.specs.List.{remove}
+use Rattle.std.proofs.lemmas.List.FromFn.{length-range_with_len}
+use Rattle.std.specs.List.{remove, range_with_len}
 use Rattle.std.specs.Prelude.{true, ◌==◌}
-use Rattle.gql_engine.specs.Waiting.{Block, all_in, IsSpot}
+use Rattle.gql_engine.specs.Waiting.{Block, all_in, numbers_between, IsSpot}
 
 get-left : {X : Type 0} (xs ys : List X) (i : ℕ) → i < length xs → slice_get (xs ++ ys) i ≡ slice_get xs i
 get-left [] ys i within = absurd (omega arith)
@@ -121,3 +122,35 @@ no-items (x ∷ xs) none = cc
 
 pub is-zero : (n : ℕ) → true ≡ (n == 0) → n ≡ 0
 is-zero n none = grind (arith, nat_tests)
+
+split-numbers : (first m n : ℕ) → range_with_len first m ++ range_with_len (first + m) n ≡ range_with_len first (m + n)
+split-numbers first zero n = let e : first + 0 ≡ first = omega arith in let f : 0 + n ≡ n = omega arith in ap (λ k. range_with_len k n) e ∙ ap (range_with_len first) (sym f)
+split-numbers first (suc m) n =
+    let e : first + suc m ≡ first + 1 + m = omega arith in
+    let f : suc (m + n) ≡ suc m + n = omega arith in
+    ap (λ k. first ∷ (range_with_len (first + 1) m ++ range_with_len k n)) e ∙ ap (λ ns. first ∷ ns) (split-numbers (first + 1) m n) ∙ ap (range_with_len first) f
+
+-- numbers, and those behind them
+between-more : (first next stop : ℕ) → first ≤ next → next ≤ stop → numbers_between first next ++ numbers_between next stop ≡ numbers_between first stop
+between-more first next stop start more =
+    let e : first + (next - first) ≡ next = omega arith in
+    let f : (next - first) + (stop - next) ≡ stop - first = omega arith in
+    ap (λ k. numbers_between first next ++ range_with_len k (stop - next)) (sym e)
+    ∙ split-numbers first (next - first) (stop - next) ∙ ap (range_with_len first) f
+
+-- numbers and those behind them are added
+pub numbers_added : (old now new : List ℕ) (first next stop : ℕ) → first ≤ next → next ≤ stop → now ≡ old ++ numbers_between first next
+    → new ≡ now ++ numbers_between next stop → new ≡ old ++ numbers_between first stop
+numbers_added old now new first next stop start more front back =
+    back ∙ ap (λ ns. ns ++ numbers_between next stop) front ∙ append_assoc old (numbers_between first next) (numbers_between next stop)
+    ∙ ap (λ ns. old ++ ns) (between-more first next stop start more)
+
+-- and one number more
+pub number_added : (old now new : List ℕ) (first next : ℕ) → first ≤ next → now ≡ old ++ numbers_between first next → new ≡ now ++ next ∷ []
+    → new ≡ old ++ numbers_between first (next + 1)
+number_added old now new first next start front back =
+    let one : next + 1 - next ≡ 1 = omega arith in
+    numbers_added old now new first next (next + 1) start (omega arith) front (back ∙ ap (λ k. now ++ range_with_len next k) (sym one))
+
+pub between-length : (next stop : ℕ) → length (numbers_between next stop) ≡ stop - next
+between-length next stop = length-range_with_len next (stop - next)

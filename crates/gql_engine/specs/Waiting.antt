@@ -1,6 +1,6 @@
 -- A long list in blocks, and where in them a place of the list is.
-use Rattle.std.specs.Prelude.{◌≡◌, ℕ, ◌+◌, ◌<◌, List, length, take, slice_get, Some}
-use Rattle.std.specs.List.{flat_map}
+use Rattle.std.specs.Prelude.{◌≡◌, ℕ, ◌+◌, ◌-◌, ◌<◌, List, length, take, slice_get, Some}
+use Rattle.std.specs.List.{flat_map, range_with_len}
 use Rattle.std.specs.declared.collections.VecDeque.{VecDeque}
 use Rattle.std.specs.declared.alloc.Global.{Global}
 
@@ -15,6 +15,10 @@ numbers_in block = block.items
 -- the numbers of all blocks
 abbrev pub all_in : List Block → List ℕ
 all_in blocks = flat_map numbers_in blocks
+
+-- the numbers from one on, up to another without it
+abbrev pub numbers_between : ℕ → ℕ → List ℕ
+numbers_between next stop = range_with_len next (stop - next)
 
 -- the place of all blocks' numbers stands at this index in this block
 pub record IsSpot (blocks : List Block) (place block index : ℕ) : Type 0 where

@@ -31,6 +31,7 @@ pub(crate) fn settle<F: Drop>(
 }
 
 /// Makes fresh tasks at the end.
+#[tactic(auto, using(crate::proofs::ArenaLemmas::one_fresh))]
 pub fn make_tasks<F: Drop>(arena: &mut Arena<F>, count: usize) -> Made<()>
     requires waits { arena.old.waiting ≡ waiting_from 0 (marks_of arena.old.states.items) }
     ensures states { OnOk result
@@ -42,8 +43,8 @@ pub fn make_tasks<F: Drop>(arena: &mut Arena<F>, count: usize) -> Made<()>
         return Ok(());
     }
     arena.states.reserve(count)?;
+    arena.waiting.add(arena.states.len(), count)?;
     for i in 0..count {
-        arena.waiting.push(arena.states.len())?;
         arena.states.push_reserved(State::Fresh);
     }
     Ok(())

@@ -1,8 +1,8 @@
 //! The numbers of those that wait, in blocks, so that taking one out of many moves few.
-ghost use Rattle.std.specs.Prelude.{◌≡◌, ◌↔◌, ◌<◌, ◌++◌, ◌∷◌, [], Some, IsTrue, length, slice_get};
-ghost use Rattle.std.specs.Prelude.{OnOk, OnErr};
-ghost use Rattle.std.specs.List.{remove};
-ghost use Rattle.gql_engine.specs.Waiting.{all_in, IsSpot};
+ghost use Rattle.std.specs.Prelude.{◌≡◌, ◌↔◌, ◌<◌, ◌≤◌, ◌++◌, [], Some, IsTrue, length, slice_get};
+ghost use Rattle.std.specs.Prelude.{IfOk, OnOk, OnErr};
+ghost use Rattle.std.specs.List.{remove, range_with_len};
+ghost use Rattle.gql_engine.specs.Waiting.{all_in, numbers_between, IsSpot};
 
 use std::alloc::{AllocError, Global};
 use std::collections::VecDeque;
@@ -63,17 +63,33 @@ impl Waiting {
         self.blocks[spot.block][spot.index]
     }
 
-    /// Adds a number at the end.
-    pub(crate) fn push(&mut self, number: usize) -> Result<(), AllocError>
-        ensures pushed { OnOk result (self.new ≡ self.old ++ number ∷ []) }
-        ensures same { OnErr result (self.new ≡ self.old) }
+    /// Adds as many numbers at the end as are counted, one after the other from the first.
+    pub(crate) fn add(&mut self, first: usize, count: usize) -> Result<(), AllocError>
+        ensures added { OnOk result (self.new ≡ self.old ++ range_with_len first count) }
     {
-        let Some(count) = self.count.checked_add(1) else {
+        let Some(end) = first.checked_add(count) else {
             return Err(AllocError);
         };
-        push_number(&mut self.blocks, number)?;
-        self.count = count;
+        let mut next = first;
+        while next < end {
+            next = self.add_some(next, end)?;
+        }
         Ok(())
+    }
+
+    /// Adds the first of the numbers from one up to another, as many as one block takes. Tells
+    /// which number is the next.
+    fn add_some(&mut self, next: usize, end: usize) -> Result<usize, AllocError>
+        requires { next < end }
+        ensures within { IfOk result (λ stop. (next < stop) × (stop ≤ end)) }
+        ensures added { IfOk result (λ stop. self.new ≡ self.old ++ numbers_between next stop) }
+    {
+        let Some(_) = self.count.checked_add(end - next) else {
+            return Err(AllocError);
+        };
+        let stop = add_block(&mut self.blocks, next, end)?;
+        self.count += stop - next;
+        Ok(stop)
     }
 
     /// Takes the number at a place out.
@@ -131,39 +147,75 @@ fn take_from(block: &mut VecDeque<usize>, index: usize)
     }
 }
 
-/// Adds a number at the end, in a new block where the last one is full.
-fn push_number(blocks: &mut VecDeque<VecDeque<usize>>, number: usize) -> Result<(), AllocError>
-    ensures pushed { OnOk result
-        (all_in blocks.new.items ≡ all_in blocks.old.items ++ number ∷ []) }
-    ensures same { OnErr result
-        (all_in blocks.new.items ≡ all_in blocks.old.items) }
+/// Adds the first of the numbers from one up to another: as many as the last block has room for, or
+/// a new one where it is full. Tells which number is the next.
+fn add_block(
+    blocks: &mut VecDeque<VecDeque<usize>>,
+    next: usize,
+    end: usize,
+) -> Result<usize, AllocError>
+    requires { next < end }
+    ensures within { IfOk result (λ stop. (next < stop) × (stop ≤ end)) }
+    ensures added { IfOk result (λ stop.
+        all_in blocks.new.items ≡ all_in blocks.old.items ++ numbers_between next stop) }
+    ensures same { OnErr result (all_in blocks.new.items ≡ all_in blocks.old.items) }
 {
     match blocks.back_mut() {
-        Some(block) if block.len() < BLOCK => push_in(block, number),
-        _ => push_block(blocks, number),
+        Some(block) if block.len() < BLOCK => {
+            let stop = stop_of(next, end, BLOCK - block.len());
+            fill(block, next, stop)?;
+            Ok(stop)
+        }
+        _ => {
+            let stop = stop_of(next, end, BLOCK);
+            push_block(blocks, next, stop)?;
+            Ok(stop)
+        }
     }
 }
 
-/// Adds a number to a block.
-fn push_in(block: &mut VecDeque<usize>, number: usize) -> Result<(), AllocError>
-    ensures pushed { OnOk result (block.new.items ≡ block.old.items ++ number ∷ []) }
+/// Where the numbers from one up to another stop for which there is room.
+fn stop_of(next: usize, end: usize, room: usize) -> usize
+    requires some { next < end }
+    requires room { 0 < room }
+    ensures { (next < result) × (result ≤ end) }
+{
+    if end - next <= room { end } else { next + room }
+}
+
+/// Adds the numbers from one up to another to a block.
+#[tactic(auto, using(crate::proofs::BlockLemmas::number_added))]
+fn fill(block: &mut VecDeque<usize>, next: usize, stop: usize) -> Result<(), AllocError>
+    requires { next ≤ stop }
+    ensures added { OnOk result (block.new.items ≡ block.old.items ++ numbers_between next stop) }
     ensures same { OnErr result (block.new.items ≡ block.old.items) }
 {
-    match block.push_back(number) {
-        Ok(()) => Ok(()),
-        Err(_) => Err(AllocError),
+    block.reserve(stop - next)?;
+    for number in next..stop {
+        block.push_back_reserved(number);
     }
+    Ok(())
 }
 
-/// Adds a number in a new block.
-fn push_block(blocks: &mut VecDeque<VecDeque<usize>>, number: usize) -> Result<(), AllocError>
-    ensures pushed { OnOk result
-        (all_in blocks.new.items ≡ all_in blocks.old.items ++ number ∷ []) }
-    ensures same { OnErr result
-        (all_in blocks.new.items ≡ all_in blocks.old.items) }
+/// Adds the numbers from one up to another in a new block.
+fn push_block(
+    blocks: &mut VecDeque<VecDeque<usize>>,
+    next: usize,
+    stop: usize,
+) -> Result<(), AllocError>
+    ensures added { OnOk result
+        (all_in blocks.new.items ≡ all_in blocks.old.items ++ numbers_between next stop) }
+    ensures same { OnErr result (all_in blocks.new.items ≡ all_in blocks.old.items) }
 {
-    let mut block = VecDeque::new(*blocks.allocator());
-    push_in(&mut block, number)?;
+    let block = block_of(*blocks.allocator(), next, stop)?;
     blocks.push_back(block)?;
     Ok(())
+}
+
+/// The block of the numbers from one up to another.
+fn block_of(alloc: Global, next: usize, stop: usize) -> Result<VecDeque<usize>, AllocError>
+    ensures { IfOk result (λ block. block.items ≡ numbers_between next stop) }
+{
+    let numbers: Vec<usize> = (next..stop).collect(alloc)?;
+    Ok(VecDeque::from_vec(numbers))
 }
