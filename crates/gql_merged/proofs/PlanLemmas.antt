@@ -1,5 +1,5 @@
 -- What a plan keeps as a task is given something.
-use Rattle.std.proofs.Common.{◌≡◌, ℕ, true, ◌+◌, ◌<◌, ◌≤◌, List, [], ◌∷◌, ◌++◌, length, map, Option, Some, None, slice_get, refl, ap, sym, subst, ◌∙◌, arith, length-append, append-nil, inl, inr}
+use Rattle.std.proofs.Common.{◌≡◌, ℕ, true, ◌+◌, ◌<◌, ◌≤◌, List, [], ◌∷◌, ◌++◌, length, map, Option, Some, None, slice_get, refl, ap, sym, subst, ◌∙◌, arith, length-append, append-nil, inl, inr, Result, Ok, Err, IfOk, OnOk}
 use Rattle.std.proofs.lemmas.List.{length-map, map-append}
 use Rattle.std.specs.Bool.{◌==◌}
 use Rattle.std.specs.List.{AllByRecursion, flat_map}
@@ -18,9 +18,11 @@ use Rattle.gql_merged.specs.Parents.{standing_at, standing_behind}
 use Rattle.gql_merged.specs.Standing.{PutsAt}
 use Rattle.gql_merged.specs.Stored.{spots}
 use Rattle.gql_merged.specs.Tasks.{IsDeep, job_of_task, jobs_in}
+use Rattle.gql_merged.specs.TreePlan.{HasKept, HoldsIn}
 use Rattle.gql_merged.specs.declared.kept.Filled.{Filled}
 use Rattle.gql_merged.specs.declared.kept.Kept.{Kept}
 use Rattle.gql_merged.specs.declared.task.Task.{Task}
+use Rattle.gql_merged.specs.declared.tree_plan.TreePlan.{TreePlan}
 use Rattle.gql_engine.proofs.BlockLemmas.{is-zero}
 use Rattle.gql_merged.proofs.AssemblyLemmas.{no_length}
 use Rattle.gql_merged.proofs.BeneathLemmas.{every_at}
@@ -182,3 +184,21 @@ puts_alone tasks places places' number task given piece there comes puts = recor
   comes = comes;
   puts = puts;
 }
+
+-- what a plan keeps of one that it was given, where that is what a task was given
+module _ {V E : Type 0} (old new : TreePlan V) (number : ℕ) (given other : Given V) where
+  pub kept_made : (r : Result ℕ E) → IfOk r (HasKept old new number given) → given ≡ other → (task : Job V)
+      → slice_get (jobs_in old.tasks.items) number ≡ Some task
+      → IfOk r (HasMade (jobs_in old.tasks.items) (jobs_in new.tasks.items) (made_beneath other task))
+  kept_made (Ok count) kept same task is =
+      subst (λ g. HasMade (jobs_in old.tasks.items) (jobs_in new.tasks.items) (made_beneath g task) count) same (kept.made task is)
+  kept_made (Err e) kept same task is = tt
+
+  pub kept_holds : (r : Result ℕ E) → IfOk r (HasKept old new number given) → given ≡ other → OnOk r (HoldsIn new number other)
+  kept_holds (Ok count) kept same = subst (HoldsIn new number) same kept.holds
+  kept_holds (Err e) kept same = tt
+
+  pub kept_keeps : (r : Result ℕ E) → IfOk r (HasKept old new number given)
+      → OnOk r ((k : ℕ) (g : Given V) → (k ≡ number → ⊥) → HoldsIn old k g → HoldsIn new k g)
+  kept_keeps (Ok count) kept = kept.keeps
+  kept_keeps (Err e) kept = tt

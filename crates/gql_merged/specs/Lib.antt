@@ -31,4 +31,5 @@ pub mod Standing
 pub mod Steps
 pub mod Stored
 pub mod Tasks
+pub mod TreePlan
 pub mod Within

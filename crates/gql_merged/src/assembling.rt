@@ -69,6 +69,16 @@ pub(crate) fn add_open(places: &mut Vec<Option<Piece>>, count: usize) -> Made<()
     Ok(())
 }
 
+/// Takes room for the places of so many tasks, so that their list grows once.
+pub(crate) fn make_room(places: &mut Vec<Option<Piece>>, tasks: usize) -> Made<()>
+    ensures { places.new.items ≡ places.old.items }
+{
+    if places.len() < tasks {
+        places.reserve(tasks - places.len())?;
+    }
+    Ok(())
+}
+
 /// Puts the place of a task, whatever stood there.
 pub(crate) fn put_place_at(places: &mut Vec<Option<Piece>>, number: usize, place: Piece) -> Made<()>
     ensures puts { OnOk result

@@ -1,6 +1,6 @@
 //! The trees of completed answers, with the members of their objects (GraphQL, October 2021,
 //! section 6.4.3).
-ghost use Rattle.std.specs.Prelude.{◌≡◌, map, IfOk, OnOk};
+ghost use Rattle.std.specs.Prelude.{false, ◌≡◌, map, IfOk, OnOk};
 ghost use Rattle.gql_place.specs.Alike.{Same, SameItems, SameTree};
 ghost use Rattle.gql_place.specs.Filled.{item_of};
 ghost use Rattle.gql_place.specs.Pieces.{members_in, place_in, places_in};
@@ -74,7 +74,22 @@ pub(crate) fn item_piece(
 ) -> Made<Piece>
     ensures { IfOk result (λ piece. Same whole (place_in piece) (item_of pos non_null tree)) }
 {
-    Piece::new(alloc, whole, item_place(alloc, pos, non_null, tree))
+    if whole {
+        Piece::new(alloc, true, item_place(alloc, pos, non_null, tree))
+    } else {
+        item_data(alloc, pos, non_null, tree)
+    }
+}
+
+/// The same where the whole isn't wanted: of a leaf its value is kept, and no place is made.
+#[tactic(auto, using(gql_place::proofs::PieceLemmas::leaf_same))]
+fn item_data(alloc: Global, pos: Pos, non_null: bool, tree: Tree) -> Made<Piece>
+    ensures { IfOk result (λ piece. Same false (place_in piece) (item_of pos non_null tree)) }
+{
+    match tree {
+        Tree::Leaf(value) => Ok(Piece::Data(value)),
+        tree => Piece::new(alloc, false, item_place(alloc, pos, non_null, tree)),
+    }
 }
 
 /// The place of an item: errors and header operations stand at the list's own place.

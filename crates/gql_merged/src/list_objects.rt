@@ -116,7 +116,22 @@ fn place_value<'a, V: Drop>(
         ++ flat_map jobs_of_standing
         (items_standing shared.entry.now 0 (items_behind (Some (kind.Value value))))) }
 {
-    place_values(alloc, shared, values_in(alloc, value)?, tasks)
+    let values = values_in(alloc, value)?;
+    make_room(shared, values.len(), tasks)?;
+    place_values(alloc, shared, values, tasks)
+}
+
+/// Takes room for the tasks of so many objects, so that their list grows once.
+fn make_room<'a, V: Drop>(
+    shared: &Shared<'a>,
+    objects: usize,
+    tasks: &mut Vec<Task<'a, V>>,
+) -> Made<()>
+    ensures { tasks.new.items ≡ tasks.old.items }
+{
+    let fields = shared.level.nodes.len();
+    tasks.reserve(fields.saturating_mul(objects))?;
+    Ok(())
 }
 
 /// The items of a value that is a list; others have none.

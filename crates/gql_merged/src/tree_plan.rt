@@ -7,7 +7,7 @@ ghost use Rattle.gql_merged.specs.Groups.{united};
 ghost use Rattle.gql_merged.specs.Tasks.{IsDeep, job_of_task};
 ghost use Rattle.gql_merged.specs.declared.task.Task.{Task as TaskOf};
 
-use crate::assembling::{open_place, piece_alone, put_place_at};
+use crate::assembling::{make_room, open_place, piece_alone, put_place_at};
 use crate::giving::fill_given;
 use crate::kept::Kept;
 use crate::leaves::leaf_alone;
@@ -44,11 +44,13 @@ pub struct TreePlan<'a, V> {
 }
 
 impl<'a, V: Drop> TreePlan<'a, V> {
-    ghost use Rattle.std.specs.Prelude.{ℕ, ◌≡◌, ◌<◌, ◌++◌, ◌∷◌, [], Ok, None, Some, length, OnOk};
+    ghost use Rattle.std.specs.Prelude.{ℕ, ◌≡◌, ◌<◌, ◌++◌, ◌∷◌, [], Ok, None, Some, length, IfOk};
+    ghost use Rattle.std.specs.Prelude.{OnOk};
     ghost use Rattle.gql_engine.specs.declared.given.Given.TheVariants.{Put};
     ghost use Rattle.gql_merged.specs.Standing.{PutsAt};
     ghost use Rattle.gql_merged.specs.Holds.{HoldsSince, store_in};
     ghost use Rattle.gql_merged.specs.Tasks.{job_of_task, jobs_in};
+    ghost use Rattle.gql_merged.specs.TreePlan.{HasKept};
 
     /// A plan without tasks.
     pub(crate) fn empty(alloc: Global) -> TreePlan<'a, V>
@@ -108,6 +110,32 @@ impl<'a, V: Drop> TreePlan<'a, V> {
     {
         put_place_at(&mut self.places, number, piece)?;
         Ok(())
+    }
+
+    /// Keeps what a task was given, with the tasks beneath it.
+    fn complete_given(&mut self, alloc: Global, number: usize, given: Given<V>) -> Made<usize>
+        requires { number < length (jobs_in self.old.tasks.items) }
+        ensures { IfOk result (λ count. HasKept self.old self.new number given count) }
+    {
+        let first = self.tasks.len();
+        let mut more = Vec::new(alloc);
+        let filled = fill_given(alloc, &self.tasks[number], given, &mut more)?;
+        if filled.parents.is_empty() {
+            self.put_piece(number, piece_alone(alloc, filled)?)?;
+            return Ok(0);
+        }
+        let count = more.len();
+        make_room(&mut self.places, first.saturating_add(count))?;
+        self.kept.reserve(1)?;
+        self.tasks.append(&mut more)?;
+        open_place(&mut self.places, number);
+        self.kept.push_reserved(Kept {
+            number,
+            first,
+            count,
+            filled,
+        });
+        Ok(count)
     }
 }
 
@@ -190,31 +218,13 @@ impl<'a, V: Drop> Plan<V> for TreePlan<'a, V> {
             → HoldsSince self.new.base (jobs_in self.new.tasks.items)
             (store_in self.new.kept.items self.new.places.items) other g) }
     {
-        let given = match leaf_alone(alloc, &self.tasks[number], given) {
+        match leaf_alone(alloc, &self.tasks[number], given) {
             Ok(value) => {
                 self.put_piece(number, Piece::Data(value))?;
-                return Ok(0);
+                Ok(0)
             }
-            Err(given) => given,
-        };
-        let first = self.tasks.len();
-        let mut more = Vec::new(alloc);
-        let filled = fill_given(alloc, &self.tasks[number], given, &mut more)?;
-        if filled.parents.is_empty() {
-            self.put_piece(number, piece_alone(alloc, filled)?)?;
-            return Ok(0);
+            Err(given) => self.complete_given(alloc, number, given),
         }
-        let count = more.len();
-        self.kept.reserve(1)?;
-        self.tasks.append(&mut more)?;
-        open_place(&mut self.places, number);
-        self.kept.push_reserved(Kept {
-            number,
-            first,
-            count,
-            filled,
-        });
-        Ok(count)
     }
 }
 

@@ -4,16 +4,20 @@ use Rattle.gql_resolve.specs.declared.field_value.FieldValue.{FieldValue}
 use Rattle.gql_merged.specs.Listed.{items_standing}
 use Rattle.gql_merged.specs.Parents.{jobs_of_standing, standing_behind}
 use Rattle.gql_merged.specs.Tasks.{jobs_in}
+use Rattle.gql_merged.specs.declared.task.Task.{Task}
 use Rattle.gql_merged.proofs.ValueLemmas.{values_behind}
 use Rattle.gql_merged.proofs.list_objects.place_value.Goals as goal
 
 pub returns-clause-parents : goal.returns-clause-parents
 returns-clause-parents g c =
     subst (λ (items : List (FieldValue g.row.V.Denot)). IfOk c.place_values.result (λ parents. map standing_behind parents.items ≡ items_standing c.args.shared.now 0 items))
-    (values_behind g.row.V.Denot c.args.value c.in_ok-values_in.field-0 c.in_ok-values_in.ensures) c.place_values.ensures.parents
+    (values_behind g.row.V.Denot c.args.value c.in_ok-values.values c.in_ok-values.ensures) c.place_values.ensures.parents
 
 pub returns-clause-tasks : goal.returns-clause-tasks
 returns-clause-tasks g c =
-    subst (λ (items : List (FieldValue g.row.V.Denot)). OnOk c.place_values.result (jobs_in c.place_values.new.tasks.items ≡ jobs_in c.args.tasks.now.items
+    subst (λ (old : List (Task g.row.V.Denot)). OnOk c.place_values.result (jobs_in c.place_values.new.tasks.items ≡ jobs_in old
+    ++ flat_map jobs_of_standing (items_standing c.args.shared.now 0 (Rattle.gql_merged.specs.Listed.items_behind (Rattle.std.specs.Prelude.Some (Rattle.gql_resolve.specs.declared.field_value.FieldValue.TheVariants.Value c.args.value))))))
+    c.in_ok-make_room.ensures
+    (subst (λ (items : List (FieldValue g.row.V.Denot)). OnOk c.place_values.result (jobs_in c.place_values.new.tasks.items ≡ jobs_in c.make_room.new.tasks.items
     ++ flat_map jobs_of_standing (items_standing c.args.shared.now 0 items)))
-    (values_behind g.row.V.Denot c.args.value c.in_ok-values_in.field-0 c.in_ok-values_in.ensures) c.place_values.ensures.tasks
+    (values_behind g.row.V.Denot c.args.value c.in_ok-values.values c.in_ok-values.ensures) c.place_values.ensures.tasks)
