@@ -4,6 +4,6 @@ mod CellLemmas
 mod FreshLemmas
 mod PlainRuleLemmas
 mod ReadingLemmas
-mod RecordTextLemmas
+mod RecordLemmas
 pub mod SendLemmas
 mod SumLemmas

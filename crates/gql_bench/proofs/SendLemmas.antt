@@ -11,8 +11,8 @@ use Rattle.gql_form.specs.contracts.path.Path as path
 use Rattle.gql_request.proofs.header_op.HeaderOp.TheSendSync as header_op
 use Rattle.gql_resolve.proofs.field_value.FieldValue.TheLaws.TheKnot as knot
 use Rattle.gql_resolve.specs.contracts.field_value.FieldValue as field_value
-use Rattle.gql_resolve.specs.contracts.record_entry.RecordEntry as entry
 use Rattle.std.proofs.Crossing as std
+use Rattle.gql_bench.proofs.record.Record.TheSendSync as told
 use Rattle.gql_bench.specs.contracts.rule.Rule as rule
 use Rattle.gql_bench.specs.contracts.rule.RuleKind as kind
 use Rattle.gql_bench.specs.contracts.table.Table as table
@@ -48,11 +48,8 @@ kind_send = search (kind_field_send, sendable) depth 20
 pub rule_send : IsSend rule.the_row
 rule_send = search (kind_field_send, text.the_send, header_op.the_send, items.the_send, sendable) depth 20
 
-entry_send : IsSend entry.the_row
-entry_send = search (text.the_send, sendable) depth 20
-
 table_field_send : IsSend table.the_field.row
-table_field_send = search (rule_send, entry_send, items.the_send, std.crosses, sendable) depth 20
+table_field_send = search (rule_send, told.the_send, items.the_send, std.crosses, sendable) depth 20
 
 pub table_send : IsSend table.the_row
 table_send = search (table_field_send, sendable) depth 20
@@ -90,11 +87,8 @@ kind_sync = search (kind_field_sync, sendable) depth 20
 pub rule_sync : IsSync rule.the_row
 rule_sync = search (kind_field_sync, text.the_sync, header_op.the_sync, items.the_sync, sendable) depth 20
 
-entry_sync : IsSync entry.the_row
-entry_sync = search (text.the_sync, sendable) depth 20
-
 table_field_sync : IsSync table.the_field.row
-table_field_sync = search (rule_sync, entry_sync, items.the_sync, std.crosses, sendable) depth 20
+table_field_sync = search (rule_sync, told.the_sync, items.the_sync, std.crosses, sendable) depth 20
 
 pub table_sync : IsSync table.the_row
 table_sync = search (table_field_sync, sendable) depth 20

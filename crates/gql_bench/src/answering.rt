@@ -1,6 +1,6 @@
 //! What a resolver answers to a call in a world of cells, by its rule.
 ghost use Rattle.std.specs.Prelude.{◌≡◌, ◌<◌, [], map, option_and_then, IfOk, IfSome, IsTrue};
-ghost use Rattle.std.specs.Prelude.{length};
+ghost use Rattle.std.specs.Prelude.{length, Ok};
 ghost use Rattle.std.specs.Option.{option_copied};
 ghost use Rattle.gql_base.specs.Kinds.{object_of};
 ghost use Rattle.gql_resolve.specs.Call.{call_of};
@@ -61,8 +61,25 @@ pub(crate) fn value_of(
     if !is_plain(rule) {
         return Ok(None);
     }
-    let outcome = outcome_of(alloc, &rule.kind, call, cells)?;
-    Ok(outcome.ok())
+    value_by(alloc, &rule.kind, call, cells)
+}
+
+/// The value, if any, that comes by a rule, where it is no error. A member, which most values are,
+/// is given as it is.
+fn value_by(
+    alloc: Global,
+    kind: &RuleKind,
+    call: &ResolverContext<'_, i64>,
+    cells: &[i64],
+) -> Made<Option<Option<FieldValue<i64>>>>
+    requires { IsTrue (kind_below (length cells.now) kind.now) }
+    ensures { IfOk result (λ found. IfSome found (λ value.
+        kind_outcome kind.now (call_of call.now) cells.now ≡ Ok value)) }
+{
+    match kind {
+        RuleKind::Member(name) => Ok(Some(member_of(alloc, name.as_str(), call.parent_value)?)),
+        kind => Ok(outcome_of(alloc, kind, call, cells)?.ok()),
+    }
 }
 
 /// Whether a rule gives a value or an error at once and nothing else, and changes no cell.

@@ -1,9 +1,10 @@
 //! The public types but `Bench` can be moved to threads and shared between them.
-use crate::{ListTurns, Numbers, Rule, RuleKind, Table, TableFuture, TableMaker};
+use crate::{Entries, ListTurns, Numbers, Rule, RuleKind, Table, TableFuture, TableMaker};
 
 fn shared<T: Send + Sync>() {}
 
-fn public_types() {
+fn public_types<'a>() {
+    shared::<Entries<'a>>();
     shared::<ListTurns>();
     shared::<Numbers>();
     shared::<TableFuture>();

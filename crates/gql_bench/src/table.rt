@@ -7,11 +7,10 @@ ghost use Rattle.gql_bench.specs.Table.{table_effect};
 
 use crate::answering::{answer_of, value_of};
 use crate::bump::{bumped, is_root};
+use crate::record::{Entries, Record};
 use crate::rule::{Rule, RuleKind};
 use gql_base::{Copied, Items, Made};
-use gql_resolve::{
-    Answer, FieldFuture, FieldValue, Polled, RecordEntry, ResolverContext, ResolverSet,
-};
+use gql_resolve::{Answer, FieldFuture, FieldValue, Polled, ResolverContext, ResolverSet};
 use std::alloc::Global;
 
 /// The resolvers of a bench. A resolver answers by the rule of its number, after as many pending
@@ -21,7 +20,7 @@ use std::alloc::Global;
 pub struct Table {
     rules: Items<Rule>,
     cells: Items<i64>,
-    told: Items<RecordEntry>,
+    told: Record,
     begun: Vec<u64>,
     ghost placed: { AreBelow (length cells) rules },
 }
@@ -57,16 +56,16 @@ impl Table {
         Table {
             rules,
             cells,
-            told: Items::new(alloc),
+            told: Record::new(alloc),
             begun: Vec::new(alloc),
         }
     }
 
     /// The record so far.
-    pub(crate) fn record(&self) -> &[RecordEntry]
-        ensures { ⟦<Table as ResolverSet>⟧.told self.now ≡ Some result.now }
+    pub(crate) fn record(&self) -> Entries<'_>
+        ensures { ⟦<Table as ResolverSet>⟧.told self.now ≡ Some result }
     {
-        self.told.as_slice()
+        self.told.entries()
     }
 
     /// The number of polls of a resolver that are pending before its answer.
@@ -114,13 +113,13 @@ impl Table {
     }
 
     /// Adds an entry to the record.
-    fn tell(&mut self, alloc: Global, call: &ResolverContext<'_, i64>, ready: bool) -> Made<()>
+    fn tell(&mut self, call: &ResolverContext<'_, i64>, ready: bool) -> Made<()>
         ensures told { OnOk result (self.new ≡ record self.old { told = self.new.told }) }
         ensures entry { OnOk result
             (self.new.told ≡ self.old.told ++ entry_of call.now ready ∷ []) }
         ensures err { OnErr result (self.new ≡ self.old) }
     {
-        self.told.push(RecordEntry::of(alloc, call, ready)?)
+        self.told.add(call, ready)
     }
 }
 
@@ -200,7 +199,7 @@ impl ResolverSet for Table {
         match self.value_at_once(alloc, call)? {
             Some(value) => {
                 self.begun.reserve(1)?;
-                self.tell(alloc, call, true)?;
+                self.tell(call, true)?;
                 self.begun.push_reserved(call.task);
                 Ok(FieldFuture::Value(value))
             }
@@ -222,12 +221,12 @@ impl ResolverSet for Table {
         call: &ResolverContext<'_, i64>,
     ) -> Made<Polled<i64>> {
         if future.left > 0 {
-            self.tell(alloc, call, false)?;
+            self.tell(call, false)?;
             future.left -= 1;
             return Ok(Polled::Pending);
         }
         let answer = self.answer_to(alloc, call)?;
-        self.tell(alloc, call, true)?;
+        self.tell(call, true)?;
         Ok(Polled::Ready(answer))
     }
 

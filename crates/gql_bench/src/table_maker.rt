@@ -5,10 +5,11 @@ ghost use Rattle.gql_resolve.specs.Call.{Call};
 ghost use Rattle.gql_bench.specs.Cells.{AreBelow};
 ghost use Rattle.gql_bench.specs.Table.{table_answer, table_effect, table_delay};
 
+use crate::record::Entries;
 use crate::rule::Rule;
 use crate::table::Table;
 use gql_base::{Items, Made};
-use gql_resolve::{RecordEntry, ResolverSet};
+use gql_resolve::ResolverSet;
 use std::alloc::Global;
 
 /// Makes the resolver sets of benches, and holds the set that was given back last.
@@ -44,9 +45,9 @@ pub trait Tables {
         ensures { held self.new ≡ Some set };
 
     /// The record of the set that is held, and no entry where none is held.
-    fn told(&self) -> &[RecordEntry]
-        ensures { MatchOption (held self.now) (result.now
-            ≡ []) (λ set. IfSome (Self.Set.told set) (λ entries. result.now ≡ entries)) };
+    fn told(&self) -> Entries<'_>
+        ensures { MatchOption (held self.now) (result
+            ≡ []) (λ set. IfSome (Self.Set.told set) (λ entries. result ≡ entries)) };
 }
 
 /// Makes tables.
@@ -77,10 +78,10 @@ impl Tables for TableMaker {
         self.held = Some(set);
     }
 
-    fn told(&self) -> &[RecordEntry] {
+    fn told(&self) -> Entries<'_> {
         match &self.held {
             Some(table) => table.record(),
-            None => &[],
+            None => Entries::none(),
         }
     }
 }
