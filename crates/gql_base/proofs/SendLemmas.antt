@@ -13,41 +13,14 @@ use Rattle.gql_base.proofs.value.Value.TheLaws.TheKnot as knot
 use Rattle.gql_base.specs.contracts.type_ref.TypeRef as type_ref
 use Rattle.gql_base.specs.contracts.value.Value as value
 
+-- of what stands in a value
+ruleset parts = (name.the_send, name.the_sync, number.the_send, number.the_sync, text.the_send, text.the_sync, common.the_send, common.the_sync, items.the_send, items.the_sync, pairs.the_send, pairs.the_sync)
+
 pub value_send : IsSend value.the_row
-value_send = search (
-  knot.both_send-Value,
-  name.the_send,
-  name.the_sync,
-  number.the_send,
-  number.the_sync,
-  text.the_send,
-  text.the_sync,
-  common.the_send,
-  common.the_sync,
-  items.the_send,
-  items.the_sync,
-  pairs.the_send,
-  pairs.the_sync,
-  sendable,
-) depth 20
+value_send = search (knot.both_send-Value, parts, sendable) depth 20
 
 pub value_sync : IsSync value.the_row
-value_sync = search (
-  knot.both_sync-Value,
-  name.the_send,
-  name.the_sync,
-  number.the_send,
-  number.the_sync,
-  text.the_send,
-  text.the_sync,
-  common.the_send,
-  common.the_sync,
-  items.the_send,
-  items.the_sync,
-  pairs.the_send,
-  pairs.the_sync,
-  sendable,
-) depth 20
+value_sync = search (knot.both_sync-Value, parts, sendable) depth 20
 
 pub type_ref_send : IsSend type_ref.the_row
 type_ref_send = search (type_knot.send-TypeRef, name.the_send, boxed.the_send, sendable) depth 20
@@ -57,40 +30,10 @@ type_ref_sync = search (type_knot.sync-TypeRef, name.the_sync, boxed.the_sync, s
 
 -- the same where one of them is a field of another type
 pub value_field_send : IsSend value.the_field.row
-value_field_send = search (
-  knot.both_send-Value,
-  name.the_send,
-  name.the_sync,
-  number.the_send,
-  number.the_sync,
-  text.the_send,
-  text.the_sync,
-  common.the_send,
-  common.the_sync,
-  items.the_send,
-  items.the_sync,
-  pairs.the_send,
-  pairs.the_sync,
-  sendable,
-) depth 20
+value_field_send = search (knot.both_send-Value, parts, sendable) depth 20
 
 pub value_field_sync : IsSync value.the_field.row
-value_field_sync = search (
-  knot.both_sync-Value,
-  name.the_send,
-  name.the_sync,
-  number.the_send,
-  number.the_sync,
-  text.the_send,
-  text.the_sync,
-  common.the_send,
-  common.the_sync,
-  items.the_send,
-  items.the_sync,
-  pairs.the_send,
-  pairs.the_sync,
-  sendable,
-) depth 20
+value_field_sync = search (knot.both_sync-Value, parts, sendable) depth 20
 
 pub type_ref_field_send : IsSend type_ref.the_field.row
 type_ref_field_send = search (type_knot.send-TypeRef, name.the_send, boxed.the_send, sendable) depth 20

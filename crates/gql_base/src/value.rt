@@ -10,8 +10,8 @@ use crate::text::Text;
 use std::alloc::Global;
 
 /// A GraphQL value (GraphQL, October 2021, section 2.9), with whole numbers alone. The members of
-/// an object stand in the order of their insertion. Copies of a list or an
-/// object have what stands in it in common.
+/// an object stand in the order of their insertion. Copies of a list or an object have what stands
+/// in it in common.
 #[derive(Debug, Drop)]
 pub enum Value {
     Null,
