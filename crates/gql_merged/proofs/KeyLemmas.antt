@@ -1,7 +1,6 @@
 -- The root keys of a mutation, one after another.
 use Rattle.std.proofs.Common.{◌≡◌, ℕ, zero, suc, ◌+◌, ◌-◌, ◌<◌, ◌≤◌, Bool, true, false, ltb, List, [], ◌∷◌, ◌++◌, take, drop, length, Option, Some, None, slice_get, inl, inr, refl, ap, sym, subst, ◌∙◌, arith, append_assoc, length-append, ltb-true, ltb-false}
 use Rattle.std.specs.Prelude.{slice_set}
-use Rattle.std.specs.List.{AllByRecursion}
 use Rattle.gql_base.specs.declared.no_memory.NoMemory.{NoMemory}
 use Rattle.gql_engine.proofs.AimLemmas.{with_plan}
 use Rattle.gql_engine.proofs.InTurnLemmas.{cut_between, cut_in_turn, in_turn_more}

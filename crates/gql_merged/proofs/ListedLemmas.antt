@@ -1,5 +1,5 @@
 -- Answers that are lists of objects, and these objects.
-use Rattle.std.proofs.Common.{rules, ◌≡◌, ℕ, zero, suc, ◌+◌, ◌<◌, Bool, true, false, cond, not, List, [], ◌∷◌, ◌++◌, length, map, replicate, Some, Ok, Result, refl, ap, subst, sym, ◌∙◌, arith, append_assoc, length-append, Option, None}
+use Rattle.std.proofs.Common.{rules, ◌≡◌, ℕ, suc, ◌+◌, Bool, true, false, cond, not, List, [], ◌∷◌, ◌++◌, length, map, replicate, Some, Result, refl, ap, subst, sym, ◌∙◌, arith, append_assoc, length-append, Option, None}
 use Rattle.std.proofs.lemmas.List.{length-map, map-append}
 use Rattle.std.specs.List.{flat_map}
 use Rattle.std.specs.declared.alloc.Global.{Global}
@@ -31,7 +31,7 @@ use Rattle.gql_merged.specs.Listed.{AreBelow, GivesList, IsList, IsListing, IsLi
 use Rattle.gql_merged.specs.Listed.{list_of_names, non_null_list, non_null_name, of_name}
 use Rattle.gql_merged.specs.Parents.{jobs_here, jobs_of_standing, Standing, standing_at, standing_behind}
 use Rattle.gql_merged.specs.Steps.{path_of}
-use Rattle.gql_merged.specs.Stored.{Bare, bare, numbered, Spot, spots}
+use Rattle.gql_merged.specs.Stored.{Bare, bare, numbered, spots}
 use Rattle.gql_merged.specs.declared.level.Node.{Node}
 use Rattle.gql_merged.specs.declared.parent.Shared.{Shared}
 use Rattle.gql_merged.specs.declared.parent.Parent.{Parent}

@@ -4,7 +4,7 @@ use Rattle.std.specs.Prelude.{option_map, MatchOption}
 use Rattle.gql_base.specs.Kinds.{list_of}
 use Rattle.gql_base.specs.declared.value.Value.{Value}
 use Rattle.gql_meaning.specs.Completion.{all_items_in}
-use Rattle.gql_resolve.specs.declared.field_value.FieldValue.{FieldValue, the_lemmas as given_lemmas}
+use Rattle.gql_resolve.specs.declared.field_value.FieldValue.{the_lemmas as given_lemmas}
 use Rattle.gql_resolve.specs.declared.field_value.FieldValue.TheVariants as kind
 use Rattle.gql_merged.specs.Listed.{items_behind, items_listed}
 

@@ -1,3 +1,4 @@
+pub mod AbstractTypes
 pub mod ArgumentValues
 pub mod Asks
 pub mod Bare

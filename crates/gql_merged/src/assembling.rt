@@ -70,7 +70,7 @@ pub(crate) fn add_open(places: &mut Vec<Option<Piece>>, count: usize) -> Made<()
 }
 
 /// Takes room for the places of so many tasks, so that their list grows once.
-pub(crate) fn make_room(places: &mut Vec<Option<Piece>>, tasks: usize) -> Made<()>
+pub(crate) fn reserve_places(places: &mut Vec<Option<Piece>>, tasks: usize) -> Made<()>
     ensures { places.new.items ≡ places.old.items }
 {
     if places.len() < tasks {

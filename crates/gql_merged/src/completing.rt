@@ -8,8 +8,9 @@ ghost use Rattle.gql_schema.specs.Table.{types_of};
 ghost use Rattle.gql_meaning.specs.Completion.{completed, completing, required, shape_of};
 ghost use Rattle.gql_merged.specs.Completing.{listed};
 
+use crate::faults::fault_of;
 use crate::known::Known;
-use crate::naming::{complete_named, fault_of};
+use crate::naming::complete_named;
 use gql_base::{Error, Items, Made, Name, TypeRef, Value};
 use gql_place::Shape;
 use gql_resolve::FieldValue;

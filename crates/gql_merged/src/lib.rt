@@ -5,6 +5,7 @@
 //! key of a set is one task, or apart, where each occurrence of a field is one.
 #![tactic(auto)]
 
+mod abstract_types;
 mod apart;
 mod argument_values;
 mod asking;
@@ -13,6 +14,7 @@ mod assembling;
 mod bare;
 mod basis;
 mod completing;
+mod faults;
 mod filling;
 mod giving;
 mod group;

@@ -117,12 +117,12 @@ fn place_value<'a, V: Drop>(
         (items_standing shared.entry.now 0 (items_behind (Some (kind.Value value))))) }
 {
     let values = values_in(alloc, value)?;
-    make_room(shared, values.len(), tasks)?;
+    reserve_tasks(shared, values.len(), tasks)?;
     place_values(alloc, shared, values, tasks)
 }
 
 /// Takes room for the tasks of so many objects, so that their list grows once.
-fn make_room<'a, V: Drop>(
+fn reserve_tasks<'a, V: Drop>(
     shared: &Shared<'a>,
     objects: usize,
     tasks: &mut Vec<Task<'a, V>>,

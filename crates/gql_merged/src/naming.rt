@@ -1,25 +1,25 @@
 //! What values come to at the types of a table by their names (GraphQL, October 2021, sections 3.5
 //! to 3.9 and 6.4.3).
-ghost use Rattle.std.specs.Prelude.{◌≡◌, ◌++◌, IfOk, Some, codes, option_and_then};
+ghost use Rattle.std.specs.Prelude.{◌≡◌, IfOk, Some, option_and_then};
 ghost use Rattle.std.specs.Option.{option_copied};
 ghost use Rattle.gql_base.specs.Kinds.{enum_name_of, is_null};
 ghost use Rattle.gql_base.specs.Pairs.{under};
-ghost use Rattle.gql_meaning.specs.Completion.{at_abstract, at_enum, at_scalar, at_type, fault};
-ghost use Rattle.gql_meaning.specs.Completion.{interface_texts, is_possible, named_in, no_item};
-ghost use Rattle.gql_meaning.specs.Completion.{no_scalar};
-ghost use Rattle.gql_meaning.specs.Completion.{shown, shown_number, union_texts, unless_null};
+ghost use Rattle.gql_meaning.specs.Completion.{at_enum, at_scalar, at_type, fault, no_item};
+ghost use Rattle.gql_meaning.specs.Completion.{no_scalar, shown, shown_number, unless_null};
 ghost use Rattle.gql_resolve.specs.FieldValue.{value_in};
 ghost use Rattle.gql_schema.specs.Enum.{items_of};
 ghost use Rattle.gql_schema.specs.Scalar.{rule_of};
 ghost use Rattle.gql_schema.specs.Table.{types_of};
 ghost use Rattle.gql_schema.specs.TableReading.{is_known_object};
-ghost use Rattle.gql_merged.specs.Completing.{absent_if_null, item_at, leaf_at};
+ghost use Rattle.gql_merged.specs.Completing.{item_at, leaf_at};
 
+use crate::abstract_types::{AbstractKind, complete_abstract};
+use crate::faults::fault_of_three;
 use crate::known::Known;
-use gql_base::{Error, Made, Name, Number, Text, Value};
+use gql_base::{Made, Name, Number, Text, Value};
 use gql_place::Shape;
 use gql_resolve::FieldValue;
-use gql_schema::{Enum, Scalar, SchemaType, Types};
+use gql_schema::{Enum, Scalar, SchemaType};
 use std::alloc::Global;
 
 /// What a value comes to at the type of a name.
@@ -36,8 +36,12 @@ pub(crate) fn complete_named<V: Drop>(
         Some(SchemaType::Scalar(scalar)) => complete_scalar(alloc, name, scalar, given),
         Some(SchemaType::Enum(enum_type)) => complete_enum(alloc, name, enum_type, given),
         Some(SchemaType::Object(_)) => Ok(Shape::Object(Name::new(alloc, name)?, given)),
-        Some(SchemaType::Interface(_)) => complete_interface(alloc, types, name, given),
-        Some(SchemaType::Union(_)) => complete_union(alloc, types, name, given),
+        Some(SchemaType::Interface(_)) => {
+            complete_abstract(alloc, types, AbstractKind::Interface, name, given)
+        }
+        Some(SchemaType::Union(_)) => {
+            complete_abstract(alloc, types, AbstractKind::Union, name, given)
+        }
         Some(SchemaType::InputObject(_)) => Ok(Shape::Absent),
         Some(SchemaType::Subscription(_)) => Ok(Shape::Absent),
         None => Ok(Shape::Absent),
@@ -62,6 +66,7 @@ fn complete_scalar<V: Drop>(
     }
 }
 
+/// A value at a scalar: null is absent.
 fn complete_leaf<V: Drop>(
     alloc: Global,
     name: &str,
@@ -89,6 +94,7 @@ fn show(alloc: Global, name: &str, value: Value) -> Made<Value>
     }
 }
 
+/// The same of a number.
 fn show_number(alloc: Global, name: &str, number: Number) -> Made<Value>
     ensures { IfOk result (λ made. made ≡ shown_number name.now number) }
 {
@@ -118,6 +124,7 @@ fn complete_enum<V: Drop>(
     }
 }
 
+/// A value at an enum: null is absent.
 fn complete_item<V: Drop>(
     alloc: Global,
     name: &str,
@@ -134,6 +141,7 @@ fn complete_item<V: Drop>(
     }
 }
 
+/// The item of a name.
 fn complete_name<V: Drop>(
     alloc: Global,
     name: &str,
@@ -148,59 +156,6 @@ fn complete_name<V: Drop>(
     enum_fault(alloc, name)
 }
 
-/// An interface has the objects that implement it, where a value names one.
-fn complete_interface<V: Drop>(
-    alloc: Global,
-    types: &Types,
-    name: &str,
-    given: FieldValue<V>,
-) -> Made<Shape<Name, FieldValue<V>>>
-    ensures { IfOk result (λ shape. shape ≡ unless_null given
-        (at_abstract (types_of types.now) name.now (interface_texts name.now) (named_in given))) }
-{
-    match given {
-        FieldValue::WithType { value, ty } => {
-            if is_possible_object(types, name, ty.as_str()) {
-                return Ok(Shape::Object(ty, value.into_inner()));
-            }
-            no_implementer(alloc, name, ty.as_str())
-        }
-        FieldValue::Value(value) => unnamed_interface(alloc, name, &value),
-        FieldValue::Own(_) => interface_fault(alloc, name),
-        FieldValue::List(_) => interface_fault(alloc, name),
-    }
-}
-
-/// A union has its members, where a value names one.
-fn complete_union<V: Drop>(
-    alloc: Global,
-    types: &Types,
-    name: &str,
-    given: FieldValue<V>,
-) -> Made<Shape<Name, FieldValue<V>>>
-    ensures { IfOk result (λ shape. shape ≡ unless_null given
-        (at_abstract (types_of types.now) name.now (union_texts name.now) (named_in given))) }
-{
-    match given {
-        FieldValue::WithType { value, ty } => {
-            if is_possible_object(types, name, ty.as_str()) {
-                return Ok(Shape::Object(ty, value.into_inner()));
-            }
-            no_member(alloc, name, ty.as_str())
-        }
-        FieldValue::Value(value) => unnamed_union(alloc, name, &value),
-        FieldValue::Own(_) => union_fault(alloc, name),
-        FieldValue::List(_) => union_fault(alloc, name),
-    }
-}
-
-/// Whether an object of the table is one of those that a type can be.
-fn is_possible_object(types: &Types, name: &str, object: &str) -> bool
-    ensures { result ≡ is_possible (types_of types.now) name.now object.now }
-{
-    is_object(types.get(object)) && types.covers(Some(name), object)
-}
-
 /// Whether an object type was looked up.
 pub(crate) fn is_object(ty: Option<&SchemaType>) -> bool
     ensures { result ≡ is_known_object (option_copied ty.entry) }
@@ -211,59 +166,14 @@ pub(crate) fn is_object(ty: Option<&SchemaType>) -> bool
     }
 }
 
+/// Whether a value is null.
 pub(crate) fn is_null_value(value: &Value) -> bool
     ensures { result ≡ is_null value.now }
 {
     matches!(value, Value::Null)
 }
 
-fn unnamed_interface<V: Drop>(
-    alloc: Global,
-    name: &str,
-    value: &Value,
-) -> Made<Shape<Name, FieldValue<V>>>
-    ensures { IfOk result (λ shape. shape
-        ≡ absent_if_null value.now (fault (interface_texts name.now).unnamed)) }
-{
-    if is_null_value(value) {
-        return Ok(Shape::Absent);
-    }
-    interface_fault(alloc, name)
-}
-
-fn unnamed_union<V: Drop>(
-    alloc: Global,
-    name: &str,
-    value: &Value,
-) -> Made<Shape<Name, FieldValue<V>>>
-    ensures { IfOk result (λ shape. shape
-        ≡ absent_if_null value.now (fault (union_texts name.now).unnamed)) }
-{
-    if is_null_value(value) {
-        return Ok(Shape::Absent);
-    }
-    union_fault(alloc, name)
-}
-
-/// A fault of the executor's own, of three texts one after another.
-fn fault_of_three<V: Drop>(
-    alloc: Global,
-    first: &str,
-    name: &str,
-    last: &str,
-) -> Made<Shape<Name, FieldValue<V>>>
-    ensures { IfOk result (λ shape. shape ≡ fault (first.now ++ (name.now ++ last.now))) }
-{
-    let mut message = String::new(alloc);
-    message.push_str(first)?;
-    message.push_str(name)?;
-    message.push_str(last)?;
-    Ok(Shape::Fault(Error {
-        message: Text::from_string(message),
-        extensions: None,
-    }))
-}
-
+/// What is given is no value of the scalar.
 fn scalar_fault<V: Drop>(alloc: Global, name: &str) -> Made<Shape<Name, FieldValue<V>>>
     ensures { IfOk result (λ shape. shape ≡ fault (no_scalar name.now)) }
 {
@@ -271,81 +181,9 @@ fn scalar_fault<V: Drop>(alloc: Global, name: &str) -> Made<Shape<Name, FieldVal
     fault_of_three(alloc, first, name, "\", expected \"FieldValue::Value\"")
 }
 
+/// What is given is no item of the enum.
 fn enum_fault<V: Drop>(alloc: Global, name: &str) -> Made<Shape<Name, FieldValue<V>>>
     ensures { IfOk result (λ shape. shape ≡ fault (no_item name.now)) }
 {
     fault_of_three(alloc, "internal: invalid item for enum \"", name, "\"")
-}
-
-fn interface_fault<V: Drop>(alloc: Global, name: &str) -> Made<Shape<Name, FieldValue<V>>>
-    ensures { IfOk result (λ shape. shape ≡ fault (interface_texts name.now).unnamed) }
-{
-    let first = "internal: invalid value for interface \"";
-    fault_of_three(alloc, first, name, "\", expected \"FieldValue::WithType\"")
-}
-
-fn union_fault<V: Drop>(alloc: Global, name: &str) -> Made<Shape<Name, FieldValue<V>>>
-    ensures { IfOk result (λ shape. shape ≡ fault (union_texts name.now).unnamed) }
-{
-    let first = "internal: invalid value for union \"";
-    fault_of_three(alloc, first, name, "\", expected \"FieldValue::WithType\"")
-}
-
-/// A fault of the executor's own, of two names between three texts.
-fn fault_of_five<V: Drop>(
-    alloc: Global,
-    first: &str,
-    one: &str,
-    between: &str,
-    other: &str,
-) -> Made<Shape<Name, FieldValue<V>>>
-    ensures { IfOk result (λ shape. shape ≡ fault (first.now
-        ++ (one.now ++ (between.now ++ (other.now ++ codes "\""))))) }
-{
-    let mut message = String::new(alloc);
-    message.push_str(first)?;
-    message.push_str(one)?;
-    message.push_str(between)?;
-    message.push_str(other)?;
-    message.push_str("\"")?;
-    Ok(Shape::Fault(Error {
-        message: Text::from_string(message),
-        extensions: None,
-    }))
-}
-
-fn no_implementer<V: Drop>(
-    alloc: Global,
-    name: &str,
-    object: &str,
-) -> Made<Shape<Name, FieldValue<V>>>
-    ensures { IfOk result (λ shape. shape ≡ fault ((interface_texts name.now).foreign object.now)) }
-{
-    fault_of_five(
-        alloc,
-        "internal: object \"",
-        object,
-        "\" does not implement interface \"",
-        name,
-    )
-}
-
-fn no_member<V: Drop>(alloc: Global, name: &str, object: &str) -> Made<Shape<Name, FieldValue<V>>>
-    ensures { IfOk result (λ shape. shape ≡ fault ((union_texts name.now).foreign object.now)) }
-{
-    fault_of_five(
-        alloc,
-        "internal: union \"",
-        name,
-        "\" does not contain object \"",
-        object,
-    )
-}
-
-/// A fault of the executor's own.
-pub(crate) fn fault_of<V: Drop>(alloc: Global, message: &str) -> Made<Shape<Name, FieldValue<V>>>
-    ensures { IfOk result (λ shape. shape ≡ fault message.now) }
-{
-    let error = Error::new(alloc, message)?;
-    Ok(Shape::Fault(error))
 }

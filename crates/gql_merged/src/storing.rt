@@ -57,7 +57,7 @@ fn store_items<'a, V: Drop>(
     ensures found { OnOk result (map spot_found found.new.items
         ≡ map spot_found found.old.items ++ numbered 0 (map spots items) (path_of path.old.items)) }
 {
-    make_room(items.as_slice(), found)?;
+    reserve_objects(items.as_slice(), found)?;
     let mut left = Items::with_capacity(alloc, items.len())?;
     for item in items.into_vec() {
         let depth = path.len();
@@ -70,7 +70,7 @@ fn store_items<'a, V: Drop>(
 }
 
 /// Takes room for the objects of a list, where it begins with one.
-fn make_room<'a, V: Drop>(
+fn reserve_objects<'a, V: Drop>(
     items: &[Shape<Name, FieldValue<V>>],
     found: &mut Vec<Found<'a, V>>,
 ) -> Made<()>

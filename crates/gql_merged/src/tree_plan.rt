@@ -7,7 +7,7 @@ ghost use Rattle.gql_merged.specs.Groups.{united};
 ghost use Rattle.gql_merged.specs.Tasks.{IsDeep, job_of_task};
 ghost use Rattle.gql_merged.specs.declared.task.Task.{Task as TaskOf};
 
-use crate::assembling::{make_room, open_place, piece_alone, put_place_at};
+use crate::assembling::{open_place, piece_alone, put_place_at, reserve_places};
 use crate::giving::fill_given;
 use crate::kept::Kept;
 use crate::leaves::leaf_alone;
@@ -125,7 +125,7 @@ impl<'a, V: Drop> TreePlan<'a, V> {
             return Ok(0);
         }
         let count = more.len();
-        make_room(&mut self.places, first.saturating_add(count))?;
+        reserve_places(&mut self.places, first.saturating_add(count))?;
         self.kept.reserve(1)?;
         self.tasks.append(&mut more)?;
         open_place(&mut self.places, number);

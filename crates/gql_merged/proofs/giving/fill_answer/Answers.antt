@@ -6,7 +6,7 @@ use Rattle.gql_merged.specs.Asks.{type_in}
 use Rattle.gql_merged.specs.Placed.{IsPlaced}
 use Rattle.gql_merged.specs.Stored.{spots}
 use Rattle.gql_merged.specs.Tasks.{jobs_in, path_with}
-use Rattle.gql_merged.proofs.GivingLemmas.{Takes, takes_deep, takes_filled, takes_jobs, takes_placed}
+use Rattle.gql_merged.proofs.GivingLemmas.{takes_deep, takes_filled, takes_jobs, takes_placed}
 use Rattle.gql_merged.proofs.giving.fill_answer.Goals as goal
 
 pub returns-clause-filled : goal.returns-clause-filled

@@ -55,7 +55,7 @@ invariant_of-self-2 g c =
     (slice_get_read tasks (length tasks) c.args.number task refl within c.index.ensures)
     c.in_ok-append.ensures.items
     (c.push_reserved.ensures.items ∙ ap (λ ks. ks ++ k ∷ []) c.in_ok-reserve.ensures.items)
-    (subst (λ places. PutsAt None c.args.number places c.open_place.new.places.items) c.in_ok-make_room.ensures c.open_place.ensures.opens)
+    (subst (λ places. PutsAt None c.args.number places c.open_place.new.places.items) c.in_ok-reserve_places.ensures c.open_place.ensures.opens)
     (c.len-first.ensures ∙ c.args.self.now.tasks.ok.0)
     (c.len-count.ensures ∙ c.fill_given.new.tasks.ok.0)
     (c.in_ok-filled.ensures.tasks ∙ ap (λ ts. jobs_in ts ++ made_beneath given (job_of_task task)) c.new-more.ensures.items)
@@ -65,7 +65,7 @@ invariant_of-self-2 g c =
       deep = completes_deep done c.args.self.now.roots c.args.self.now.deep;
       within =
           let l = c.open_place.ensures.length in
-          let m = ap length c.in_ok-make_room.ensures in
+          let m = ap length c.in_ok-reserve_places.ensures in
           let w = c.args.self.now.within in
           let a = ap length c.in_ok-append.ensures.items in
           let b = length-append tasks c.fill_given.new.tasks.items in
@@ -90,7 +90,7 @@ completed g c =
     (slice_get_read tasks (length tasks) c.args.number task refl within c.index.ensures)
     c.in_ok-append.ensures.items
     (c.push_reserved.ensures.items ∙ ap (λ ks. ks ++ k ∷ []) c.in_ok-reserve.ensures.items)
-    (subst (λ places. PutsAt None c.args.number places c.open_place.new.places.items) c.in_ok-make_room.ensures c.open_place.ensures.opens)
+    (subst (λ places. PutsAt None c.args.number places c.open_place.new.places.items) c.in_ok-reserve_places.ensures c.open_place.ensures.opens)
     (c.len-first.ensures ∙ c.args.self.now.tasks.ok.0)
     (c.len-count.ensures ∙ c.fill_given.new.tasks.ok.0)
     (c.in_ok-filled.ensures.tasks ∙ ap (λ ts. jobs_in ts ++ made_beneath given (job_of_task task)) c.new-more.ensures.items)
