@@ -1,9 +1,8 @@
 -- What is told of arguments, by the names that were kept of those before.
-use Rattle.std.proofs.Common.{◌≡◌, ℕ, ◌+◌, ◌||◌, not, List, [], ◌∷◌, ◌++◌, map, take, Some, slice_get, refl, ap, ◌∙◌, append_assoc}
+use Rattle.std.proofs.Common.{◌≡◌, ℕ, ◌+◌, ◌||◌, not, List, [], ◌∷◌, ◌++◌, map, refl, ap, ◌∙◌, append_assoc}
 use Rattle.std.specs.List.{flat_map}
 use Rattle.gql_base.specs.Pairs.{under}
 use Rattle.gql_doc.specs.declared.document.Argument.{Argument}
-use Rattle.gql_schema.specs.NameSet.{is_among}
 use Rattle.gql_schema.specs.TableReading.{TypeTable}
 use Rattle.gql_schema.specs.declared.input_value.InputValue.{InputValue}
 use Rattle.gql_admit.specs.Arguments.{Bearing, argument_name, doubled_argument, is_optional, missing_argument, told_of_argument, told_of_arguments, told_of_declared, told_of_given, told_of_missing}

@@ -4,8 +4,6 @@ use Rattle.std.specs.List.{zip}
 use Rattle.gql_base.specs.Pairs.{names_of, values_of}
 use Rattle.gql_base.specs.declared.value.Value.{Value}
 use Rattle.gql_doc.specs.Depth.{Fragments}
-use Rattle.gql_doc.specs.declared.document.FragmentDefinition.{FragmentDefinition}
-use Rattle.gql_doc.specs.declared.document.Positioned.{Positioned}
 use Rattle.gql_select.specs.Kept.{kept_fragment, kept_fragments}
 
 -- the kept fragments beside the names

@@ -1,14 +1,13 @@
 -- Sets that nest within some levels do so as they are kept, and so does the set of a chosen
 -- operation.
 use Rattle.std.proofs.Common.{rules, ◌≡◌, ℕ, zero, suc, Bool, true, false, cond, List, [], ◌∷◌}
-use Rattle.std.proofs.Common.{Option, Some, None, Ok, Err, refl, ap, sym, subst, ◌∙◌, ◌+◌, add-one}
-use Rattle.std.specs.Prelude.{Result, option_and_then}
+use Rattle.std.proofs.Common.{Option, Some, None, Ok, refl, ap, sym, subst, ◌∙◌, ◌+◌, add-one}
+use Rattle.std.specs.Prelude.{option_and_then}
 use Rattle.std.specs.List.{cons_option}
-use Rattle.std.specs.Option.{option_map, option_or}
+use Rattle.std.specs.Option.{option_map}
 use Rattle.std.specs.Str.{bytes_eq}
 use Rattle.gql_base.specs.Pairs.{under, values_of}
 use Rattle.gql_base.specs.declared.pos.Pos.{Pos}
-use Rattle.gql_base.specs.declared.server_error.ServerError.{ServerError}
 use Rattle.gql_base.specs.declared.value.Value.{Value}
 use Rattle.gql_doc.specs.Depth.{Fragments, deep, deep_from, fragment_set, if_any, operation_set}
 use Rattle.gql_doc.specs.Depth.{operations_in, selections_of, set_beneath, set_under}
@@ -28,16 +27,16 @@ use Rattle.gql_doc.specs.declared.document.Selection.TheOpen.{Selection-F}
 use Rattle.gql_doc.specs.declared.document.Selection.TheVariants as selection
 use Rattle.gql_doc.specs.declared.document.Selection.TheViews.{rolls-Field, rolls-FragmentSpread}
 use Rattle.gql_doc.specs.declared.document.Selection.TheViews.{rolls-InlineFragment}
-use Rattle.gql_doc.specs.declared.document.SelectionSet.{SelectionSet, out-SelectionSet}
+use Rattle.gql_doc.specs.declared.document.SelectionSet.{SelectionSet}
 use Rattle.gql_select.specs.Kept.{if_kept, is_kept, kept, kept_field, kept_fragment, kept_fragments}
-use Rattle.gql_select.specs.Kept.{kept_inline, kept_selection, kept_set, other_field, other_inline}
+use Rattle.gql_select.specs.Kept.{kept_inline, kept_selection}
 use Rattle.gql_admit.specs.Choice.{Operation, choice, choice_of, chosen, named, only}
 use Rattle.gql_admit.specs.Choice.{with_fragments}
-use Rattle.gql_admit.specs.Left.{left_field, left_inline, left_selection, left_set, left_spread}
+use Rattle.gql_admit.specs.Left.{left_field, left_inline, left_set, left_spread}
 use Rattle.gql_admit.specs.Prepared.{kept_operation}
 use Rattle.gql_admit.specs.declared.chosen.Chosen.{Chosen}
 use Rattle.gql_admit.proofs.FirstLemmas.{both_none, none_behind, none_here}
-use Rattle.gql_admit.proofs.KeepLemmas.{field_directives, inline_directives, selection-Field}
+use Rattle.gql_admit.proofs.KeepLemmas.{selection-Field}
 use Rattle.gql_admit.proofs.KeepLemmas.{selection-Inline, selection-Spread, set_items}
 
 module _ (known : List ℕ → Value) (fragments : Fragments) where

@@ -1,8 +1,7 @@
 -- Numbers that fall along the ways of a graph.
 use Rattle.std.proofs.Common.{arith, ◌≡◌, ℕ, zero, suc, ◌+◌, ◌-◌, ◌≤◌, ◌<◌, Bool, true, false, ◌||◌, ◌&&◌, List, [], ◌∷◌, length, leb-true, refl, sym, subst, ap, ◌∙◌}
 use Rattle.std.specs.Bool.{Decides}
-use Rattle.std.specs.List.{list_all}
-use Rattle.std.specs.Prelude.{◌==◌, ◌⊎◌, nat_le}
+use Rattle.std.specs.Prelude.{◌==◌}
 use Rattle.std.proofs.Common.{inl, inr}
 use Rattle.std.proofs.lemmas.Bool.{cases_lt}
 use Rattle.gql_admit.specs.Circular.{Reaches, ReachesFrom, at_once, further, is_in, led_to}

@@ -3,7 +3,6 @@
 use Rattle.std.specs.Prelude.{ℕ, Bool, true, ◌||◌, List, [], ◌∷◌, ◌++◌, Option, Some, None}
 use Rattle.std.specs.Prelude.{is_some, if◌then◌else◌}
 use Rattle.std.specs.List.{flat_map}
-use Rattle.std.specs.Option.{option_map}
 use Rattle.gql_base.specs.Pairs.{under}
 use Rattle.gql_base.specs.TypeRef.{is_nullable}
 use Rattle.gql_base.specs.declared.type_ref.TypeRef.{TypeRef}

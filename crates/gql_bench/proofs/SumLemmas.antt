@@ -1,5 +1,5 @@
 -- Sums of numbers of 64 bits with a sign.
-use Rattle.std.proofs.Common.{◌≡◌, ◌<◌, ℕ, suc, ◌+◌, ◌*◌, ◌^◌, ℤ, pos, ◌+ℤ◌, ◌≤ℤ◌, neg_ℤ, List, ◌∷◌, length, drop, drop-cons, get_or, Option, Some, option_and_then, FitsSigned, refl, sym, ap, ◌∙◌, add-one, arith}
+use Rattle.std.proofs.Common.{◌≡◌, ◌<◌, ℕ, suc, ◌+◌, ◌*◌, ◌^◌, ℤ, pos, ◌+ℤ◌, ◌≤ℤ◌, neg_ℤ, List, ◌∷◌, length, drop, drop-cons, get_or, Some, option_and_then, FitsSigned, sym, ap, ◌∙◌, add-one, arith}
 use Rattle.std.proofs.lemmas.Int.{ints}
 use Rattle.std.specs.Int.{w64}
 use Rattle.gql_base.specs.declared.value.Value.{Value}

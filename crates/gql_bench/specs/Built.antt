@@ -1,5 +1,5 @@
 -- Which benches are built. Each of the forms below isn't yet; a bench without them is.
-use Rattle.std.specs.Prelude.{Bool, true, false, ◌&&◌, ◌||◌, not, List, is_some}
+use Rattle.std.specs.Prelude.{Bool, true, false, ◌&&◌, ◌||◌, not, is_some}
 use Rattle.std.specs.List.{list_any}
 use Rattle.gql_form.specs.declared.bench_form.BenchForm.{BenchForm}
 use Rattle.gql_form.specs.declared.schema_form.SchemaForm.{SchemaForm}

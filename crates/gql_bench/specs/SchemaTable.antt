@@ -1,5 +1,5 @@
 -- The table of the types of a bench.
-use Rattle.std.specs.Prelude.{ℕ, ◌+◌, List, [], ◌∷◌, length}
+use Rattle.std.specs.Prelude.{◌+◌, List, [], ◌∷◌, length}
 use Rattle.gql_form.specs.declared.schema_form.SchemaForm.{SchemaForm}
 use Rattle.gql_form.specs.declared.type_form.TypeForm.{TypeForm}
 use Rattle.gql_form.specs.declared.type_form.TypeForm.TheVariants as forms

@@ -1,5 +1,5 @@
 -- What the schema of a bench has beside its types.
-use Rattle.std.specs.Prelude.{ℕ, Bool, Option, Some, None, if◌then◌else◌}
+use Rattle.std.specs.Prelude.{ℕ, Option, Some, None, if◌then◌else◌}
 use Rattle.gql_exec.specs.Limits.{default_depth}
 use Rattle.gql_exec.specs.Settings.{new_settings}
 use Rattle.gql_exec.specs.declared.settings.Settings.{Settings}

@@ -1,14 +1,12 @@
 -- Sums of arguments.
 use Rattle.std.specs.Prelude.{ℕ, ◌^◌, ℤ, pos, negsuc, ◌+ℤ◌, Bool, List, [], ◌∷◌, codes, Option}
-use Rattle.std.specs.Prelude.{Some, None, Result, Ok, Err, nat_lt, option_and_then}
+use Rattle.std.specs.Prelude.{Some, None, Ok, Err, nat_lt, option_and_then}
 use Rattle.std.specs.Prelude.{if◌then◌else◌}
 use Rattle.gql_base.specs.Kinds.{members_of_value, number_of}
 use Rattle.gql_base.specs.Pairs.{under}
-use Rattle.gql_base.specs.declared.error.Error.{Error}
 use Rattle.gql_base.specs.declared.value.Value.{Value}
 use Rattle.gql_base.specs.declared.value.Value.TheVariants as values
 use Rattle.gql_form.specs.declared.path.Path.{Path}
-use Rattle.gql_resolve.specs.declared.field_value.FieldValue.{FieldValue}
 use Rattle.gql_resolve.specs.declared.field_value.FieldValue.TheVariants as given
 use Rattle.gql_bench.specs.Outcome.{Outcome, plain_error}
 

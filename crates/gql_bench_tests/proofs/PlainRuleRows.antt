@@ -1,5 +1,5 @@
 -- Which rules are plain, on examples.
-use Rattle.std.proofs.Common.{◌≡◌, ℕ, List, [], ◌∷◌, refl}
+use Rattle.std.proofs.Common.{[], ◌∷◌, refl}
 use Rattle.std.specs.Prelude.{codes}
 use Rattle.gql_bench.specs.Bump.{IsPlainRule}
 use Rattle.gql_bench.specs.declared.rule.Rule.{Rule}

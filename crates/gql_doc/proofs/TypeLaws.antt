@@ -6,7 +6,7 @@ use Rattle.gql_base.specs.declared.pos.Pos.{Pos}
 use Rattle.gql_tokens.specs.declared.token.Lexeme.TheVariants as lexeme
 use Rattle.gql_tokens.specs.declared.token.Punctuator.TheVariants as sign
 use Rattle.gql_base.specs.declared.type_ref.TypeRef as type
-use Rattle.gql_base.specs.declared.type_ref.TypeRef.{TypeRef, Row_of-TypeRef, end_of-TypeRef, more_of-TypeRef, out-TypeRef, roll-TypeRef, roll-out-TypeRef}
+use Rattle.gql_base.specs.declared.type_ref.TypeRef.{TypeRef, Row_of-TypeRef, more_of-TypeRef, out-TypeRef, roll-TypeRef, roll-out-TypeRef}
 use Rattle.gql_base.specs.declared.type_ref.TypeRef.TheBlock.{shape-the_row-TypeRef-0, hidden-the_row-TypeRef-0, shown-the_row-TypeRef-0}
 use Rattle.gql_base.specs.declared.type_ref.TypeRef.TheViews.{rolls-List, rolls-NonNull}
 use Rattle.gql_doc.specs.Words.{Tokens, Word, Language, tokens_of, ◌▸◌, SignAt, OpensAt, plain}

@@ -3,7 +3,7 @@ use Rattle.std.proofs.Common.{ℕ, zero, suc, ◌≡◌, ◌+◌, if◌then◌el
 use Rattle.std.proofs.lemmas.Bool.{cases_eq, eq-eqb, ne_eqb}
 use Rattle.std.proofs.lemmas.List.{map-append}
 use Rattle.std.proofs.lemmas.List.Elements.{All-nil, All-cons, All-append, All-weaker}
-use Rattle.std.specs.Prelude.{Option, Some, None, ◌⊎◌, slice_get, slice_set}
+use Rattle.std.specs.Prelude.{Some, slice_get, slice_set}
 use Rattle.gql_resolve.specs.Record.{with_more}
 use Rattle.gql_request.specs.declared.resolve_info.ResolveInfo.{ResolveInfo}
 use Rattle.gql_resolve.specs.declared.resolver_context.ResolverContext.{ResolverContext}

@@ -10,12 +10,10 @@ use Rattle.gql_base.specs.TypeRef.{innermost}
 use Rattle.gql_base.specs.declared.server_error.ServerError.{ServerError}
 use Rattle.gql_base.specs.declared.type_ref.TypeRef.{the_lemmas}
 use Rattle.gql_base.specs.declared.type_ref.TypeRef.TheVariants as ref
-use Rattle.gql_base.specs.declared.value.Value.{Value}
 use Rattle.gql_doc.specs.Depth.{Fragments, operation_set, operations_in, selections_of}
 use Rattle.gql_doc.specs.declared.document.DocumentOperations.{DocumentOperations}
 use Rattle.gql_doc.specs.declared.document.DocumentOperations.TheVariants.{Multiple, Single}
 use Rattle.gql_doc.specs.declared.document.ExecutableDocument.{ExecutableDocument}
-use Rattle.gql_doc.specs.declared.document.Field.{Field}
 use Rattle.gql_doc.specs.declared.document.OperationDefinition.{OperationDefinition}
 use Rattle.gql_doc.specs.declared.document.OperationType.{OperationType}
 use Rattle.gql_doc.specs.declared.document.OperationType.TheVariants as kinds
@@ -27,8 +25,8 @@ use Rattle.gql_admit.proofs.KeepLemmas.{set_items}
 use Rattle.gql_admit.specs.Asked.{Asked}
 use Rattle.gql_admit.specs.Choice.{choice, choice_of, chosen, named, only, Operation, with_fragments}
 use Rattle.gql_admit.specs.Conflicting.{conflict_breach, rooted_in}
-use Rattle.gql_admit.specs.Prepared.{asked_by, IsLimited, IsPrepared, IsRead, IsReady, IsRuled, IsSettled, known_of, kept_operation, limits_checked, Prepared}
-use Rattle.gql_admit.specs.RulesChecked.{conflicting, error_of, IsBreach, IsChecked, refused_with}
+use Rattle.gql_admit.specs.Prepared.{asked_by, IsLimited, IsPrepared, IsRead, IsRuled, IsSettled, known_of, kept_operation, limits_checked, Prepared}
+use Rattle.gql_admit.specs.RulesChecked.{conflicting, IsChecked, refused_with}
 use Rattle.gql_admit.specs.Terms.{Terms}
 use Rattle.gql_admit.specs.declared.breach.Breach.{Breach}
 use Rattle.gql_admit.specs.declared.chosen.Chosen.{Chosen}
@@ -36,7 +34,7 @@ use Rattle.gql_conflicts.specs.DocumentConflicts.{conflicts_at, document_conflic
 use Rattle.gql_conflicts.specs.Rooted.{object_named as root_named, objects_beneath, objects_of as objects_at, Rooted, root_of, setting_of as setting_at}
 use Rattle.gql_conflicts.specs.declared.conflict.Conflict.{Conflict}
 use Rattle.gql_engine.specs.declared.scene.Scene.{Scene}
-use Rattle.gql_meaning.specs.TableSetting.{entities_field, entities_if, field_in, objects_of}
+use Rattle.gql_meaning.specs.TableSetting.{entities_field, field_in, objects_of}
 use Rattle.gql_merged.specs.Basis.{setting_by}
 use Rattle.gql_merged.specs.Run.{AgreesInside, basis_of, root_selections}
 use Rattle.gql_request.specs.QueryEnv.{levels_of}
@@ -63,7 +61,7 @@ use Rattle.gql_exec.specs.Ready.{env_under, IsMadeReady, prepared_under}
 use Rattle.gql_exec.specs.Root.{object_in, object_named, or_text, root_for, root_object}
 use Rattle.gql_exec.specs.Scene.{scene_for}
 use Rattle.gql_exec.specs.Schema.{settings_of, types_in}
-use Rattle.gql_exec.specs.Settings.{entities_for, root_in}
+use Rattle.gql_exec.specs.Settings.{entities_for}
 use Rattle.gql_exec.specs.declared.dynamic_request.DynamicRequest.{DynamicRequest}
 use Rattle.gql_exec.specs.declared.schema.Schema.{Schema}
 

@@ -1,16 +1,14 @@
 -- What references show is all that matters of a scene, of what an execution stands on, and of its tasks.
-use Rattle.std.proofs.Common.{◌≡◌, ◌⊎◌, ℕ, Bool, true, false, List, [], ◌∷◌, ◌++◌, map, Option, Some, None, option_map, inl, inr, refl, ap, sym, ◌∙◌, subst}
+use Rattle.std.proofs.Common.{◌≡◌, ℕ, Bool, true, false, List, [], ◌∷◌, ◌++◌, map, Option, Some, None, option_map, refl, ap, sym, ◌∙◌, subst}
 use Rattle.std.proofs.lemmas.List.{map-append}
 use Rattle.std.specs.List.{flat_map}
 use Rattle.std.specs.Option.{option_copied, option_to_list}
 use Rattle.std.specs.Borrow.{Bor}
-use Rattle.gql_base.specs.declared.path_segment.PathSegment.TheVariants as segment
 use Rattle.gql_base.specs.declared.value.Value.{Value}
 use Rattle.gql_doc.specs.declared.document.Field.{Field}
 use Rattle.gql_doc.specs.declared.document.Positioned.{Positioned}
 use Rattle.gql_doc.specs.declared.document.Selection.{Selection}
 use Rattle.gql_engine.specs.Parts.{choice_by, due_by}
-use Rattle.gql_engine.specs.Path.{key_text}
 use Rattle.gql_engine.specs.Progress.{RunsWhole, RunStopped, Seen, stage_of, story_at}
 use Rattle.gql_engine.specs.Pace.{EachPacedSoFar}
 use Rattle.gql_engine.specs.Record.{Story, fresh}
@@ -21,7 +19,7 @@ use Rattle.gql_exec.specs.Scene.{shown}
 use Rattle.gql_meaning.specs.Execution.{Asking, Execution, field_asking, setting_in}
 use Rattle.gql_meaning.specs.Responses.{Asked, placed, root_place, world_after}
 use Rattle.gql_merged.specs.Basis.{execution_of}
-use Rattle.gql_merged.specs.Jobs.{Job, completed_by, job_at, job_of, jobs_at, jobs_at_as, jobs_beneath}
+use Rattle.gql_merged.specs.Jobs.{Job, completed_by, job_of, jobs_at, jobs_at_as, jobs_beneath}
 use Rattle.gql_merged.specs.Grouped.{grouping_at, groups_by}
 use Rattle.gql_merged.specs.Run.{basis_by, basis_of, merged_response, root_jobs_by, root_selections, root_spot, work_by}
 use Rattle.gql_merged.specs.Serial.{key_jobs_by, last_world_of, levels_beneath, root_asked, serial_response}

@@ -1,20 +1,16 @@
 -- The steps of an execution are as many as the answers that it asks.
-use Rattle.std.proofs.Common.{◌≡◌, ◌+◌, ℕ, Bool, true, false, List, Result, Ok, Err, OnOk, refl, ap, sym, ◌∙◌, subst}
+use Rattle.std.proofs.Common.{◌≡◌, ◌+◌, ℕ, Bool, true, false, List, Result, Ok, Err, OnOk, ap, sym, ◌∙◌, subst}
 use Rattle.gql_base.specs.Pairs.{values_of}
-use Rattle.gql_base.specs.declared.no_memory.NoMemory.{NoMemory}
 use Rattle.gql_engine.specs.Parts.{due_by}
 use Rattle.gql_engine.specs.declared.scene.Scene.{Scene}
 use Rattle.gql_exec.proofs.BareLemmas.{execution-bare}
 use Rattle.gql_exec.specs.Bare.{bare_scene}
-use Rattle.gql_exec.specs.Counting.{answers_of, Counts, CountsAnswers, CountsOf, CountsOn, CountsTasks, tasks_by}
+use Rattle.gql_exec.specs.Counting.{answers_of, CountsAnswers, CountsOf, CountsOn, CountsTasks, tasks_by}
 use Rattle.gql_exec.specs.Execution.{Ask, mutates}
 use Rattle.gql_exec.specs.Ready.{IsMadeReady}
 use Rattle.gql_exec.specs.Root.{root_for}
 use Rattle.gql_exec.specs.Scene.{scene_for}
 use Rattle.gql_admit.specs.Prepared.{Prepared}
-use Rattle.gql_base.specs.declared.server_error.ServerError.{ServerError}
-use Rattle.gql_doc.specs.declared.document.Field.{Field}
-use Rattle.gql_doc.specs.declared.document.Positioned.{Positioned}
 use Rattle.gql_meaning.specs.Counted.{count_as, total}
 use Rattle.gql_meaning.specs.Execution.{Execution, setting_in}
 use Rattle.gql_meaning.specs.Responses.{world_after}

@@ -1,5 +1,5 @@
 -- What was run of a request's scene is the execution of the request.
-use Rattle.std.proofs.Common.{◌≡◌, ◌⊎◌, ℕ, Bool, [], Result, Ok, Err, IfErr, IfOk, inl, inr, refl, ap, sym, ◌∙◌, subst}
+use Rattle.std.proofs.Common.{◌≡◌, ◌⊎◌, ℕ, Bool, [], Result, Ok, Err, IfErr, IfOk, inr, ap, sym, ◌∙◌, subst}
 use Rattle.gql_base.specs.declared.no_memory.NoMemory.{NoMemory}
 use Rattle.gql_engine.specs.Progress.{Seen}
 use Rattle.gql_engine.specs.declared.scene.Scene.{Scene}

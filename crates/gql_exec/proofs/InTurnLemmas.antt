@@ -1,8 +1,7 @@
 -- The record of a mutation, phase after phase, is one of what its references show.
-use Rattle.std.proofs.Common.{◌≡◌, ◌≤◌, ◌⊎◌, ℕ, zero, suc, List, [], ◌∷◌, ◌++◌, map, length, take, Option, Some, None, option_map, slice_get, inl, inr, refl, ap, sym, ◌∙◌, subst, arith}
+use Rattle.std.proofs.Common.{◌≡◌, ◌≤◌, ℕ, zero, suc, List, [], ◌∷◌, ◌++◌, map, length, take, Option, Some, None, option_map, slice_get, refl, ap, sym, ◌∙◌, subst, arith}
 use Rattle.std.proofs.lemmas.List.{map-append, length-map}
 use Rattle.std.proofs.lemmas.Option.{slice_get-map}
-use Rattle.std.specs.Option.{ForSome}
 use Rattle.gql_engine.specs.Pace.{pending_then_ready, told_of}
 use Rattle.gql_engine.specs.Parts.{choice_by}
 use Rattle.gql_engine.specs.Phases.{after_root, answers_in, AreCut, CutBefore, HaltsInTurn, IsCutPhase, IsPhase, none_made, PacedSince, PacedSinceSoFar, Phases, RootsStand, RunsInTurn, Serving, serving_at, story_in, with_root, world_past}

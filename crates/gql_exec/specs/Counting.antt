@@ -2,7 +2,6 @@
 -- of a set one.
 use Rattle.std.specs.Prelude.{◌≡◌, ◌+◌, ℕ, Bool, true, false, List, Result, Ok, Err}
 use Rattle.gql_admit.specs.Prepared.{Prepared}
-use Rattle.gql_base.specs.declared.server_error.ServerError.{ServerError}
 use Rattle.gql_engine.specs.Parts.{due_by}
 use Rattle.gql_engine.specs.declared.scene.Scene.{Scene}
 use Rattle.gql_exec.specs.Execution.{Ask, mutates}

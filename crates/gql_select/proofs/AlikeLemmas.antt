@@ -1,14 +1,13 @@
 -- Occurrences that ask the same: it is a matter of their names and of what each argument is given.
-use Rattle.std.proofs.Common.{◌≡◌, ℕ, Bool, true, false, ◌&&◌, List, [], ◌∷◌, ◌++◌, Option, Some, None, option_map, find, refl, ap, sym, ◌∙◌, subst}
+use Rattle.std.proofs.Common.{◌≡◌, ℕ, Bool, true, false, ◌&&◌, List, [], ◌∷◌, ◌++◌, Option, Some, None, refl, ap, sym, ◌∙◌, subst}
 use Rattle.std.specs.Prelude.{◌⊎◌}
 use Rattle.std.proofs.Common.{inl, inr}
 use Rattle.std.specs.Bool.{Decides}
-use Rattle.std.specs.List.{list_all, flat_map}
+use Rattle.std.specs.List.{list_all}
 use Rattle.std.specs.Str.{bytes_eq}
 use Rattle.std.specs.Cmp.Lexicographic.{bytes_decides}
 use Rattle.gql_base.specs.Same.{is_same, is_same-decides}
 use Rattle.gql_base.specs.declared.value.Value.{Value}
-use Rattle.gql_doc.specs.Document.{argument_named}
 use Rattle.gql_doc.specs.contracts.document.DocValue.{the_row}
 use Rattle.gql_doc.specs.declared.document.Argument.{Argument}
 use Rattle.gql_doc.specs.declared.document.DocValue.{DocValue}

@@ -1,15 +1,13 @@
 -- A set without conflicts agrees with itself.
-use Rattle.std.proofs.Common.{◌≡◌, ℕ, zero, suc, ◌+◌, ◌<◌, Bool, true, false, cond, not, ◌&&◌, List, [], ◌∷◌, ◌++◌, length, None, refl, ap, sym, subst, ◌∙◌, arith}
+use Rattle.std.proofs.Common.{◌≡◌, ℕ, zero, suc, ◌+◌, Bool, true, false, not, ◌&&◌, List, [], ◌∷◌, ◌++◌, refl, ap, sym, subst, ◌∙◌, arith}
 use Rattle.std.specs.List.{Contains, AllByRecursion, flat_map}
 use Rattle.std.specs.Str.{bytes_eq}
-use Rattle.std.specs.Cmp.Lexicographic.{bytes_decides}
 use Rattle.std.proofs.lemmas.List.{append_assoc, append-nil}
 use Rattle.gql_base.specs.Pairs.{unite, unite_all}
 use Rattle.gql_select.specs.Reading.{Reading, IsReading, keyed}
 use Rattle.gql_select.specs.Conflicts.{Agree, agreeing, both_alike, conflicts, first_differing}
 use Rattle.gql_select.proofs.UnitingLemmas.{either, same_itself, unite_here, unite_past}
 use Rattle.gql_select.proofs.AgreeLemmas.{agree_left_one, agree_left_two, agree_right_one, agree_right_two}
-use Rattle.gql_select.proofs.MergeLemmas.{first_in, later_in}
 
 nothing_first : {A : Type 0} (xs ys : List A) → xs ++ ys ≡ [] → xs ≡ []
 nothing_first [] ys e = refl

@@ -1,5 +1,5 @@
 -- A document's sets are read as their parts are.
-use Rattle.std.proofs.Common.{rules, ◌≡◌, ℕ, zero, suc, Bool, true, false, cond, ◌&&◌, List, [], ◌∷◌, ◌++◌, Option, Some, None, refl, ap, sym, ◌∙◌, subst}
+use Rattle.std.proofs.Common.{◌≡◌, ℕ, zero, suc, ◌&&◌, List, ◌++◌, refl, ap, sym, ◌∙◌}
 use Rattle.std.specs.List.{flat_map}
 use Rattle.std.proofs.lemmas.List.{append_assoc}
 use Rattle.std.proofs.lemmas.Grind.{flat_map-append}
@@ -7,9 +7,9 @@ use Rattle.std.specs.Str.{bytes_eq}
 use Rattle.gql_doc.specs.declared.document.Field.{Field, out-Field, roll-Field, out-roll-Field}
 use Rattle.gql_doc.specs.declared.document.Positioned.{Positioned}
 use Rattle.gql_doc.specs.declared.document.Selection.{Selection, out-Selection}
-use Rattle.gql_doc.specs.declared.document.SelectionSet.{SelectionSet, out-SelectionSet, roll-SelectionSet, out-roll-SelectionSet}
-use Rattle.gql_select.specs.Alike.{alike, arguments_of, name_of, same_arguments}
-use Rattle.gql_select.specs.Collected.{Setting, collect, collect_within, fields_of, own_selections}
+use Rattle.gql_doc.specs.declared.document.SelectionSet.{out-SelectionSet, roll-SelectionSet, out-roll-SelectionSet}
+use Rattle.gql_select.specs.Alike.{arguments_of, name_of, same_arguments}
+use Rattle.gql_select.specs.Collected.{Setting, collect_within, fields_of, own_selections}
 use Rattle.gql_select.specs.Documents.{both, reading, with_selections}
 use Rattle.gql_select.specs.Reading.{IsReading}
 use Rattle.gql_select.proofs.AlikeLemmas.{alike_through, alike_turned, alike_says}

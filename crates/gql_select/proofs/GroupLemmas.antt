@@ -1,6 +1,6 @@
 -- Answering by groups, where a group is all occurrences of a key, is merged execution.
-use Rattle.std.proofs.Common.{◌≡◌, ℕ, zero, suc, List, [], refl, ap, ◌∙◌}
-use Rattle.gql_base.specs.Pairs.{unite_all, HasDistinctNames}
+use Rattle.std.proofs.Common.{◌≡◌, ℕ, zero, suc, List, [], refl, ◌∙◌}
+use Rattle.gql_base.specs.Pairs.{HasDistinctNames}
 use Rattle.gql_select.specs.Grouped.{grouped, respond_by, Placing}
 use Rattle.gql_select.specs.Reading.{keyed, merged, over}
 use Rattle.gql_select.proofs.UnitingLemmas.{distinct_over, distinct_united, united_distinct}

@@ -1,6 +1,5 @@
 -- What is kept of a document agrees where the document does: each field that is kept has its origin in the document.
-use Rattle.std.proofs.Common.{rules, arith, ◌<◌, length, ◌≡◌, ℕ, zero, suc, Bool, true, false, cond, ◌&&◌, List, [], ◌∷◌, ◌++◌, Option, Some, None, option_map, map, refl, ap, sym, ◌∙◌, subst}
-use Rattle.std.specs.Prelude.{◌⊎◌}
+use Rattle.std.proofs.Common.{rules, arith, ◌≡◌, ℕ, zero, suc, Bool, true, false, cond, List, [], ◌∷◌, ◌++◌, Option, Some, None, option_map, map, refl, ap, sym, ◌∙◌, subst}
 use Rattle.std.proofs.Common.{inl, inr}
 use Rattle.std.specs.List.{Contains, flat_map, filter_map, cons_option}
 use Rattle.std.proofs.lemmas.List.Elements.{Contains-append_left, Contains-append_right, Contains-append_cases}
@@ -8,11 +7,10 @@ use Rattle.std.specs.Str.{bytes_eq}
 use Rattle.gql_base.specs.Pairs.{under}
 use Rattle.gql_base.specs.declared.value.Value.{Value}
 use Rattle.gql_doc.specs.Depth.{Fragments, selections_of, fragment_set}
-use Rattle.gql_doc.specs.declared.document.Directive.{Directive}
-use Rattle.gql_doc.specs.declared.document.Field.{Field, out-Field, roll-Field, out-roll-Field}
+use Rattle.gql_doc.specs.declared.document.Field.{Field, out-Field}
 use Rattle.gql_doc.specs.declared.document.FragmentDefinition.{FragmentDefinition}
 use Rattle.gql_doc.specs.declared.document.FragmentSpread.{FragmentSpread}
-use Rattle.gql_doc.specs.declared.document.InlineFragment.{InlineFragment, out-InlineFragment, out-roll-InlineFragment}
+use Rattle.gql_doc.specs.declared.document.InlineFragment.{InlineFragment, out-InlineFragment}
 use Rattle.gql_doc.specs.declared.document.Positioned.{Positioned}
 use Rattle.gql_doc.specs.declared.document.Selection.{Selection, out-Selection, roll-Selection, roll-out-Selection, the_lemmas}
 use Rattle.gql_doc.specs.declared.document.Selection.TheOpen.{Selection-F}
@@ -20,7 +18,7 @@ use Rattle.gql_doc.specs.declared.document.Selection.TheVariants as selection
 use Rattle.gql_doc.specs.declared.document.Selection.TheViews.{rolls-Field, rolls-FragmentSpread, rolls-InlineFragment}
 use Rattle.gql_doc.specs.declared.document.SelectionSet.{SelectionSet, out-SelectionSet}
 use Rattle.gql_select.specs.Kept.{if_kept, is_kept, kept, kept_field, kept_fragment, kept_fragments, kept_if, kept_inline, kept_selection, kept_set, other_field, other_inline, others, kept_setting}
-use Rattle.gql_select.specs.Alike.{alike, arguments_of, name_of}
+use Rattle.gql_select.specs.Alike.{alike, name_of}
 use Rattle.gql_select.specs.Collected.{Setting, collect_within, fields_of, fields_of_spread, fields_under, own_selections}
 use Rattle.gql_select.specs.Conflicts.{Agree}
 use Rattle.gql_select.specs.Constants.{given}

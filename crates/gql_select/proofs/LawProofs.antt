@@ -1,5 +1,4 @@
 -- The laws on selections, proved.
-use Rattle.std.proofs.Common.{◌≡◌}
 use Rattle.gql_select.specs.Laws.{ApartIsMerged, DocumentsAreRead, KeptAgrees, KeptApartIsMerged, MergedGroupsAreGrouped, MutationApartIsMerged, NoConflictAgrees, SameConstants}
 use Rattle.gql_select.specs.Alike.{arguments_of}
 use Rattle.gql_select.proofs.AlikeLemmas.{alike_says, constants_same}

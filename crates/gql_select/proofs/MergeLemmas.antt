@@ -1,15 +1,13 @@
 -- Answering each occurrence apart and joining the places is answering each key once.
-use Rattle.std.proofs.Common.{◌≡◌, ℕ, zero, suc, ◌+◌, ◌<◌, Bool, true, List, [], ◌∷◌, ◌++◌, length, None, refl, ap, sym, subst, ◌∙◌, arith}
-use Rattle.std.specs.List.{Contains, AllByRecursion}
-use Rattle.std.specs.Str.{bytes_eq}
+use Rattle.std.proofs.Common.{◌≡◌, ℕ, zero, suc, ◌+◌, true, List, [], ◌∷◌, ◌++◌, refl, ap, sym, subst, ◌∙◌, arith}
+use Rattle.std.specs.List.{Contains}
 use Rattle.std.specs.Cmp.Lexicographic.{bytes_decides}
 use Rattle.std.proofs.lemmas.List.Elements.{Contains-append_right}
-use Rattle.std.proofs.lemmas.List.{append_assoc}
-use Rattle.gql_base.specs.Pairs.{under, unite, unite_all, HasDistinctNames}
+use Rattle.gql_base.specs.Pairs.{unite_all}
 use Rattle.gql_select.specs.Reading.{Reading, IsReading, over, keyed, merged}
-use Rattle.gql_select.specs.Grouped.{Beneath, grouped, respond, respond_by, IsPlacing, Placing}
+use Rattle.gql_select.specs.Grouped.{grouped, respond, IsPlacing, Placing}
 use Rattle.gql_select.specs.Conflicts.{Agree}
-use Rattle.gql_select.proofs.UnitingLemmas.{EachUnder, Meet, Among, over_united, meet_united, meet_united_left, each_united, among_distinct, distinct_united, unite_all_into, unite_all-append}
+use Rattle.gql_select.proofs.UnitingLemmas.{EachUnder, Meet, Among, over_united, meet_united, meet_united_left, among_distinct, distinct_united, unite_all_into, unite_all-append}
 use Rattle.gql_select.proofs.AgreeLemmas.{in_left, in_right, agree_left_one, agree_left_two, agree_right_one, agree_right_two, agree_left, agree_right, agree_whole}
 
 pub first_in : {A : Type 0} (x : A) (xs : List A) → Contains (x ∷ xs) x

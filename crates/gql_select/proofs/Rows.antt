@@ -1,9 +1,9 @@
 -- Some selections, computed.
-use Rattle.std.proofs.Common.{rules, cond, ◌≡◌, ℕ, pos, Bool, true, false, ◌||◌, List, [], ◌∷◌, ◌++◌, Option, Some, None, refl, ap, sym, ◌∙◌}
+use Rattle.std.proofs.Common.{rules, cond, ◌≡◌, ℕ, pos, true, false, ◌||◌, List, [], ◌∷◌, ◌++◌, Some, None, ap, ◌∙◌}
 use Rattle.std.specs.Prelude.{codes}
 use Rattle.std.specs.Str.{bytes_eq}
 use Rattle.gql_base.specs.declared.pos.Pos.{Pos}
-use Rattle.gql_base.specs.declared.value.Value.{Value, the_lemmas as value_lemmas}
+use Rattle.gql_base.specs.declared.value.Value.{the_lemmas as value_lemmas}
 use Rattle.gql_base.specs.declared.value.Value.TheVariants as value
 use Rattle.gql_doc.specs.declared.document.Argument.{Argument}
 use Rattle.gql_doc.specs.declared.document.Directive.{Directive}

@@ -1,8 +1,7 @@
 -- Mutations: what is beneath the root keys may be answered apart or once.
-use Rattle.std.proofs.Common.{◌≡◌, ℕ, zero, suc, Bool, true, List, [], ◌∷◌, ◌++◌, refl, ap, sym, subst, ◌∙◌}
+use Rattle.std.proofs.Common.{◌≡◌, ℕ, suc, true, List, [], ◌∷◌, refl, sym, subst}
 use Rattle.std.specs.List.{Contains, AllByRecursion}
 use Rattle.std.specs.Str.{bytes_eq}
-use Rattle.gql_base.specs.Pairs.{unite_all}
 use Rattle.gql_select.specs.Reading.{Reading, IsReading, keyed, merged}
 use Rattle.gql_select.specs.Grouped.{at_root, below_root, IsPlacing, in_turn, Mutating, serial_grouped, serial_respond}
 use Rattle.gql_select.specs.Conflicts.{Agree}

@@ -1,6 +1,6 @@
 -- The fields of selection sets, in document order, where fragments are entered (GraphQL, October
 -- 2021, section 6.3.2).
-use Rattle.std.specs.Prelude.{ℕ, zero, suc, Bool, true, List, [], ◌∷◌, ◌++◌, Option, Some, None}
+use Rattle.std.specs.Prelude.{ℕ, zero, suc, Bool, List, [], ◌∷◌, Option, Some, None}
 use Rattle.std.specs.Prelude.{if◌then◌else◌}
 use Rattle.std.specs.List.{flat_map}
 use Rattle.gql_base.specs.Pairs.{under}

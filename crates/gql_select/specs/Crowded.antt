@@ -1,6 +1,6 @@
 -- Fields with too many directives. The walk is that of the depth of sets: spreads are entered where
 -- they stand.
-use Rattle.std.specs.Prelude.{ℕ, zero, suc, ◌+◌, length, nat_lt, List, Option, Some, None}
+use Rattle.std.specs.Prelude.{ℕ, zero, suc, length, nat_lt, Option, Some, None}
 use Rattle.std.specs.Prelude.{option_and_then}
 use Rattle.std.specs.Prelude.{if◌then◌else◌}
 use Rattle.std.specs.Option.{option_or}

@@ -1,12 +1,11 @@
 -- How a document's sets are read: occurrences are fields at their places, and one field stands for
 -- all of a key.
 use Rattle.std.specs.Prelude.{ℕ, List, [], ◌∷◌, ◌++◌}
-use Rattle.gql_base.specs.declared.pos.Pos.{Pos}
 use Rattle.gql_doc.specs.Document.{key_of}
 use Rattle.gql_doc.specs.declared.document.Field.{Field, out-Field, roll-Field}
 use Rattle.gql_doc.specs.declared.document.Positioned.{Positioned}
 use Rattle.gql_doc.specs.declared.document.Selection.{Selection}
-use Rattle.gql_doc.specs.declared.document.SelectionSet.{SelectionSet, roll-SelectionSet}
+use Rattle.gql_doc.specs.declared.document.SelectionSet.{roll-SelectionSet}
 use Rattle.gql_select.specs.Alike.{alike, name_of}
 use Rattle.gql_select.specs.Collected.{Setting, collect, own_selections}
 use Rattle.gql_select.specs.Grouped.{Beneath, Placing}

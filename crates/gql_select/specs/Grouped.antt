@@ -1,7 +1,7 @@
 -- The places of an object: each key answered once, and each occurrence answered apart (GraphQL,
 -- October 2021, sections 6.3 and 6.4). O is an object type, P the value of an object, F an
 -- occurrence of a field, X a selection, Pl a place.
-use Rattle.std.specs.Prelude.{◌≡◌, ℕ, zero, suc, Bool, true, List, [], ◌∷◌, ◌++◌}
+use Rattle.std.specs.Prelude.{◌≡◌, ℕ, zero, suc, true, List, [], ◌∷◌}
 use Rattle.std.specs.List.{Contains}
 use Rattle.gql_base.specs.Pairs.{unite_all}
 use Rattle.gql_select.specs.Reading.{Reading, over, keyed, merged}

@@ -1,6 +1,6 @@
 -- What `@skip` and `@include` leave of a document (GraphQL, October 2021, sections 3.13.1, 3.13.2
 -- and 6.3.2).
-use Rattle.std.specs.Prelude.{ℕ, Bool, true, false, not, ◌||◌, ◌==◌, List, [], ◌∷◌, Option, Some}
+use Rattle.std.specs.Prelude.{ℕ, Bool, true, false, not, ◌||◌, List, Option, Some}
 use Rattle.std.specs.Prelude.{None}
 use Rattle.std.specs.Prelude.{option_map, unwrap_or, if◌then◌else◌, codes, filter, filter_map, map}
 use Rattle.std.specs.List.{list_all}
@@ -9,7 +9,6 @@ use Rattle.gql_base.specs.Kinds.{boolean_of}
 use Rattle.gql_base.specs.declared.value.Value.{Value}
 use Rattle.gql_doc.specs.Depth.{Fragments}
 use Rattle.gql_doc.specs.declared.document.Directive.{Directive}
-use Rattle.gql_doc.specs.declared.document.DocValue.{DocValue}
 use Rattle.gql_doc.specs.declared.document.Field.{Field, out-Field, roll-Field}
 use Rattle.gql_doc.specs.declared.document.FragmentDefinition.{FragmentDefinition}
 use Rattle.gql_doc.specs.declared.document.InlineFragment.{InlineFragment, out-InlineFragment}

@@ -1,6 +1,6 @@
 -- How the selection sets of an object are read, over any kind of object type (O), of occurrence of
 -- a field (F) and of selection (X) (GraphQL, October 2021, sections 5.3.2 and 6.3.2).
-use Rattle.std.specs.Prelude.{◌≡◌, ℕ, Bool, true, List, [], ◌∷◌, ◌++◌, map}
+use Rattle.std.specs.Prelude.{◌≡◌, ℕ, Bool, true, List, [], ◌∷◌, ◌++◌}
 use Rattle.gql_base.specs.Pairs.{unite_all}
 
 -- the readings that the laws speak of: fields, their keys and sets, and what two occurrences of one

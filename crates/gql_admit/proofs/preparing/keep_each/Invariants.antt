@@ -2,7 +2,6 @@ use Rattle.std.proofs.Common.{◌≡◌, ◌++◌, map}
 use Rattle.std.specs.Vec.Iter.{into_iter_items}
 use Rattle.gql_select.specs.Constants.{variable_value}
 use Rattle.gql_select.specs.Kept.{kept_fragment}
-use Rattle.gql_admit.proofs.FragmentLemmas.{kept_next}
 use Rattle.gql_admit.proofs.preparing.keep_each.Given as goal
 
 abbrev pub invariant-loop-fragment : goal.invariant-loop-fragment

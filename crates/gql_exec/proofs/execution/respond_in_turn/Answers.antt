@@ -1,4 +1,4 @@
-use Rattle.std.proofs.Common.{◌+◌, true, inl, inr, ap, length, refl, sym, ◌∙◌}
+use Rattle.std.proofs.Common.{◌+◌, true, inl, inr, ap, sym, ◌∙◌}
 use Rattle.gql_engine.proofs.RootLemmas.{if_err}
 use Rattle.gql_engine.specs.Progress.{seen}
 use Rattle.gql_exec.proofs.BareLemmas.{last-bare, serial-bare}

@@ -1,4 +1,4 @@
-use Rattle.std.proofs.Common.{◌≡◌, ◌+◌, Some, option_map, ap, sym, ◌∙◌, arith}
+use Rattle.std.proofs.Common.{Some, option_map, ap, sym, ◌∙◌, arith}
 use Rattle.gql_place.proofs.RaisingLemmas.{members_raised, values_long}
 use Rattle.gql_place.proofs.WeightLemmas.{object_weighs, tree_weight}
 use Rattle.gql_place.proofs.raising.+raise.Goals as goal

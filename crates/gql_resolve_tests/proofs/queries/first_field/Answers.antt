@@ -1,4 +1,4 @@
-use Rattle.std.proofs.Common.{rules, ◌≡◌, Some, slice_get, ap, sym, ◌∙◌}
+use Rattle.std.proofs.Common.{rules, ◌≡◌, slice_get, ap, sym, ◌∙◌}
 use Rattle.std.specs.Option.{option_copied}
 use Rattle.gql_doc.specs.declared.document.Selection.{the_lemmas, out-Selection}
 use Rattle.gql_doc.specs.declared.document.Selection.TheOpen.{Selection-F}

@@ -1,8 +1,8 @@
-use Rattle.std.proofs.Common.{subst, sym, ◌∙◌}
+use Rattle.std.proofs.Common.{subst}
 use Rattle.gql_engine.specs.Progress.{seen}
 use Rattle.gql_exec.proofs.AgreeLemmas.{agrees_ready}
 use Rattle.gql_exec.proofs.CountingLemmas.{counts_tasks}
-use Rattle.gql_exec.proofs.ExecutionLemmas.{executes, halts, IsSet}
+use Rattle.gql_exec.proofs.ExecutionLemmas.{executes, halts}
 use Rattle.gql_exec.specs.Execution.{asks}
 use Rattle.gql_schema.specs.Keyed.{IsKeyed}
 use Rattle.gql_schema.specs.Table.{types_of}
