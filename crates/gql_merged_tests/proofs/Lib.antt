@@ -1,3 +1,4 @@
+mod KeptRows
 mod ListedRows
 mod PieceRows
 mod StoreRows
