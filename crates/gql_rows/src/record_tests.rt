@@ -55,6 +55,18 @@ const ROWS: (&str, &str, &str) = (
 const ROWS_DATA: &str =
     r#"{"t":"Query","l":[{"id":5,"twice":5},{"id":6,"twice":6}],"rows":[{"t":"Row"},{"t":"Row"}]}"#;
 
+/// The bench of a load of two rows, as docs/FORMAT.md has it. Seven lines come before a response of
+/// 79 bytes: so many polls and bytes are those that `load 2` tells.
+const LOAD: (&str, &str, &str) = (
+    r#"{"name":"rows","type":"[Row!]!","answer":{"const":[{"id":0,"tag":"t0"},{"id":1,"tag":"t1"}]}}"#,
+    r#"{"kind":"object","name":"Row","fields":[
+    {"name":"id","type":"Int!","answer":{"member":"id"}},
+    {"name":"tag","type":"String","answer":{"member":"tag"}}]}"#,
+    "{ rows { id tag } rows { id twice: id } }",
+);
+
+const LOAD_DATA: &str = r#"{"rows":[{"id":0,"tag":"t0","twice":0},{"id":1,"tag":"t1","twice":1}]}"#;
+
 #[test]
 fn polls_in_the_order_of_the_turns(rt: HostRuntime) -> Result<(), Fail> {
     for (shows, bench, turns, lines, data) in [
@@ -117,6 +129,14 @@ fn polls_in_the_order_of_the_turns(rt: HostRuntime) -> Result<(), Fail> {
 3 l.0.twice pending\n2 l.0.id pending\n2 l.0.id ready\n3 l.0.twice ready\n\
 4 l.1.id pending\n4 l.1.id ready\n",
             ROWS_DATA,
+        ),
+        (
+            "tasks of a load, which answer at once",
+            LOAD,
+            r#""turns":[0,37,74,10,47,84]"#,
+            "0 rows ready\n2 rows.0.tag ready\n6 rows.1.twice ready\n4 rows.1.id ready\n\
+5 rows.1.tag ready\n1 rows.0.id ready\n3 rows.0.twice ready\n",
+            LOAD_DATA,
         ),
     ] {
         assert!(rt;
