@@ -101,6 +101,7 @@ fn chosen_at(
     ensures operation { slice_get (values_of operations) place ≡ Some result.operation }
     ensures fragments { result.fragments ≡ fragments }
 {
+    // (asking the number shows that there are as many values as names)
     let count = operations.len();
     let (_, mut values) = operations.into_parts();
     let _count = count;

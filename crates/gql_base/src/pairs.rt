@@ -55,6 +55,7 @@ impl<T> Pairs<T> {
         ensures length { result ≡ length self.now }
         ensures distinct { HasDistinctNames self.now }
     {
+        // (reading the field shows the invariant: each name is there once, and has a value)
         let _values = &self.values;
         self.names.len()
     }
@@ -71,6 +72,7 @@ impl<T> Pairs<T> {
         ensures place { result ≡ place_of name.now (names_of self.now) }
         ensures within { IfSome result (λ place. place < length self.now) }
     {
+        // (reading the field shows the invariant: each name is there once, and has a value)
         let _values = &self.values;
         self.names.place_of(name)
     }
@@ -138,6 +140,7 @@ impl<T> Pairs<T> {
         requires { length values.items ≡ length self.now }
         ensures { IfOk result (λ made. made ≡ zip (names_of self.now) values.items) }
     {
+        // (reading the field shows the invariant: each name is there once, and has a value)
         let _values = &self.values;
         let names = self.names.try_clone(alloc)?;
         Ok(Pairs { names, values })

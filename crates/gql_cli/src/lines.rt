@@ -1,11 +1,11 @@
 //! The lines that a run writes.
-ghost use Rattle.std.specs.Prelude.{◌≡◌, ◌++◌, IfOk, OnOk, length, string_bytes};
+ghost use Rattle.std.specs.Prelude.{◌≡◌, ◌++◌, IfOk, length};
 ghost use Rattle.gql_cli.specs.Gives.{response_line};
 ghost use Rattle.gql_cli.specs.Load.{load_line};
 ghost use Rattle.gql_cli.specs.Outcome.{line};
 ghost use Rattle.gql_request.specs.BatchResponse.{batch_json};
 
-use gql_base::{JsonText, Made, Text, push_list};
+use gql_base::{JsonText, Made, Text};
 use gql_bench::Entries;
 use gql_request::BatchResponse;
 use std::alloc::Global;
@@ -25,7 +25,7 @@ pub(crate) fn line_of(alloc: Global, response: &BatchResponse) -> Made<Text>
     ensures { IfOk result (λ text. text ≡ response_line response.now) }
 {
     let mut out = String::new(alloc);
-    push_response(&mut out, response)?;
+    response.push_text(&mut out)?;
     out.push_str("\n")?;
     Ok(Text::from_string(out))
 }
@@ -50,17 +50,6 @@ fn json_len(alloc: Global, response: &BatchResponse) -> Made<usize>
     ensures { IfOk result (λ bytes. bytes ≡ length (batch_json response.now)) }
 {
     let mut out = String::new(alloc);
-    push_response(&mut out, response)?;
+    response.push_text(&mut out)?;
     Ok(out.len())
-}
-
-/// Appends the JSON of a single response, or that of the list of them all.
-fn push_response(out: &mut String, response: &BatchResponse) -> Made<()>
-    ensures { OnOk result (string_bytes out.new ≡ string_bytes out.old
-        ++ batch_json response.now) }
-{
-    match response {
-        BatchResponse::Single(response) => response.push_text(out),
-        BatchResponse::Batch(responses) => push_list(out, responses.as_slice()),
-    }
 }

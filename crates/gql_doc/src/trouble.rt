@@ -1,7 +1,7 @@
 use std::alloc::AllocError;
 
 /// What stops the reading of tokens.
-#[derive(Clone, Copy, PartialEq, Eq, Debug)]
+#[derive(Clone, Copy, PartialEq, Eq)]
 pub enum Trouble {
     /// Nothing goes on with this token.
     Unexpected,
@@ -10,7 +10,7 @@ pub enum Trouble {
 }
 
 /// Why a reader has no value: memory is wanting, or there is trouble at the next token.
-#[derive(Clone, Copy, PartialEq, Eq, Debug)]
+#[derive(Clone, Copy, PartialEq, Eq)]
 pub enum ReadError {
     Memory,
     Stopped(Trouble),

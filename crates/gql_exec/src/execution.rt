@@ -167,6 +167,7 @@ impl Schema {
         ensures asked { OnOk result (CountsTasks R.ResolverSet resolvers.old by
             (asks self.now request.now) steps.old steps.new) }
     {
+        // (asking the number shows that no type is there twice)
         let _count = self.types().len();
         match self.prepared(alloc, &request.inner)? {
             Ok(env) => match self.root_for(env.operation.node.ty) {

@@ -8,11 +8,10 @@ ghost use Rattle.gql_merged.specs.Assembled.{united_members};
 ghost use Rattle.gql_merged.specs.KeyNames.{names_in};
 
 use crate::key_names::Keys;
-use gql_base::{Items, Made, Name, Pairs};
-use gql_place::{MemberPieces, Pieces, Place, Tree, join};
+use gql_base::{Made, Name, Pairs};
+use gql_place::{MemberPieces, Pieces, Place, join_onto};
 use std::alloc::Global;
 use std::collections::VecDeque;
-use std::mem;
 
 /// Places under keys: those under one key are joined, the first with each one behind it.
 pub(crate) fn members_under(alloc: Global, keys: &Keys, own: Pieces) -> Made<MemberPieces>
@@ -37,6 +36,7 @@ fn members_once(alloc: Global, keys: &Pairs<()>, own: Pieces) -> Made<MemberPiec
     ensures { IfOk result (λ members. members_in members
         ≡ united_members (names_of keys.now) (places_in own)) }
 {
+    // (asking the number shows that no key is there twice)
     let _count = keys.len();
     own.under(alloc, keys)
 }
@@ -62,23 +62,7 @@ fn unite_place(alloc: Global, members: &mut Pairs<Place>, key: &str, place: Plac
     ensures { OnOk result (members.new ≡ unite joined members.old key.now place) }
 {
     match members.get_mut(key) {
-        Some(member) => join_onto(alloc, member, place),
+        Some(member) => join_onto(alloc, place, member),
         None => members.add_fresh(Name::new(alloc, key)?, place),
     }
-}
-
-/// Joins a second place onto the first.
-fn join_onto(alloc: Global, first: &mut Place, second: Place) -> Made<()>
-    ensures { OnOk result (first.new ≡ joined first.old second) }
-{
-    let nothing = Place {
-        pos: first.pos,
-        non_null: false,
-        added: Items::new(alloc),
-        headers: Items::new(alloc),
-        tree: Tree::Absent,
-    };
-    let whole = mem::replace(first, nothing);
-    *first = join(alloc, whole, second)?;
-    Ok(())
 }

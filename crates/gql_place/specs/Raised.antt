@@ -54,10 +54,6 @@ value_at = fold-Place (Option Value) (Option Value) tree_step place_step
 abbrev pub tree_value : Tree → Option Value
 tree_value = fold-Tree (Option Value) (Option Value) tree_step place_step
 
--- the values of the items of a list, or none where one is wanting
-abbrev pub item_values : List Place → Option (List Value)
-item_values items = all_items (map value_at items)
-
 -- the values of the members of an object, or none where one is wanting
 abbrev pub member_values : List (List ℕ × Place) → Option (List (List ℕ × Value))
 member_values members = all_members (map (λ m. (m.0, value_at m.1)) members)

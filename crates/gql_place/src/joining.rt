@@ -19,7 +19,7 @@ pub fn join(alloc: Global, first: Place, second: Place) -> Made<Place>
 
 /// Joins a second place onto the first. The recursion ends by the depth of the second.
 #[cycle(join)]
-fn join_onto(alloc: Global, second: Place, first: &mut Place) -> Made<()>
+pub fn join_onto(alloc: Global, second: Place, first: &mut Place) -> Made<()>
     ensures { OnOk result (first.new ≡ joined first.old second) }
 {
     join_tree(alloc, second.tree, &mut first.tree)

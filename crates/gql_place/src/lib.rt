@@ -14,7 +14,7 @@ mod raising;
 mod shape;
 mod shared;
 
-pub use joining::join;
+pub use joining::{join, join_onto};
 pub use piece::Piece;
 pub use pieces::{MemberPieces, Pieces, absent_tree};
 pub use place::{Place, Tree};

@@ -8,7 +8,7 @@ use crate::header_fault::HeaderFault;
 use crate::header_folding::fold_responses;
 use crate::header_pairs::HeaderPairs;
 use crate::response::Response;
-use gql_base::{Copied, Items, Made, Text, push_list};
+use gql_base::{Copied, Items, JsonText, Made, Text, push_list};
 use http_header::HeaderMap;
 use std::alloc::Global;
 
@@ -58,13 +58,21 @@ impl BatchResponse {
     pub fn json(&self, alloc: Global) -> Made<Text>
         ensures { IfOk result (λ text. text ≡ batch_json self.now) }
     {
+        let mut out = String::new(alloc);
+        self.push_text(&mut out)?;
+        Ok(Text::from_string(out))
+    }
+}
+
+impl JsonText for BatchResponse {
+    ghost use Rattle.gql_request.specs.BatchResponse.{batch_json};
+
+    ghost text = { batch_json };
+
+    fn push_text(&self, out: &mut String) -> Made<()> {
         match self {
-            BatchResponse::Single(response) => response.json(alloc),
-            BatchResponse::Batch(responses) => {
-                let mut out = String::new(alloc);
-                push_list(&mut out, responses.as_slice())?;
-                Ok(Text::from_string(out))
-            }
+            BatchResponse::Single(response) => response.push_text(out),
+            BatchResponse::Batch(responses) => push_list(out, responses.as_slice()),
         }
     }
 }

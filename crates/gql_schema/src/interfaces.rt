@@ -50,6 +50,7 @@ impl Interfaces {
     pub fn has(&self, name: &str) -> bool
         ensures { result ≡ is_among name.now self.now }
     {
+        // (reading the field shows the invariant: the set has the names of the list)
         let _list = &self.list;
         self.set.has(name)
     }

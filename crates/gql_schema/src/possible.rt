@@ -31,6 +31,7 @@ impl Types {
     pub fn is_possible(&self, type_name: &str, object: &str) -> bool
         ensures { result ≡ is_possible (types_of self.now) type_name.now object.now }
     {
+        // (asking the number shows that no type is there twice)
         let _distinct = self.len();
         is_known_object_type(self.get(object)) && type_has(self, type_name, object)
     }
