@@ -2,8 +2,8 @@
 use Rattle.std.specs.Prelude.{[], ◌∷◌, codes, Ok}
 use Rattle.serde_json.specs.Data.{Data}
 use Rattle.gql_base.specs.ReadJson.{Reading}
-use Rattle.gql_ws.specs.Protocols.{protocol_named}
-use Rattle.gql_ws.specs.declared.protocols.Protocols.{Protocols}
+use Rattle.gql_protocols.specs.Protocols.{protocol_named}
+use Rattle.gql_protocols.specs.declared.protocols.Protocols.{Protocols}
 use Rattle.gql_form.specs.declared.session_form.EntryForm.{EntryForm}
 use Rattle.gql_form.specs.declared.session_form.SessionForm.{SessionForm}
 use Rattle.gql_form.specs.Plain.{needed, text_of, count_of, ◌>>=◌}

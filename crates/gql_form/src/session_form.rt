@@ -2,7 +2,7 @@ use crate::fault::Fault;
 use crate::form::{Form, Reader};
 use crate::kit::{bad, member, only, optional};
 use gql_base::{Items, Text};
-use gql_ws::Protocols;
+use gql_protocols::Protocols;
 use serde_json::Value as Json;
 use std::str::FromStr;
 

@@ -1,6 +1,4 @@
 //! GraphQL over WebSocket.
 #![tactic(auto)]
 
-mod protocols;
-
-pub use protocols::{ALL_WEBSOCKET_PROTOCOLS, Protocols, UnsupportedProtocol};
+pub use gql_protocols::{ALL_WEBSOCKET_PROTOCOLS, Protocols, UnsupportedProtocol};

@@ -21,7 +21,7 @@ pub enum Protocols {
 pub struct UnsupportedProtocol;
 
 impl Protocols {
-    ghost use Rattle.gql_ws.specs.Protocols.{protocol_name};
+    ghost use Rattle.gql_protocols.specs.Protocols.{protocol_name};
 
     /// The name in the header.
     pub fn sec_websocket_protocol(&self) -> &'static str
@@ -38,7 +38,7 @@ impl Protocols {
 impl FromStr for Protocols {
     ghost use Rattle.std.specs.Prelude.{◌≡◌};
     ghost use Rattle.std.specs.Result.{result_ok};
-    ghost use Rattle.gql_ws.specs.Protocols.{protocol_named};
+    ghost use Rattle.gql_protocols.specs.Protocols.{protocol_named};
 
     type Err = UnsupportedProtocol;
 

@@ -1,9 +1,9 @@
 -- The subprotocols of GraphQL over WebSocket, by their names (RFC 6455, section 11.3.4).
 use Rattle.std.specs.Prelude.{ℕ, List, codes, Option, Some, None, if◌then◌else◌}
 use Rattle.std.specs.Str.{str_eq_ignore_ascii_case}
-use Rattle.gql_ws.specs.declared.protocols.Protocols.{Protocols}
-use Rattle.gql_ws.specs.declared.protocols.Protocols.TheVariants.{SubscriptionsTransportWS}
-use Rattle.gql_ws.specs.declared.protocols.Protocols.TheVariants.{GraphQLWS}
+use Rattle.gql_protocols.specs.declared.protocols.Protocols.{Protocols}
+use Rattle.gql_protocols.specs.declared.protocols.Protocols.TheVariants.{SubscriptionsTransportWS}
+use Rattle.gql_protocols.specs.declared.protocols.Protocols.TheVariants.{GraphQLWS}
 
 -- the name in the header
 abbrev pub protocol_name : Protocols → List ℕ
