@@ -18,7 +18,7 @@ use Rattle.gql_doc.proofs.DepthLaws.{deep_less}
 use Rattle.gql_select.specs.Crowded.{crowded, crowded_from, crowded_here}
 use Rattle.gql_admit.specs.Limits.{crowded_error, directives_checked, refused_by, IsWithinDepth, NestsWithin}
 use Rattle.gql_admit.specs.Walked.{IsClean}
-use Rattle.gql_admit.proofs.FirstLemmas.{both_none, first_same, none_behind, none_here}
+use Rattle.gql_lists.proofs.FirstLemmas.{both_none, first_same, none_behind, none_here}
 use Rattle.gql_admit.proofs.WalkLemmas.{written_at}
 
 module _ (fragments : Fragments) where

@@ -1,5 +1,4 @@
 pub mod AddingLemmas
-pub mod AllLemmas
 pub mod AlongLemmas
 pub mod ArgumentLemmas
 pub mod BreachLemmas
@@ -11,7 +10,6 @@ pub mod CrowdedLemmas
 pub mod DefinedLemmas
 pub mod DefinitionLemmas
 pub mod DepthLemmas
-pub mod FirstLemmas
 pub mod FragmentLemmas
 pub mod KeepLemmas
 pub mod ListedLemmas

@@ -35,7 +35,7 @@ use Rattle.gql_admit.specs.Choice.{with_fragments}
 use Rattle.gql_admit.specs.Left.{left_field, left_inline, left_set, left_spread}
 use Rattle.gql_admit.specs.Prepared.{kept_operation}
 use Rattle.gql_admit.specs.declared.chosen.Chosen.{Chosen}
-use Rattle.gql_admit.proofs.FirstLemmas.{both_none, none_behind, none_here}
+use Rattle.gql_lists.proofs.FirstLemmas.{both_none, none_behind, none_here}
 use Rattle.gql_admit.proofs.KeepLemmas.{selection-Field}
 use Rattle.gql_admit.proofs.KeepLemmas.{selection-Inline, selection-Spread, set_items}
 

@@ -1,36 +1,12 @@
 -- The order of breaches is total, and breaches that tie are the same.
-use Rattle.std.proofs.Common.{◌≡◌, Less, Equal, Greater, ℕ, zero, suc, true, List, [], ◌∷◌, refl, ap, sym, ◌∙◌}
-use Rattle.std.specs.declared.cmp.Ordering.{Ordering}
-use Rattle.std.specs.Ordering.{eq_by_cmp, is_eq, nat_cmp, ordering_then}
-use Rattle.std.proofs.lemmas.Cmp.{ranked, by_ranked}
+use Rattle.std.proofs.Common.{◌≡◌, Equal, ℕ, zero, suc, true, refl, ap, sym, ◌∙◌}
+use Rattle.std.specs.Ordering.{eq_by_cmp, nat_cmp}
 use Rattle.gql_base.specs.declared.pos.Pos.{Pos}
+use Rattle.gql_lists.proofs.OrderLemmas.{first_ties, is_equal, number_ties, second_ties, text_ties}
 use Rattle.gql_admit.specs.BreachOrder.{breach_order, kind_place, pos_order, text_order}
 use Rattle.gql_admit.specs.declared.breach.Breach.{Breach}
 use Rattle.gql_admit.specs.declared.breach.BreachKind.{BreachKind}
 use Rattle.gql_admit.specs.declared.breach.BreachKind.TheVariants as kinds
-
-number_ties : (x y : ℕ) → nat_cmp x y ≡ Equal → x ≡ y
-number_ties x y tied =
-    by_ranked _ _ _ (nat_cmp x y) (ranked x y (nat_cmp x y) refl) (λ is below. absurd (let e : Less ≡ Equal = cc in cc)) (λ is same. same) (λ is above. absurd (let e : Greater ≡ Equal = cc in cc))
-
-first_ties : (a b : Ordering) → ordering_then a b ≡ Equal → a ≡ Equal
-first_ties Less b tied = cc
-first_ties Equal b tied = refl
-first_ties Greater b tied = cc
-
-second_ties : (a b : Ordering) → ordering_then a b ≡ Equal → b ≡ Equal
-second_ties Less b tied = cc
-second_ties Equal b tied = tied
-second_ties Greater b tied = cc
-
-text_ties : (xs ys : List ℕ) → text_order xs ys ≡ Equal → xs ≡ ys
-text_ties [] [] tied = refl
-text_ties [] (y ∷ ys) tied = cc
-text_ties (x ∷ xs) [] tied = cc
-text_ties (x ∷ xs) (y ∷ ys) tied =
-    let here = number_ties x y (first_ties (nat_cmp x y) (text_order xs ys) tied) in
-    let behind = text_ties xs ys (second_ties (nat_cmp x y) (text_order xs ys) tied) in
-    λ i. here i ∷ behind i
 
 pos_ties : (one other : Pos) → pos_order one other ≡ Equal → one ≡ other
 pos_ties one other tied =
@@ -82,10 +58,5 @@ same_ties one other tied =
     let text = text_ties one.text other.text (second_ties (text_order one.name other.name) (text_order one.text other.text) behind_kind) in
     λ i. record { pos = pos i; kind = kind i; name = name i; text = text i }
 
-tied : (o : Ordering) → is_eq o ≡ true → o ≡ Equal
-tied Less h = cc
-tied Equal h = refl
-tied Greater h = cc
-
 pub equal_is : (one other : Breach) → eq_by_cmp breach_order one other ≡ true → one ≡ other
-equal_is one other h = same_ties one other (tied (breach_order one other) h)
+equal_is one other h = same_ties one other (is_equal (breach_order one other) h)

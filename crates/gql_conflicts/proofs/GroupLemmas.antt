@@ -21,9 +21,10 @@ use Rattle.gql_select.proofs.UnitingLemmas.{either, same_itself, unite_all-appen
 use Rattle.gql_conflicts.specs.Classes.{key_at}
 use Rattle.gql_select.specs.Behind.{all_behind}
 use Rattle.gql_conflicts.specs.DocumentConflicts.{told}
-use Rattle.gql_select.proofs.SliceLemmas.{get_map, length_set, map_set}
+use Rattle.gql_lists.proofs.SliceLemmas.{get_map, length_set, map_set}
 use Rattle.gql_select.proofs.OccurrenceLemmas.{behind_append, with_one_more}
-use Rattle.gql_select.proofs.ZipLemmas.{map_last, map_length, names_last, names_long, unite_fresh, unite_found}
+use Rattle.gql_lists.proofs.SliceLemmas.{map_last, map_length}
+use Rattle.gql_select.proofs.ZipLemmas.{names_last, names_long, unite_fresh, unite_found}
 use Rattle.gql_conflicts.specs.Groups.{AreGroups, Grown, first_of, told_of, under_keys, united}
 use Rattle.gql_conflicts.specs.declared.conflict.Conflict.{Conflict}
 use Rattle.gql_conflicts.specs.declared.group.Group.{Group}

@@ -9,6 +9,5 @@ mod GroupLemmas
 mod OrderLemmas
 mod Rows
 mod SameFieldLemmas
-mod TestLemmas
 mod WalkLemmas
 mod WalkedLemmas

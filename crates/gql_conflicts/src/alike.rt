@@ -68,7 +68,7 @@ fn same_argument(one: &Argument, other: &Argument) -> bool
 }
 
 /// True exactly where each argument is given the same in both lists, which are searched in order.
-#[tactic(auto, using(crate::proofs::TestLemmas::all_append))]
+#[tactic(auto, using(gql_lists::proofs::AllLemmas::all_append))]
 fn same_by_search(one: &[Argument], other: &[Argument]) -> bool
     ensures { result ≡ same_arguments one.now other.now }
 {
@@ -76,7 +76,7 @@ fn same_by_search(one: &[Argument], other: &[Argument]) -> bool
 }
 
 /// True exactly where each of some arguments is given the same in both lists.
-#[tactic(auto, using(crate::proofs::TestLemmas::all_more, crate::proofs::TestLemmas::all_fails, crate::proofs::TestLemmas::all_passed))]
+#[tactic(auto, using(gql_lists::proofs::AllLemmas::all_more, gql_lists::proofs::AllLemmas::all_fails, gql_lists::proofs::AllLemmas::all_passed))]
 fn all_same(one: &[Argument], other: &[Argument], some: &[Argument]) -> bool
     ensures { result ≡ list_all (argument_same one.now other.now) some.now }
 {
@@ -118,7 +118,7 @@ fn is_written_as(one: &DocValue, other: &DocValue) -> bool
 }
 
 /// True exactly where each argument is given the same in both lists, which may be long.
-#[tactic(auto, using(crate::proofs::TestLemmas::all_append))]
+#[tactic(auto, using(gql_lists::proofs::AllLemmas::all_append))]
 fn same_by_index(alloc: Global, one: &[Argument], other: &[Argument]) -> Made<bool>
     ensures { IfOk result (λ same. same ≡ same_arguments one.now other.now) }
 {
@@ -156,7 +156,7 @@ fn add_first<'a>(alloc: Global, index: &mut Pairs<&'a DocValue>, argument: &'a A
 }
 
 /// True exactly where each of some arguments is given the same in both lists, by their indices.
-#[tactic(auto, using(crate::proofs::TestLemmas::all_more, crate::proofs::TestLemmas::all_fails, crate::proofs::TestLemmas::all_passed))]
+#[tactic(auto, using(gql_lists::proofs::AllLemmas::all_more, gql_lists::proofs::AllLemmas::all_fails, gql_lists::proofs::AllLemmas::all_passed))]
 fn all_indexed(
     first: &Pairs<&DocValue>,
     second: &Pairs<&DocValue>,

@@ -20,7 +20,7 @@ use Rattle.gql_engine.specs.Progress.{IsSound, Agrees, Passed, Progress, Went, E
 use Rattle.gql_engine.specs.Record.{Ran, waiting_from}
 use Rattle.gql_engine.specs.Rounds.{event_of}
 use Rattle.gql_engine.specs.Turn.{StartsWaiting, KeepsWaiting, begins_now, enters_now, BeginsAtMost, EntersAtMost}
-use Rattle.gql_select.proofs.SliceLemmas.{get_append_left, get_set_other, set_set}
+use Rattle.gql_lists.proofs.SliceLemmas.{get_append_left, get_set_other, set_set}
 use Rattle.gql_engine.proofs.NearerLemmas.{nearer_settled}
 use Rattle.gql_engine.proofs.PaceLemmas.{pays_answer, pays_waiting, so_far_none, so_far_answer}
 use Rattle.gql_engine.proofs.PickLemmas.{Pick, picked, open_undone}

@@ -11,7 +11,7 @@ use Rattle.gql_engine.specs.ApartPlan.{seen, all_seen, Keeps}
 use Rattle.gql_engine.specs.declared.occurrence.Occurrence.{Occurrence}
 use Rattle.gql_place.specs.declared.place.Place.{Place}
 use Rattle.gql_engine.specs.declared.scene.Scene.{Scene}
-use Rattle.gql_select.proofs.SliceLemmas.{get_set_same, get_set_other, map_set_same}
+use Rattle.gql_lists.proofs.SliceLemmas.{get_set_same, get_set_other, map_set_same}
 
 -- whatever an occurrence is given, nothing is beneath it
 pub none_beneath : {V : Type 0} (task : Asked V) (given : Given V) → beneath_given nothing_beneath task given ≡ []

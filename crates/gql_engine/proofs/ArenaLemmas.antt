@@ -7,7 +7,7 @@ use Rattle.gql_engine.specs.declared.arena.State.{State}
 use Rattle.gql_engine.specs.declared.arena.State.TheVariants as state
 use Rattle.gql_engine.specs.Record.{Mark, untold, begun, ready, waiting_from, waiting}
 use Rattle.gql_engine.specs.Arena.{mark_of, marks_of, fresh_states}
-use Rattle.gql_select.proofs.SliceLemmas.{map_set, get_map, set_set}
+use Rattle.gql_lists.proofs.SliceLemmas.{map_set, get_map, set_set}
 
 abbrev pub IsUnanswered : Mark → Type 0
 IsUnanswered untold = Unit {0}

@@ -17,7 +17,7 @@ use Rattle.gql_engine.specs.Phases.{CutBefore, CutInTurn, InTurn, IsCutPhase, Is
 use Rattle.gql_engine.specs.Progress.{Enters, IsSound, Paces, PacesSoFar, Steady}
 use Rattle.gql_engine.specs.Record.{Choice, Mark, Ran, Stage, Stopped, begun, ready, untold, waiting_from}
 use Rattle.gql_engine.specs.Rounds.{IsOneOf, to_enter_at}
-use Rattle.gql_select.proofs.SliceLemmas.{get_append, get_append_left, get_at, get_within}
+use Rattle.gql_lists.proofs.SliceLemmas.{get_append, get_append_left, get_at, get_within}
 use Rattle.gql_engine.proofs.PaceLemmas.{come_more}
 use Rattle.gql_engine.proofs.ProgressLemmas.{steady_none, steady_trans}
 use Rattle.gql_engine.proofs.RecordLemmas.{with_more_none}

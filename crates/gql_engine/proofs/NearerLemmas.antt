@@ -6,7 +6,7 @@ use Rattle.gql_engine.specs.declared.arena.State.{State}
 use Rattle.gql_engine.specs.declared.arena.State.TheVariants as state
 use Rattle.gql_engine.specs.Arena.{fresh_states, total, events_of, polls_of, Nearer}
 use Rattle.gql_engine.specs.Turn.{StartsWaiting, KeepsWaiting}
-use Rattle.gql_select.proofs.SliceLemmas.{length_set}
+use Rattle.gql_lists.proofs.SliceLemmas.{length_set}
 
 module _ (F : Type 0) where
   pub total_set : (weight : State F → ℕ) (states : List (State F)) (i : ℕ) (old new : State F) → slice_get states i ≡ Some old

@@ -13,7 +13,7 @@ use Rattle.gql_engine.specs.Pace.{pending_then_ready, to_come, to_come_at, told_
 use Rattle.gql_engine.specs.Parts.{Parts, Moment, delay_by, delay_at}
 use Rattle.gql_engine.specs.Plan.{IsContextOf}
 use Rattle.gql_engine.specs.Progress.{Paces, PacesSoFar}
-use Rattle.gql_select.proofs.SliceLemmas.{get_set_same, get_set_other, get_append_left, get_within}
+use Rattle.gql_lists.proofs.SliceLemmas.{get_set_same, get_set_other, get_append_left, get_within}
 use Rattle.gql_engine.proofs.RecordLemmas.{with_more_none, with_more_append}
 
 told_append : (k : ℕ) (one other : List RecordEntry) → told_of k (one ++ other) ≡ told_of k one ++ told_of k other

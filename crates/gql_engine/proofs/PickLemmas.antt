@@ -8,7 +8,7 @@ use Rattle.gql_engine.specs.declared.arena.State.TheVariants as state
 use Rattle.gql_engine.specs.Arena.{Subject}
 use Rattle.gql_engine.specs.declared.given.Given.{Given}
 use Rattle.gql_engine.specs.Turn.{IsOpen}
-use Rattle.gql_select.proofs.SliceLemmas.{get_at}
+use Rattle.gql_lists.proofs.SliceLemmas.{get_at}
 use Rattle.gql_engine.proofs.SoundLemmas.{Stands, chosen_within, chosen_open}
 
 pub record Pick {V Task F : Type 0} (root : Bool) (is_for : F → Call V → Type 0) (subject : Subject V Task) (tasks : List Task) (states : List (State F)) (number : ℕ) (old : State F) : Type 0 where

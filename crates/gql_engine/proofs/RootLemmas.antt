@@ -19,7 +19,7 @@ use Rattle.gql_engine.specs.Record.{Mark, untold, begun, ready, waiting_from}
 use Rattle.gql_engine.specs.declared.arena.Turn.TheVariants as turn
 use Rattle.gql_engine.specs.Root.{effect_by, world_turned, roots_given, without_root, LeavesEffect, RootAnswered, RootEnded, RootWaits, RootTurned, RootReached}
 use Rattle.gql_engine.proofs.AdvanceLemmas.{Taken, Completed, NeverRoots, stands, sound_of, undone, settled_states, no_roots}
-use Rattle.gql_select.proofs.SliceLemmas.{get_map}
+use Rattle.gql_lists.proofs.SliceLemmas.{get_map}
 use Rattle.gql_engine.proofs.ProgressLemmas.{kept_none, kept_trans, steady_trans, went_none, went_trans, passed_trans, ended_trans}
 use Rattle.gql_engine.specs.declared.root.Reached.{Reached}
 use Rattle.gql_engine.proofs.AimLemmas.{with_plan}

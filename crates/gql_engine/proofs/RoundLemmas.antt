@@ -16,7 +16,7 @@ use Rattle.gql_engine.specs.Plan.{Asking, IsContextOf, IsInfoOf}
 use Rattle.gql_engine.specs.Progress.{Enters, EntersSoFar}
 use Rattle.gql_engine.specs.Rounds.{IsOneOf, KeepNumbers, ToldRounds, RoundsWhole, RoundsStopped, event_of, times, to_enter, to_enter_at}
 use Rattle.gql_engine.specs.Turn.{EntersAtMost, Round, enters_now}
-use Rattle.gql_select.proofs.SliceLemmas.{get_set_same, get_set_other, get_append_left, get_within}
+use Rattle.gql_lists.proofs.SliceLemmas.{get_set_same, get_set_other, get_append_left, get_within}
 use Rattle.gql_engine.proofs.RecordLemmas.{with_more_none, with_more_append}
 
 module _ (V : Type 0) where

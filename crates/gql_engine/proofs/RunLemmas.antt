@@ -27,7 +27,7 @@ use Rattle.gql_engine.specs.Pace.{EachPaced, EachPacedSoFar, pending_then_ready}
 use Rattle.gql_engine.specs.Parts.{Parts, Moment, choice_by, due_by, delay_by}
 use Rattle.gql_engine.specs.Progress.{IsSound, Agrees, Seen, stage_of, story_at, RunsWhole, RunStopped, story_of}
 use Rattle.gql_engine.specs.Record.{Mark, untold, begun, ready, Story, Made, Ran, Stopped, waiting_from, waiting, untold_marks, fresh, after_mark, after_entry, made_at, begun_at, Choice, Stage}
-use Rattle.gql_select.proofs.SliceLemmas.{get_append, get_map, get_at, get_within}
+use Rattle.gql_lists.proofs.SliceLemmas.{get_append, get_map, get_at, get_within}
 use Rattle.gql_engine.proofs.RecordLemmas.{with_more_none}
 use Rattle.gql_engine.proofs.StepLemmas.{started_fresh, all_started}
 

@@ -12,7 +12,7 @@ use Rattle.gql_engine.specs.Arena.{mark_of, marks_of, fresh_states, Subject, Fit
 use Rattle.gql_engine.specs.declared.given.Given.{Given}
 use Rattle.gql_engine.specs.declared.given.Given.TheVariants.{Answered}
 use Rattle.gql_engine.specs.Turn.{IsOpen}
-use Rattle.gql_select.proofs.SliceLemmas.{map_set, get_map, get_within, get_set_same, get_set_other, get_append, length_set}
+use Rattle.gql_lists.proofs.SliceLemmas.{map_set, get_map, get_within, get_set_same, get_set_other, get_append, length_set}
 use Rattle.gql_engine.proofs.ArenaLemmas.{IsUnanswered, waits_at, waiting_kept}
 
 -- what stands between two turns, of plain lists

@@ -15,7 +15,7 @@ use Rattle.gql_engine.specs.Arena.{mark_of, marks_of, made_of, fresh_states, sub
 use Rattle.gql_engine.specs.Plan.{Asking, IsContextOf}
 use Rattle.gql_engine.specs.Progress.{story_of}
 use Rattle.gql_engine.specs.Turn.{begins_now}
-use Rattle.gql_select.proofs.SliceLemmas.{map_set, get_map}
+use Rattle.gql_lists.proofs.SliceLemmas.{map_set, get_map}
 use Rattle.gql_engine.proofs.RecordLemmas.{with_more_none}
 
 -- what the record sees, of plain lists

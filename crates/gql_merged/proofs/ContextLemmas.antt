@@ -3,7 +3,7 @@ use Rattle.std.proofs.Common.{◌≡◌, ℕ, ◌<◌, Bool, true, false, List, 
 use Rattle.std.specs.Prelude.{◌&&◌}
 use Rattle.gql_base.specs.declared.path_segment.PathSegment.{PathSegment}
 use Rattle.gql_base.specs.declared.path_segment.PathSegment.TheVariants as segment
-use Rattle.gql_select.proofs.SliceLemmas.{get_map}
+use Rattle.gql_lists.proofs.SliceLemmas.{get_map}
 use Rattle.gql_engine.specs.Path.{key_text}
 use Rattle.gql_engine.specs.Plan.{IsContextOf}
 use Rattle.gql_input.specs.Accessor.{members_behind}

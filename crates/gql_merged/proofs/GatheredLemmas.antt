@@ -12,7 +12,7 @@ use Rattle.gql_place.specs.Pieces.{members_in}
 use Rattle.gql_place.specs.declared.pieces.MemberPieces.{MemberPieces}
 use Rattle.gql_place.specs.declared.place.Place.{Place}
 use Rattle.gql_place.proofs.PieceLemmas.{items_trans, members_refl, members_trans, paired_refl, paired_trans}
-use Rattle.gql_select.proofs.SliceLemmas.{get_map}
+use Rattle.gql_lists.proofs.SliceLemmas.{get_map}
 use Rattle.gql_merged.specs.Assembled.{members_with, place_of, places_behind, places_behind_all, places_with, united_members}
 use Rattle.gql_merged.specs.Assembling.{AreApart, members_each}
 use Rattle.gql_merged.specs.KeyNames.{names_in}

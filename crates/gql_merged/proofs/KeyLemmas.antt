@@ -4,7 +4,7 @@ use Rattle.std.specs.Prelude.{slice_set}
 use Rattle.gql_base.specs.declared.no_memory.NoMemory.{NoMemory}
 use Rattle.gql_engine.proofs.AimLemmas.{with_plan}
 use Rattle.gql_engine.proofs.InTurnLemmas.{cut_between, cut_in_turn, in_turn_more}
-use Rattle.gql_select.proofs.SliceLemmas.{get_append, get_at, get_within}
+use Rattle.gql_lists.proofs.SliceLemmas.{get_append, get_at, get_within}
 use Rattle.gql_engine.proofs.ProgressLemmas.{steady_none}
 use Rattle.gql_engine.proofs.RecordLemmas.{with_more_none}
 use Rattle.gql_engine.proofs.RoundLemmas.{enters_none}

@@ -4,7 +4,7 @@ use Rattle.std.proofs.lemmas.List.{length-map, map-append}
 use Rattle.std.specs.Bool.{◌==◌}
 use Rattle.std.specs.List.{AllByRecursion, flat_map}
 use Rattle.gql_select.specs.Collected.{own_selections}
-use Rattle.gql_select.proofs.SliceLemmas.{get_append, get_map, get_within}
+use Rattle.gql_lists.proofs.SliceLemmas.{get_append, get_map, get_within}
 use Rattle.gql_engine.specs.Plan.{HasMade}
 use Rattle.gql_engine.specs.declared.given.Given.{Given}
 use Rattle.gql_engine.specs.declared.given.Given.TheVariants.{Answered, Put}

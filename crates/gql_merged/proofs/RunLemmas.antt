@@ -11,7 +11,7 @@ use Rattle.gql_base.specs.declared.pos.Pos.{Pos}
 use Rattle.gql_doc.specs.Depth.{operation_set}
 use Rattle.gql_doc.specs.declared.document.Field.{Field}
 use Rattle.gql_doc.specs.declared.document.Positioned.{Positioned}
-use Rattle.gql_select.proofs.SliceLemmas.{get_at, get_within}
+use Rattle.gql_lists.proofs.SliceLemmas.{get_at, get_within}
 use Rattle.gql_engine.proofs.RecordLemmas.{with_more_none}
 use Rattle.gql_engine.proofs.RunLemmas.{all_done, first_made, first_right}
 use Rattle.gql_engine.proofs.StepLemmas.{all_started, started_fresh}

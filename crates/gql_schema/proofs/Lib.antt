@@ -5,7 +5,6 @@ mod FaultRows
 mod FinishedLemmas
 mod FitsLemmas
 mod FitsRows
-mod ListLemmas
 mod NameSetLemmas
 mod PossibleLemmas
 mod RankLemmas

@@ -4,7 +4,7 @@
 --   1 a name isn't registered; 2 a type stands where its kind can't; 3 a non-null of a non-null; 4 a field of a oneof input object isn't
 --   nullable, or has a default; 5 an object lacks what an interface promises; 6 a member of a union is no object; 7 an input object
 --   contains itself; 8 a name isn't supported; 9 a default doesn't fit.
-use Rattle.std.specs.Prelude.{ℕ, Bool, true, false, ◌&&◌, ◌||◌, not, List, [], ◌∷◌, Option, Some}
+use Rattle.std.specs.Prelude.{ℕ, Bool, true, false, ◌&&◌, ◌||◌, not, List, Option, Some}
 use Rattle.std.specs.Prelude.{None, Result, IfOk, is_some, ◌≡◌, if◌then◌else◌}
 use Rattle.std.specs.List.{list_all}
 use Rattle.std.specs.Option.{option_or}
@@ -14,6 +14,7 @@ use Rattle.gql_base.specs.TypeRef.{innermost, is_nullable, type_text}
 use Rattle.gql_base.specs.contracts.type_ref.TypeRef.{the_row}
 use Rattle.gql_base.specs.declared.type_ref.TypeRef.{TypeRef}
 use Rattle.gql_base.specs.declared.value.Value.{Value}
+use Rattle.gql_lists.specs.First.{first_found}
 use Rattle.gql_schema.specs.Covariance.{is_covariant}
 use Rattle.gql_schema.specs.Field.{field_name, field_type, arguments_of}
 use Rattle.gql_schema.specs.Fits.{fits, is_doubled, is_known_input, is_unsupported}
@@ -43,11 +44,6 @@ use Rattle.gql_schema.specs.declared.schema_type.SchemaType.TheVariants as types
 use Rattle.gql_schema.specs.declared.subscription.Subscription.{Subscription}
 use Rattle.gql_schema.specs.declared.subscription_field.SubscriptionField.{SubscriptionField}
 use Rattle.gql_schema.specs.declared.union.Union.{Union}
-
--- what the first item gives that gives something
-abbrev pub first_found : {A B : Type 0} → (A → Option B) → List A → Option B
-first_found fault [] = None
-first_found fault (x ∷ xs) = option_or (fault x) (first_found fault xs)
 
 -- what a check answers where there is memory enough: this fault, or none
 abbrev pub Tells : {E : Type 0} → Result (Option SchemaError) E → Option SchemaError → Type 0

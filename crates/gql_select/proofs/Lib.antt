@@ -9,6 +9,5 @@ pub mod MergeLemmas
 pub mod OccurrenceLemmas
 pub mod Rows
 pub mod SerialLemmas
-pub mod SliceLemmas
 pub mod UnitingLemmas
 pub mod ZipLemmas

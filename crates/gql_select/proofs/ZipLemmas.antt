@@ -1,10 +1,11 @@
 -- Values under their names, where names and values are two lists.
-use Rattle.std.proofs.Common.{◌≡◌, ℕ, suc, Bool, true, false, cond, List, [], ◌∷◌, ◌++◌, length, map, Option, Some, None, slice_get, slice_set, refl, ap, sym, ◌∙◌, subst, arith}
+use Rattle.std.proofs.Common.{◌≡◌, ℕ, suc, Bool, true, false, cond, List, [], ◌∷◌, ◌++◌, length, Option, Some, None, slice_get, slice_set, refl, ap, sym, ◌∙◌, subst, arith}
 use Rattle.std.specs.List.{zip}
 use Rattle.std.specs.Option.{option_map_or, option_map}
 use Rattle.std.specs.Str.{bytes_eq}
 use Rattle.gql_base.specs.Names.{place_of}
 use Rattle.gql_base.specs.Pairs.{names_of, unite}
+use Rattle.gql_lists.proofs.SliceLemmas.{map_length}
 
 module _ {T : Type 0} (j : T → T → T) where
   unite_next : (k : List ℕ) (y : T) (ks : List (List ℕ)) (vs : List T) (qs : List (List ℕ × T)) (w : T) (o : Option ℕ) (i : ℕ)
@@ -54,15 +55,6 @@ module _ {T : Type 0} (j : T → T → T) where
       none_before : (o : Option ℕ) → option_map (λ n. suc n) o ≡ None → o ≡ None
       none_before None h = refl
       none_before (Some n) h = cc
-
--- the last of a list is mapped last
-pub map_last : {A B : Type 0} (f : A → B) (xs : List A) (x : A) → map f (xs ++ x ∷ []) ≡ map f xs ++ f x ∷ []
-map_last f [] x = refl
-map_last f (y ∷ xs) x = ap (λ ys. f y ∷ ys) (map_last f xs x)
-
-pub map_length : {A B : Type 0} (f : A → B) (xs : List A) → length (map f xs) ≡ length xs
-map_length f [] = refl
-map_length f (x ∷ xs) = ap suc (map_length f xs)
 
 -- a key more is a name more
 pub names_last : (keys : List (List ℕ × Unit {0})) (key : List ℕ) → names_of (keys ++ (key, tt) ∷ []) ≡ names_of keys ++ key ∷ []

@@ -2,7 +2,7 @@ use Rattle.gql_doc.specs.declared.document.OperationDefinition.{OperationDefinit
 use Rattle.gql_doc.specs.declared.document.Positioned.{Positioned}
 use Rattle.gql_base.specs.Pairs.{values_of}
 use Rattle.gql_doc.specs.Depth.{deep_from, operation_set}
-use Rattle.gql_admit.proofs.FirstLemmas.{first_here, first_more}
+use Rattle.gql_lists.proofs.FirstLemmas.{first_here, first_more}
 use Rattle.gql_admit.proofs.WalkLemmas.{value_at}
 use Rattle.gql_admit.proofs.depth.deep_operations.Goals as goal
 

@@ -5,7 +5,7 @@ use Rattle.gql_doc.specs.declared.document.DocValue.{DocValue}
 use Rattle.gql_schema.specs.Fits.{Fitting, fits_declared, is_non_null}
 use Rattle.gql_schema.specs.InputObject.{input_fields}
 use Rattle.gql_schema.specs.Table.{types_of}
-use Rattle.gql_admit.proofs.AllLemmas.{all_fails, all_mapped, all_more, all_passed, three_first, three_second, three_third}
+use Rattle.gql_lists.proofs.AllLemmas.{all_fails, all_mapped, all_more, all_passed, three_first, three_second, three_third}
 use Rattle.gql_admit.specs.Literals.{fitting_member, literal_fits, literal_fitting}
 use Rattle.gql_admit.proofs.LiteralLemmas.{given_fittings, one_member}
 use Rattle.gql_admit.proofs.literals.+fitting.Goals as goal

@@ -5,7 +5,7 @@ use Rattle.gql_engine.specs.Root.{effect_by}
 use Rattle.gql_engine.specs.Turn.{IsOpen}
 use Rattle.gql_engine.proofs.PickLemmas.{open_undone}
 use Rattle.gql_engine.proofs.ArenaLemmas.{still_waits}
-use Rattle.gql_select.proofs.SliceLemmas.{length_set}
+use Rattle.gql_lists.proofs.SliceLemmas.{length_set}
 use Rattle.gql_engine.proofs.NearerLemmas.{nearer_begun, nearer_pending}
 use Rattle.gql_engine.proofs.AdvanceLemmas.{went_begun, went_pending, completed_with, sound_answered, passed_answered, nearer_answered, ended_before, ended_after}
 use Rattle.gql_engine.proofs.AimLemmas.{ended_none}

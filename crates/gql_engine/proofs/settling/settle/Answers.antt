@@ -1,6 +1,6 @@
 use Rattle.std.proofs.Common.{◌∙◌}
 use Rattle.gql_engine.proofs.ArenaLemmas.{one_less}
-use Rattle.gql_select.proofs.SliceLemmas.{get_within}
+use Rattle.gql_lists.proofs.SliceLemmas.{get_within}
 use Rattle.gql_engine.proofs.settling.settle.Goals as goal
 
 pub take-requires : goal.take-requires

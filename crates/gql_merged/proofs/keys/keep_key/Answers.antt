@@ -1,7 +1,7 @@
 use Rattle.std.proofs.Common.{◌≡◌, ◌<◌, ◌∙◌, List, ap, arith, length, refl, subst, sym}
 use Rattle.std.proofs.lemmas.List.{length-map}
 use Rattle.std.proofs.lemmas.Option.{slice_get_read}
-use Rattle.gql_select.proofs.SliceLemmas.{length_set}
+use Rattle.gql_lists.proofs.SliceLemmas.{length_set}
 use Rattle.gql_merged.specs.Assembling.{AllHeldSince}
 use Rattle.gql_merged.specs.Fitting.{entries_in}
 use Rattle.gql_merged.specs.Holds.{store_in}

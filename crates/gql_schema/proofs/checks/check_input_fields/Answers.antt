@@ -3,7 +3,7 @@ use Rattle.gql_schema.specs.Faults.{input_field_fault}
 use Rattle.gql_schema.specs.InputObject.{input_fields}
 use Rattle.gql_schema.specs.declared.input_value.InputValue.{InputValue}
 use Rattle.gql_schema.specs.Table.{types_of}
-use Rattle.gql_schema.proofs.ListLemmas.{first_here, first_more}
+use Rattle.gql_lists.proofs.FirstLemmas.{first_here, first_more}
 use Rattle.gql_schema.proofs.checks.check_input_fields.Goals as goal
 
 pub returns-then-is_some : goal.returns-then-is_some

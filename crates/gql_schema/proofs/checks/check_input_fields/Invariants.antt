@@ -2,7 +2,7 @@ use Rattle.std.proofs.Common.{◌≡◌, ℕ, List, None, take}
 use Rattle.gql_schema.specs.Faults.{input_field_fault}
 use Rattle.gql_schema.specs.InputObject.{input_fields}
 use Rattle.gql_schema.specs.declared.input_value.InputValue.{InputValue}
-use Rattle.gql_schema.specs.Faults.{first_found}
+use Rattle.gql_lists.specs.First.{first_found}
 use Rattle.gql_schema.specs.Table.{types_of}
 use Rattle.gql_schema.proofs.checks.check_input_fields.Given as goal
 

@@ -3,7 +3,7 @@ use Rattle.gql_schema.specs.Faults.{field_fault, promised_field_fault}
 use Rattle.gql_schema.specs.Interface.{interface_name, promised_fields}
 use Rattle.gql_schema.specs.declared.interface_field.InterfaceField.{InterfaceField}
 use Rattle.gql_schema.specs.Table.{types_of}
-use Rattle.gql_schema.proofs.ListLemmas.{first_here, first_more}
+use Rattle.gql_lists.proofs.FirstLemmas.{first_here, first_more}
 use Rattle.gql_schema.proofs.checks.check_interface.Goals as goal
 
 pub returns-then-is_some : goal.returns-then-is_some

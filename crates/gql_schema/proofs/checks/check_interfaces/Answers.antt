@@ -3,7 +3,7 @@ use Rattle.std.proofs.lemmas.Option.{slice_get_read}
 use Rattle.gql_schema.specs.Faults.{implemented_fault}
 use Rattle.gql_schema.specs.Object.{interfaces_of}
 use Rattle.gql_schema.specs.Table.{types_of}
-use Rattle.gql_schema.proofs.ListLemmas.{first_here, first_more, first_passed}
+use Rattle.gql_lists.proofs.FirstLemmas.{first_here, first_more, first_passed}
 use Rattle.gql_schema.proofs.checks.check_interfaces.Goals as goal
 
 pub returns-then-is_some : goal.returns-then-is_some

@@ -3,7 +3,7 @@ use Rattle.gql_schema.specs.Faults.{field_fault, object_field_fault}
 use Rattle.gql_schema.specs.Object.{object_name, fields_of}
 use Rattle.gql_schema.specs.declared.field.Field.{Field}
 use Rattle.gql_schema.specs.Table.{types_of}
-use Rattle.gql_schema.proofs.ListLemmas.{first_here, first_more}
+use Rattle.gql_lists.proofs.FirstLemmas.{first_here, first_more}
 use Rattle.gql_schema.proofs.checks.check_object_fields.Goals as goal
 
 pub returns-then-is_some : goal.returns-then-is_some

@@ -3,7 +3,7 @@ use Rattle.gql_schema.specs.Faults.{field_fault, event_field_fault}
 use Rattle.gql_schema.specs.Subscription.{subscription_name, event_fields}
 use Rattle.gql_schema.specs.declared.subscription_field.SubscriptionField.{SubscriptionField}
 use Rattle.gql_schema.specs.Table.{types_of}
-use Rattle.gql_schema.proofs.ListLemmas.{first_here, first_more}
+use Rattle.gql_lists.proofs.FirstLemmas.{first_here, first_more}
 use Rattle.gql_schema.proofs.checks.check_subscription.Goals as goal
 
 pub returns-then-is_some : goal.returns-then-is_some

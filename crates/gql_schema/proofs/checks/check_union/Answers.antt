@@ -2,7 +2,7 @@ use Rattle.std.proofs.Common.{arith, slice_get, ap, sym, ◌∙◌, length}
 use Rattle.gql_schema.specs.Faults.{member_fault}
 use Rattle.gql_schema.specs.Table.{types_of}
 use Rattle.gql_schema.specs.Union.{members_of}
-use Rattle.gql_schema.proofs.ListLemmas.{first_here, first_more, first_passed}
+use Rattle.gql_lists.proofs.FirstLemmas.{first_here, first_more, first_passed}
 use Rattle.gql_schema.proofs.checks.check_union.Goals as goal
 
 pub returns-then-is_some : goal.returns-then-is_some

@@ -1,7 +1,7 @@
 use Rattle.std.proofs.Common.{◌≡◌, None, take}
 use Rattle.gql_schema.specs.Faults.{member_fault}
 use Rattle.gql_schema.specs.Union.{members_of}
-use Rattle.gql_schema.specs.Faults.{first_found}
+use Rattle.gql_lists.specs.First.{first_found}
 use Rattle.gql_schema.specs.Table.{types_of}
 use Rattle.gql_schema.proofs.checks.check_union.Given as goal
 

@@ -6,7 +6,7 @@ use Rattle.gql_schema.specs.Fits.{Fitting, fits, fits_declared, fits_members, fi
 use Rattle.gql_schema.specs.InputObject.{input_fields}
 use Rattle.gql_schema.specs.Table.{types_of}
 use Rattle.gql_schema.proofs.FitsLemmas.{given_fittings, one_member}
-use Rattle.gql_schema.proofs.ListLemmas.{all_fails, all_mapped, all_more, all_passed, three_first, three_second, three_third}
+use Rattle.gql_lists.proofs.AllLemmas.{all_fails, all_mapped, all_more, all_passed, three_first, three_second, three_third}
 use Rattle.gql_schema.proofs.fits.+fitting.Goals as goal
 
 pub is_one_member-returns : goal.is_one_member-returns

@@ -1,6 +1,6 @@
 use Rattle.gql_schema.specs.Fits.{is_given}
 use Rattle.gql_schema.specs.InputObject.{input_fields}
-use Rattle.gql_schema.proofs.ListLemmas.{all_fails, all_more}
+use Rattle.gql_lists.proofs.AllLemmas.{all_fails, all_more}
 use Rattle.gql_schema.proofs.fits.fields_are_given.Goals as goal
 
 pub returns-then-not-field_is_given : goal.returns-then-not-field_is_given

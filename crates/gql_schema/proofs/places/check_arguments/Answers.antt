@@ -2,7 +2,7 @@ use Rattle.std.proofs.Common.{ℕ, List}
 use Rattle.gql_schema.specs.Faults.{argument_fault}
 use Rattle.gql_schema.specs.Table.{types_of}
 use Rattle.gql_schema.specs.declared.input_value.InputValue.{InputValue}
-use Rattle.gql_schema.proofs.ListLemmas.{first_here, first_more}
+use Rattle.gql_lists.proofs.FirstLemmas.{first_here, first_more}
 use Rattle.gql_schema.proofs.places.check_arguments.Goals as goal
 
 pub returns-then-is_some : goal.returns-then-is_some

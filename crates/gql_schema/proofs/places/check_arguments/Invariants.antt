@@ -1,5 +1,6 @@
 use Rattle.std.proofs.Common.{◌≡◌, None, take}
-use Rattle.gql_schema.specs.Faults.{argument_fault, first_found}
+use Rattle.gql_schema.specs.Faults.{argument_fault}
+use Rattle.gql_lists.specs.First.{first_found}
 use Rattle.gql_schema.specs.Table.{types_of}
 use Rattle.gql_schema.proofs.places.check_arguments.Given as goal
 

@@ -2,7 +2,7 @@ use Rattle.std.proofs.Common.{◌≡◌, ℕ, List, None, take}
 use Rattle.gql_schema.specs.Faults.{promise_fault}
 use Rattle.gql_schema.specs.Interface.{promised_fields}
 use Rattle.gql_schema.specs.declared.interface_field.InterfaceField.{InterfaceField}
-use Rattle.gql_schema.specs.Faults.{first_found}
+use Rattle.gql_lists.specs.First.{first_found}
 use Rattle.gql_schema.specs.Table.{types_of}
 use Rattle.gql_schema.proofs.promises.check_promises.Given as goal
 

@@ -1,5 +1,5 @@
 use Rattle.gql_schema.specs.Faults.{is_spare}
-use Rattle.gql_schema.proofs.ListLemmas.{all_fails, all_more}
+use Rattle.gql_lists.proofs.AllLemmas.{all_fails, all_more}
 use Rattle.gql_schema.proofs.promises.has_only_optional.Goals as goal
 
 pub returns-then-not-is_spare_argument : goal.returns-then-not-is_spare_argument

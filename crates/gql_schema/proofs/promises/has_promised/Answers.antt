@@ -2,7 +2,7 @@ use Rattle.std.proofs.Common.{ℕ, List, ap, ◌∙◌}
 use Rattle.gql_base.specs.Pairs.{under}
 use Rattle.gql_schema.specs.Faults.{has_same_type}
 use Rattle.gql_schema.specs.declared.input_value.InputValue.{InputValue}
-use Rattle.gql_schema.proofs.ListLemmas.{all_fails, all_more}
+use Rattle.gql_lists.proofs.AllLemmas.{all_fails, all_more}
 use Rattle.gql_schema.proofs.promises.has_promised.Goals as goal
 
 pub returns-then-not-has_type_of : goal.returns-then-not-has_type_of

@@ -1,7 +1,7 @@
 use Rattle.std.proofs.Common.{Some, ap, ◌∙◌}
 use Rattle.gql_schema.specs.Ranks.{is_ranked, needs_low}
 use Rattle.gql_schema.specs.Table.{types_of}
-use Rattle.gql_schema.proofs.ListLemmas.{all_fails, all_more}
+use Rattle.gql_lists.proofs.AllLemmas.{all_fails, all_more}
 use Rattle.gql_schema.proofs.ranks.are_ranks.Goals as goal
 
 pub returns-then-not-needs_at_most : goal.returns-then-not-needs_at_most

@@ -3,7 +3,7 @@ use Rattle.gql_schema.specs.InputObject.{input_fields}
 use Rattle.gql_schema.specs.Ranks.{is_low, is_low_field}
 use Rattle.gql_schema.specs.Sound.{needed_of}
 use Rattle.gql_schema.specs.Table.{types_of}
-use Rattle.gql_schema.proofs.ListLemmas.{all_fails, all_more}
+use Rattle.gql_lists.proofs.AllLemmas.{all_fails, all_more}
 use Rattle.gql_schema.proofs.ranks.fields_need_at_most.Goals as goal
 
 pub returns-then-not-is_at_most : goal.returns-then-not-is_at_most

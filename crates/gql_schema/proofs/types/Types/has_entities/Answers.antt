@@ -1,6 +1,6 @@
 use Rattle.gql_schema.specs.Entities.{is_entity_pair}
 use Rattle.gql_schema.specs.Table.{types_of}
-use Rattle.gql_schema.proofs.ListLemmas.{any_more, any_passes}
+use Rattle.gql_lists.proofs.AnyLemmas.{any_more, any_passes}
 use Rattle.gql_schema.proofs.types.Types.has_entities.Goals as goal
 
 pub returns-then-is_entity_type : goal.returns-then-is_entity_type

@@ -1,4 +1,4 @@
--- What a loop knows of the items that it has passed.
+-- What a loop that looks for an item which passes a test knows of those that it has passed.
 use Rattle.std.proofs.Common.{◌≡◌, ℕ, zero, suc, ◌+◌, Bool, true, false, ◌||◌, List, [], ◌∷◌, take, Some, slice_get, refl, sym, ◌∙◌, add-one}
 use Rattle.std.specs.List.{list_any}
 

@@ -1,5 +1,5 @@
 -- What a loop that tests each item knows of those that it has passed.
-use Rattle.std.proofs.Common.{◌≡◌, ℕ, zero, suc, ◌+◌, Bool, true, false, ◌&&◌, List, [], ◌∷◌, map, take, length, ◌≤◌, Some, slice_get, refl, ap, sym, ◌∙◌, add-one}
+use Rattle.std.proofs.Common.{◌≡◌, ℕ, zero, suc, ◌+◌, Bool, true, false, ◌&&◌, List, [], ◌∷◌, ◌++◌, map, take, length, ◌≤◌, Some, slice_get, refl, ap, sym, ◌∙◌, add-one}
 use Rattle.std.proofs.lemmas.List.{take_all}
 use Rattle.std.specs.List.{list_all}
 
@@ -35,6 +35,14 @@ module _ {A : Type 0} (f : A → Bool) where
   pub all_passed : (xs : List A) (i : ℕ) → list_all f (take i xs) ≡ true → length xs ≤ i → true ≡ list_all f xs
   all_passed xs i before over = sym before ∙ ap (list_all f) (take_all i xs over)
 
+-- the items of two lists
+pub all_append : {A : Type 0} (f : A → Bool) (xs ys : List A) → list_all f (xs ++ ys) ≡ (list_all f xs && list_all f ys)
+all_append f [] ys = refl
+all_append f (x ∷ xs) ys =
+    let P : Bool → Type 0 = λ b. (b && list_all f (xs ++ ys)) ≡ ((b && list_all f xs) && list_all f ys) in
+    elim (f x) as P [ true ↦ all_append f xs ys | false ↦ refl ]
+
+-- a test of what items become is a test of the items
 pub all_mapped : {A C : Type 0} (f : A → Bool) (h : C → A) (xs : List C) → list_all f (map h xs) ≡ list_all (λ x. f (h x)) xs
 all_mapped f h [] = refl
 all_mapped f h (x ∷ xs) = ap (λ b. f (h x) && b) (all_mapped f h xs)

@@ -1,42 +1,46 @@
 -- What a loop that looks for the first of some knows of those that it has passed.
-use Rattle.std.proofs.Common.{◌≡◌, ℕ, zero, suc, ◌+◌, Bool, true, false, List, [], ◌∷◌, take, Option, Some, None, is_some, slice_get, refl, sym, ◌∙◌, add-one}
+use Rattle.std.proofs.Common.{◌≡◌, ℕ, zero, suc, ◌+◌, Bool, true, false, List, [], ◌∷◌, take, length, ◌≤◌, Option, Some, None, is_some, slice_get, refl, ap, sym, ◌∙◌, add-one}
+use Rattle.std.proofs.lemmas.List.{take_all}
 use Rattle.std.specs.Option.{option_copied, option_or}
 use denote.Ref.{Bor}
-use Rattle.gql_doc.specs.First.{first_in}
+use Rattle.gql_lists.specs.First.{first_found}
 
 module _ {A B : Type 0} (f : A → Option B) where
-  more-first : (xs : List A) (i : ℕ) (x : A) → first_in f (take i xs) ≡ None → slice_get xs i ≡ Some x → f x ≡ None → first_in f (take (suc i) xs) ≡ None
+  pub first_passed : (xs : List A) (i : ℕ) → first_found f (take i xs) ≡ None → length xs ≤ i → None ≡ first_found f xs
+  first_passed xs i before over = sym before ∙ ap (first_found f) (take_all i xs over)
+
+  more-first : (xs : List A) (i : ℕ) (x : A) → first_found f (take i xs) ≡ None → slice_get xs i ≡ Some x → f x ≡ None → first_found f (take (suc i) xs) ≡ None
   more-first [] i x before at here = cc
   more-first (y ∷ ys) zero x before at here =
       let same : y ≡ x = cc in
       rw same (rw here refl)
   more-first (y ∷ ys) (suc i) x before at here =
-      let P : Option B → Type 0 = λ o. option_or o (first_in f (take i ys)) ≡ None → option_or o (first_in f (take (suc i) ys)) ≡ None in
+      let P : Option B → Type 0 = λ o. option_or o (first_found f (take i ys)) ≡ None → option_or o (first_found f (take (suc i) ys)) ≡ None in
       (elim (f y) as P [ None ↦ λ h. more-first ys i x h at here | Some b ↦ λ h. cc ]) before
 
-  hit-first : (xs : List A) (i : ℕ) (x : A) (found : Option B) → first_in f (take i xs) ≡ None → slice_get xs i ≡ Some x → found ≡ f x → is_some found ≡ true
-      → found ≡ first_in f xs
+  hit-first : (xs : List A) (i : ℕ) (x : A) (found : Option B) → first_found f (take i xs) ≡ None → slice_get xs i ≡ Some x → found ≡ f x → is_some found ≡ true
+      → found ≡ first_found f xs
   hit-first [] i x found before at told there = cc
   hit-first (y ∷ ys) zero x found before at told there =
       let same : y ≡ x = cc in
-      let P : Option B → Type 0 = λ o. is_some o ≡ true → o ≡ option_or o (first_in f ys) in
+      let P : Option B → Type 0 = λ o. is_some o ≡ true → o ≡ option_or o (first_found f ys) in
       rw same (rw (sym told) ((elim found as P [ None ↦ λ h. cc | Some b ↦ λ h. refl ]) there))
   hit-first (y ∷ ys) (suc i) x found before at told there =
-      let P : Option B → Type 0 = λ o. option_or o (first_in f (take i ys)) ≡ None → found ≡ option_or o (first_in f ys) in
+      let P : Option B → Type 0 = λ o. option_or o (first_found f (take i ys)) ≡ None → found ≡ option_or o (first_found f ys) in
       (elim (f y) as P [ None ↦ λ h. hit-first ys i x found h at told there | Some b ↦ λ h. cc ]) before
 
-  -- the first that gives something
-  pub first_here : (xs : List A) (i : ℕ) (x : A) (found : Option B) (there : Bool) → first_in f (take i xs) ≡ None → slice_get xs i ≡ Some x → found ≡ f x
-      → there ≡ is_some found → there ≡ true → found ≡ first_in f xs
+  -- the first item that gives something
+  pub first_here : (xs : List A) (i : ℕ) (x : A) (found : Option B) (there : Bool) → first_found f (take i xs) ≡ None → slice_get xs i ≡ Some x → found ≡ f x
+      → there ≡ is_some found → there ≡ true → found ≡ first_found f xs
   first_here xs i x found there before at told test so = hit-first xs i x found before at told (sym test ∙ so)
 
   nothing : (o : Option B) → is_some o ≡ false → o ≡ None
   nothing None h = refl
   nothing (Some b) h = cc
 
-  -- one more that gives nothing
-  pub first_more : (xs : List A) (i : ℕ) (x : A) (found : Option B) (there : Bool) → first_in f (take i xs) ≡ None → slice_get xs i ≡ Some x → found ≡ f x
-      → there ≡ is_some found → there ≡ false → first_in f (take (i + 1) xs) ≡ None
+  -- one more item that gives nothing
+  pub first_more : (xs : List A) (i : ℕ) (x : A) (found : Option B) (there : Bool) → first_found f (take i xs) ≡ None → slice_get xs i ≡ Some x → found ≡ f x
+      → there ≡ is_some found → there ≡ false → first_found f (take (i + 1) xs) ≡ None
   first_more xs i x found there before at told test so =
       rw add-one (more-first xs i x before at (sym told ∙ nothing found (sym test ∙ so)))
 
@@ -54,7 +58,7 @@ both_none None b first second = second
 both_none (Some x) b first second = cc
 
 -- where nothing is found among some, nothing is found at any of them
-pub none_at : {A B : Type 0} (f : A → Option B) (xs : List A) (i : ℕ) (x : A) → first_in f xs ≡ None → slice_get xs i ≡ Some x → f x ≡ None
+pub none_at : {A B : Type 0} (f : A → Option B) (xs : List A) (i : ℕ) (x : A) → first_found f xs ≡ None → slice_get xs i ≡ Some x → f x ≡ None
 none_at f [] i x none at = cc
 none_at f (y ∷ ys) zero x none at =
     let same : y ≡ x = cc in
@@ -63,7 +67,7 @@ none_at f (y ∷ ys) (suc i) x none at = none_at f ys i x (none_behind _ _ none)
 
 -- two looks that find the same of each, where two others find nothing
 pub first_same : {A B C D : Type 0} (f : A → Option B) (g : A → Option C) (h k : A → Option D) → ((x : A) → f x ≡ None → g x ≡ None → h x ≡ k x)
-    → (xs : List A) → first_in f xs ≡ None → first_in g xs ≡ None → first_in h xs ≡ first_in k xs
+    → (xs : List A) → first_found f xs ≡ None → first_found g xs ≡ None → first_found h xs ≡ first_found k xs
 first_same f g h k same [] none also = refl
 first_same f g h k same (x ∷ xs) none also =
     let here = same x (none_here _ _ none) (none_here _ _ also) in

@@ -1,0 +1,5 @@
+pub mod AllLemmas
+pub mod AnyLemmas
+pub mod FirstLemmas
+pub mod OrderLemmas
+pub mod SliceLemmas
