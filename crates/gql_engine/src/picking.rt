@@ -5,7 +5,7 @@ use crate::arena::Arena;
 use gql_resolve::Turns;
 
 /// The task that takes a turn: its place among those that wait, and its number.
-#[derive(Clone, Copy, Debug)]
+#[derive(Clone, Copy)]
 pub(crate) struct Picked {
     pub place: usize,
     pub number: usize,

@@ -20,7 +20,7 @@ use std::alloc::Global;
 use std::sync::ledger::Ledger;
 
 /// How far a turn of a root has come: its first one without an answer, a later one, or its answer.
-#[derive(Clone, Copy, Debug)]
+#[derive(Clone, Copy)]
 pub(crate) enum Reached {
     Begun,
     Pending,

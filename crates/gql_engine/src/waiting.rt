@@ -12,7 +12,7 @@ use std::marker::Model;
 const BLOCK: usize = 256;
 
 /// Numbers in an order. Contracts see their list.
-#[derive(Debug, Drop)]
+#[derive(Drop)]
 pub struct Waiting {
     blocks: VecDeque<VecDeque<usize>>,
     count: usize,

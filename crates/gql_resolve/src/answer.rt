@@ -10,7 +10,7 @@ use http_header::{HeaderName, HeaderValue};
 
 /// What a resolver answers: its value, if any, or its error; errors beside that; and what it does
 /// to the headers of the HTTP response.
-#[derive(Debug, Drop)]
+#[derive(Drop)]
 pub struct Answer<V> {
     pub result: Result<Option<FieldValue<V>>, Error>,
     pub added: Items<Error>,
@@ -66,7 +66,7 @@ fn touches_header(op: &HeaderOp, name: &HeaderName) -> bool
 }
 
 /// What a poll of a future gives: its answer, or that it isn't there yet.
-#[derive(Debug, Drop)]
+#[derive(Drop)]
 pub enum Polled<V> {
     Ready(Answer<V>),
     Pending,

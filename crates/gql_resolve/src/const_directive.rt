@@ -5,7 +5,7 @@ use gql_doc::Positioned;
 use std::alloc::Global;
 
 /// A directive with the values of its arguments, each at its place.
-#[derive(Debug, Drop)]
+#[derive(Drop)]
 pub struct ConstDirective {
     pub name: Positioned<Name>,
     pub arguments: Items<(Positioned<Name>, Positioned<Value>)>,

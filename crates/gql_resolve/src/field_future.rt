@@ -4,7 +4,7 @@ use crate::field_value::FieldValue;
 use gql_base::Value;
 
 /// How a resolver begins: with its value at once, or with a future that is polled for its answer.
-#[derive(Debug, Drop)]
+#[derive(Drop)]
 pub enum FieldFuture<V, F> {
     Value(Option<FieldValue<V>>),
     Future(F),

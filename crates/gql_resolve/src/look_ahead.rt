@@ -8,7 +8,7 @@ use gql_base::{Items, Made};
 use std::alloc::Global;
 
 /// Fields of a query of which more is to be known: which fields stand beneath them.
-#[derive(Debug, Drop)]
+#[derive(Drop)]
 pub struct Lookahead<'a> {
     pub(crate) fields: Items<SelectionField<'a>>,
 }

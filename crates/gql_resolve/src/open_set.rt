@@ -8,7 +8,7 @@ use gql_doc::{Positioned, Selection, SelectionSet};
 use gql_request::QueryEnv;
 
 /// What is left of a set, and so many levels of sets suffice for it.
-#[derive(Clone, Copy, Debug)]
+#[derive(Clone, Copy)]
 pub(crate) struct OpenSet<'a> {
     pub(crate) env: &'a QueryEnv,
     pub(crate) left: usize,

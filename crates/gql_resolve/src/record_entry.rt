@@ -7,7 +7,7 @@ use std::alloc::Global;
 
 /// One entry of the record of an execution: that a task was polled, or that it was started and gave
 /// its value at once.
-#[derive(Debug, Drop)]
+#[derive(Drop)]
 pub struct RecordEntry {
     /// The task's number, in the order of making.
     pub task: u64,

@@ -9,7 +9,7 @@ use std::alloc::Global;
 
 /// The fields of a field's set, one after another, in document order, through fragments in place
 /// and known spreads. No set is copied.
-#[derive(Debug, Drop)]
+#[derive(Drop)]
 pub struct SelectionFieldsIter<'a> {
     pub(crate) sets: Items<OpenSet<'a>>,
 }

@@ -2,7 +2,7 @@ use crate::open_set::OpenSet;
 use crate::selection_field::SelectionField;
 
 /// What one look at selections gives.
-#[derive(Debug, Drop)]
+#[derive(Drop)]
 pub(crate) enum Step<'a> {
     /// None is left.
     Done,
