@@ -4,22 +4,24 @@ use gql_base::{Copied, Items, Made, Name, Names, Pairs, Value, Variables};
 use std::alloc::Global;
 use std::test::Fail;
 
+const TEN: [(&str, i64); 10] = [
+    ("a", 1),
+    ("b", 2),
+    ("c", 3),
+    ("d", 4),
+    ("e", 5),
+    ("f", 6),
+    ("g", 7),
+    ("h", 8),
+    ("i", 9),
+    ("j", 10),
+];
+
 /// Ten numbers under the names from "a" to "j".
 fn ten(alloc: Global) -> Made<Pairs<i64>> {
     let mut pairs = Pairs::with_capacity(alloc, 4)?;
-    for (name, number) in [
-        ("a", 1),
-        ("b", 2),
-        ("c", 3),
-        ("d", 4),
-        ("e", 5),
-        ("f", 6),
-        ("g", 7),
-        ("h", 8),
-        ("i", 9),
-        ("j", 10),
-    ] {
-        pairs.add(Name::new(alloc, name)?, number)?;
+    for (name, number) in &TEN {
+        pairs.add(Name::new(alloc, name)?, *number)?;
     }
     Ok(pairs)
 }
@@ -45,10 +47,10 @@ fn parts(rt: HostRuntime) -> Result<(), Fail> {
     let alloc = rt.alloc();
     let (mut names, numbers) = ten_names(alloc)?;
     names.reserve(1)?;
-    assert_eq!(rt; numbers.len(), 10);
-    assert_eq!(rt; names.len(), 10);
-    assert_eq!(rt; names.at(9), "j");
-    assert_eq!(rt; names.place_of("j"), Some(9));
+    assert!(rt; numbers.len() == 10);
+    assert!(rt; names.len() == 10);
+    assert!(rt; names.at(9) == "j");
+    assert!(rt; names.place_of("j") == Some(9));
     assert!(rt; names.try_clone(alloc)? == names);
     Ok(())
 }
@@ -71,8 +73,8 @@ fn changed_pairs(rt: HostRuntime) -> Result<(), Fail> {
     pairs.add(Name::new(alloc, "a")?, 3)?;
     pairs.add(Name::new(alloc, "b")?, 4)?;
     doubled(&mut pairs, "b", 0);
-    assert_eq!(rt; pairs.get("a").copied(), Some(6));
-    assert_eq!(rt; pairs.get("b").copied(), Some(8));
+    assert!(rt; pairs.get("a").copied() == Some(6));
+    assert!(rt; pairs.get("b").copied() == Some(8));
     Ok(())
 }
 

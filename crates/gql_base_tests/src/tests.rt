@@ -24,15 +24,15 @@ pub(crate) fn sample(alloc: Global) -> Made<Value> {
     Value::object(alloc, members)
 }
 
-pub(crate) const SAMPLE: &str = "{\"a\":1,\"b\":[\"x\",null]}";
+pub(crate) const SAMPLE: &str = r#"{"a":1,"b":["x",null]}"#;
 
 #[test]
 fn texts(rt: HostRuntime) -> Result<(), Fail> {
     let alloc = rt.alloc();
     let text = Text::new(alloc, "né")?;
-    assert_eq!(rt; text.as_str(), "né");
-    assert_eq!(rt; text.len(), 3);
-    assert_eq!(rt; format!(in alloc; "<{text}>")?.as_str(), "<né>");
+    assert!(rt; text.as_str() == "né");
+    assert!(rt; text.len() == 3);
+    assert!(rt; format!(in alloc; "<{text}>")?.as_str() == "<né>");
     assert!(rt; copies(alloc, &text)?);
     assert!(rt; text == Text::from_string(String::from_str(alloc, "né")?));
     Ok(())
@@ -42,8 +42,8 @@ fn texts(rt: HostRuntime) -> Result<(), Fail> {
 fn names(rt: HostRuntime) -> Result<(), Fail> {
     let alloc = rt.alloc();
     let name = Name::new(alloc, "hero")?;
-    assert_eq!(rt; name.as_str(), "hero");
-    assert_eq!(rt; format!(in alloc; "{name}!")?.as_str(), "hero!");
+    assert!(rt; name.as_str() == "hero");
+    assert!(rt; format!(in alloc; "{name}!")?.as_str() == "hero!");
     assert!(rt; copies(alloc, &name)?);
     Ok(())
 }
@@ -55,14 +55,14 @@ fn lists(rt: HostRuntime) -> Result<(), Fail> {
     assert!(rt; items.is_empty());
     items.push(5)?;
     items.append(Items::from_slice(alloc, &[6, 7])?)?;
-    assert_eq!(rt; items.len(), 3);
+    assert!(rt; items.len() == 3);
     items.set(1, 8);
-    assert_eq!(rt; items.as_slice(), [5, 8, 7].as_slice());
-    assert_eq!(rt; items.get(1).copied(), Some(8));
-    assert_eq!(rt; items.pop(), Some(7));
+    assert!(rt; items.as_slice() == [5, 8, 7].as_slice());
+    assert!(rt; items.get(1).copied() == Some(8));
+    assert!(rt; items.pop() == Some(7));
     assert!(rt; items == Items::from_vec(vec![in alloc; 5, 8]?));
     assert!(rt; copies::<Items<i64>>(alloc, &items)?);
-    assert_eq!(rt; items.into_vec().as_slice(), [5, 8].as_slice());
+    assert!(rt; items.into_vec().as_slice() == [5, 8].as_slice());
     Ok(())
 }
 
@@ -70,11 +70,11 @@ fn lists(rt: HostRuntime) -> Result<(), Fail> {
 fn boxes_and_options(rt: HostRuntime) -> Result<(), Fail> {
     let alloc = rt.alloc();
     let boxed = Boxed::new(alloc, 5u64)?;
-    assert_eq!(rt; *boxed.get(), 5);
+    assert!(rt; *boxed.get() == 5);
     assert!(rt; copies(alloc, &boxed)?);
-    assert_eq!(rt; boxed.into_inner(), 5);
+    assert!(rt; boxed.into_inner() == 5);
     assert!(rt; copies(alloc, &Some(true))?);
-    assert_eq!(rt; NoMemory::from(AllocError), NoMemory { roots: 0 });
+    assert!(rt; NoMemory::from(AllocError) == NoMemory { roots: 0 });
     Ok(())
 }
 
@@ -87,12 +87,12 @@ fn inserted(alloc: Global, pairs: &mut Pairs<i64>, name: &str, value: i64) -> Ma
 fn pairs(rt: HostRuntime) -> Result<(), Fail> {
     let alloc = rt.alloc();
     let mut pairs = Pairs::new(alloc);
-    assert_eq!(rt; inserted(alloc, &mut pairs, "b", 1)?, None);
+    assert!(rt; inserted(alloc, &mut pairs, "b", 1)? == None);
     pairs.add(Name::new(alloc, "a")?, 2)?;
-    assert_eq!(rt; inserted(alloc, &mut pairs, "b", 3)?, Some(1));
-    assert_eq!(rt; pairs.len(), 2);
-    assert_eq!(rt; pairs.at(0).0, "b");
-    assert_eq!(rt; *pairs.at(0).1, 3);
+    assert!(rt; inserted(alloc, &mut pairs, "b", 3)? == Some(1));
+    assert!(rt; pairs.len() == 2);
+    assert!(rt; pairs.at(0).0 == "b");
+    assert!(rt; *pairs.at(0).1 == 3);
     Ok(())
 }
 
@@ -109,8 +109,8 @@ fn numbers_in_common(rt: HostRuntime) -> Result<(), Fail> {
     let one = common_numbers(rt.alloc())?;
     let other = one.try_clone(rt.alloc())?;
     assert!(rt; one == other);
-    assert_eq!(rt; other.into_inner(rt.alloc())?.as_slice(), [1, 2].as_slice());
-    assert_eq!(rt; one.into_inner(rt.alloc())?.as_slice(), [1, 2].as_slice());
+    assert!(rt; other.into_inner(rt.alloc())?.as_slice() == [1, 2].as_slice());
+    assert!(rt; one.into_inner(rt.alloc())?.as_slice() == [1, 2].as_slice());
     Ok(())
 }
 

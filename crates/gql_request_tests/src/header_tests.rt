@@ -119,17 +119,14 @@ fn batch_map(alloc: Global, lists: &[&[Op]]) -> Result<Text, HeaderFault> {
 #[test]
 fn headers_of_one_response_make_a_map(rt: HostRuntime) -> Result<(), Fail> {
     let alloc = rt.alloc();
-    assert_eq!(rt; response_map(alloc, &FIRST)?.as_str(), "3; a 1 2; b 3; c");
+    assert!(rt; response_map(alloc, &FIRST)?.as_str() == "3; a 1 2; b 3; c");
     Ok(())
 }
 
 #[test]
 fn headers_of_a_batch_make_a_map(rt: HostRuntime) -> Result<(), Fail> {
     let alloc = rt.alloc();
-    assert_eq!(rt;
-        batch_map(alloc, &[&SECOND, &FIRST])?.as_str(),
-        "4; a 1 2; b 3; c 6"
-    );
+    assert!(rt; batch_map(alloc, &[&SECOND, &FIRST])?.as_str() == "4; a 1 2; b 3; c 6");
     Ok(())
 }
 

@@ -76,22 +76,20 @@ fn built(alloc: Global, building: Building) -> Made<Request> {
     }
 }
 
-fn built_text(alloc: Global, building: Building) -> Made<Text> {
+/// Whether a request is this in words.
+fn is_built(alloc: Global, building: Building, words: &str) -> Made<bool> {
     let request = built(alloc, building)?;
-    summary(alloc, &request)
+    Ok(summary(alloc, &request)?.as_str() == words)
 }
 
 #[test]
 fn requests_are_built(rt: HostRuntime) -> Result<(), Fail> {
-    for (building, words) in [
-        (Building::Named, "{ a } A"),
-        (Building::WithVariables, "{ a } a 5"),
-        (Building::WithData, "{ a } 1 6"),
-        (Building::Disabled, "{ a } A disabled"),
-        (Building::IntrospectionOnly, "{ a } A only"),
-    ] {
-        assert_eq!(rt; built_text(rt.alloc(), building)?.as_str(), words);
-    }
+    let alloc = rt.alloc();
+    assert!(rt; is_built(alloc, Building::Named, "{ a } A")?);
+    assert!(rt; is_built(alloc, Building::WithVariables, "{ a } a 5")?);
+    assert!(rt; is_built(alloc, Building::WithData, "{ a } 1 6")?);
+    assert!(rt; is_built(alloc, Building::Disabled, "{ a } A disabled")?);
+    assert!(rt; is_built(alloc, Building::IntrospectionOnly, "{ a } A only")?);
     Ok(())
 }
 
@@ -132,7 +130,7 @@ fn value_text(alloc: Global, value: &Value) -> Made<Text> {
     }
 }
 
-/// The same of an object of one member.
+/// The same of an object of one member with a value of a kind.
 fn read_text(alloc: Global, member: &str, kind: &str) -> Made<Text> {
     let value = object(alloc, member, value_of_kind(alloc, kind)?)?;
     value_text(alloc, &value)
@@ -161,7 +159,7 @@ const MEMBERS: [(&str, &str, &str); 15] = [
         "text",
         "Invalid request: variables must be an object or null",
     ),
-    ("extensions", "object", "|{\"a\":7}"),
+    ("extensions", "object", r#"|{"a":7}"#),
     ("extensions", "null", "|{}"),
     (
         "extensions",
@@ -173,22 +171,34 @@ const MEMBERS: [(&str, &str, &str); 15] = [
     ("", "null", "|{}"),
 ];
 
+/// Whether this is read of an object of one member.
+fn is_read(alloc: Global, member: &str, kind: &str, text: &str) -> Made<bool> {
+    Ok(read_text(alloc, member, kind)?.as_str() == text)
+}
+
+/// The first member of a table of which something else is read, with the kind of its value.
+fn first_wrong_member(
+    alloc: Global,
+    table: &[(&'static str, &'static str, &'static str)],
+) -> Made<Option<(&'static str, &'static str)>> {
+    for (member, kind, text) in table {
+        if !is_read(alloc, member, kind, text)? {
+            return Ok(Some((*member, *kind)));
+        }
+    }
+    Ok(None)
+}
+
 #[test]
 fn requests_are_read(rt: HostRuntime) -> Result<(), Fail> {
-    for (member, kind, text) in MEMBERS {
-        assert_eq!(rt;
-            read_text(rt.alloc(), member, kind)?.as_str(),
-            text,
-            "{member} {kind}"
-        );
-    }
+    assert_eq!(rt; first_wrong_member(rt.alloc(), &MEMBERS)?, None);
     Ok(())
 }
 
-/// How many requests are read from a list of some objects, or why none are.
-fn batch_text(alloc: Global, count: usize) -> Made<Text> {
+/// Whether this is read of a list of some objects: how many requests, or why none.
+fn is_batch(alloc: Global, count: usize, text: &str) -> Made<bool> {
     let value = objects(alloc, count)?;
-    read_batch_text(alloc, &value)
+    Ok(read_batch_text(alloc, &value)?.as_str() == text)
 }
 
 /// A list of so many objects.
@@ -220,20 +230,18 @@ fn single_text(batch: BatchRequest) -> &'static str {
     }
 }
 
-/// What is read from an object alone.
-fn object_text(alloc: Global) -> Made<Text> {
-    read_batch_text(alloc, &Value::object(alloc, Pairs::new(alloc))?)
+/// Whether this is read of an object alone.
+fn is_alone(alloc: Global, text: &str) -> Made<bool> {
+    let value = Value::object(alloc, Pairs::new(alloc))?;
+    Ok(read_batch_text(alloc, &value)?.as_str() == text)
 }
 
 #[test]
 fn batches_are_read(rt: HostRuntime) -> Result<(), Fail> {
-    for (count, text) in [
-        (0, "Invalid request: expected a non-empty list"),
-        (2, "2 unsupported"),
-    ] {
-        assert_eq!(rt; batch_text(rt.alloc(), count)?.as_str(), text);
-    }
-    assert_eq!(rt; object_text(rt.alloc())?.as_str(), "1 single");
+    let empty = "Invalid request: expected a non-empty list";
+    assert!(rt; is_batch(rt.alloc(), 0, empty)?);
+    assert!(rt; is_batch(rt.alloc(), 2, "2 unsupported")?);
+    assert!(rt; is_alone(rt.alloc(), "1 single")?);
     Ok(())
 }
 
@@ -304,23 +312,21 @@ fn push_words(alloc: Global, out: &mut String, request: &Request) -> Made<()> {
     out.push(';')
 }
 
-fn changed_words(alloc: Global, change: Change) -> Made<String> {
+/// Whether a changed batch is this in words.
+fn is_changed(alloc: Global, change: Change, words: &str) -> Made<bool> {
     let batch = changed(alloc, change)?;
-    words_of(alloc, &batch)
+    Ok(words_of(alloc, &batch)?.as_str() == words)
 }
 
 #[test]
 fn batches_are_changed(rt: HostRuntime) -> Result<(), Fail> {
-    for (change, words) in [
-        (Change::Copied, "x;y;"),
-        (Change::WithVariables, "x a 3;y a 3;"),
-        (Change::WithData, "x 1 4;y 1 4;"),
-        (Change::InPlace, "x;z;"),
-        (Change::Disabled, "x disabled;y disabled;"),
-        (Change::IntrospectionOnly, "x only;y only;"),
-    ] {
-        assert_eq!(rt; changed_words(rt.alloc(), change)?.as_str(), words);
-    }
+    let alloc = rt.alloc();
+    assert!(rt; is_changed(alloc, Change::Copied, "x;y;")?);
+    assert!(rt; is_changed(alloc, Change::WithVariables, "x a 3;y a 3;")?);
+    assert!(rt; is_changed(alloc, Change::WithData, "x 1 4;y 1 4;")?);
+    assert!(rt; is_changed(alloc, Change::InPlace, "x;z;")?);
+    assert!(rt; is_changed(alloc, Change::Disabled, "x disabled;y disabled;")?);
+    assert!(rt; is_changed(alloc, Change::IntrospectionOnly, "x only;y only;")?);
     Ok(())
 }
 

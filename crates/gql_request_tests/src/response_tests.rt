@@ -33,17 +33,16 @@ fn whole_text(alloc: Global) -> Made<Text> {
     response(alloc, 2)?.json(alloc)
 }
 
+/// What is printed of a response with two errors.
+const WHOLE: &str =
+    r#"{"data":{},"extensions":{"a":1,"b":2},"errors":[{"message":"e"},{"message":"e"}]}"#;
+
 #[test]
 fn responses_are_printed(rt: HostRuntime) -> Result<(), Fail> {
-    assert_eq!(rt; data_text(rt.alloc())?.as_str(), "{\"data\":true}");
-    assert_eq!(rt;
-        errors_text(rt.alloc())?.as_str(),
-        "{\"data\":null,\"errors\":[{\"message\":\"bad\"}]}"
-    );
-    assert_eq!(rt;
-        whole_text(rt.alloc())?.as_str(),
-        "{\"data\":{},\"extensions\":{\"a\":1,\"b\":2},\"errors\":[{\"message\":\"e\"},{\"message\":\"e\"}]}"
-    );
+    let bad = r#"{"data":null,"errors":[{"message":"bad"}]}"#;
+    assert!(rt; data_text(rt.alloc())?.as_str() == r#"{"data":true}"#);
+    assert!(rt; errors_text(rt.alloc())?.as_str() == bad);
+    assert!(rt; whole_text(rt.alloc())?.as_str() == WHOLE);
     Ok(())
 }
 
@@ -61,12 +60,12 @@ fn batch_text(alloc: Global, batch: BatchResponse) -> Made<Text> {
     Ok(Text::from_string(format!(in alloc; "{json} {}", batch.is_ok())?))
 }
 
+const TWO: &str =
+    r#"[{"data":1},{"data":{},"extensions":{"a":1,"b":2},"errors":[{"message":"e"}]}] false"#;
+
 #[test]
 fn batches_are_printed(rt: HostRuntime) -> Result<(), Fail> {
-    assert_eq!(rt;
-        two_text(rt.alloc())?.as_str(),
-        "[{\"data\":1},{\"data\":{},\"extensions\":{\"a\":1,\"b\":2},\"errors\":[{\"message\":\"e\"}]}] false"
-    );
+    assert!(rt; two_text(rt.alloc())?.as_str() == TWO);
     Ok(())
 }
 

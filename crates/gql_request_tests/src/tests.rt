@@ -22,20 +22,6 @@ fn number_under(data: &Data, key: u32) -> Option<u64> {
     }
 }
 
-#[test]
-fn data_keep_one_value_a_key(rt: HostRuntime) -> Result<(), Fail> {
-    let mut data = Data::new(rt.alloc());
-    assert!(rt; data.is_empty());
-    for (key, value) in [(7, 1), (4, 2), (7, 3)] {
-        data.insert(DataKey(key), number(value))?;
-    }
-    assert!(rt; !data.is_empty());
-    assert_eq!(rt; number_under(&data, 7), Some(3));
-    assert_eq!(rt; number_under(&data, 4), Some(2));
-    assert_eq!(rt; number_under(&data, 5), None);
-    Ok(())
-}
-
 /// Data of these keys and numbers.
 fn data_of(alloc: Global, pairs: &[(u32, u64)]) -> Made<Data> {
     let mut data = Data::new(alloc);
@@ -43,6 +29,17 @@ fn data_of(alloc: Global, pairs: &[(u32, u64)]) -> Made<Data> {
         data.insert(DataKey(*key), number(*value))?;
     }
     Ok(data)
+}
+
+#[test]
+fn data_keep_one_value_a_key(rt: HostRuntime) -> Result<(), Fail> {
+    assert!(rt; Data::new(rt.alloc()).is_empty());
+    let data = data_of(rt.alloc(), &[(7, 1), (4, 2), (7, 3)])?;
+    assert!(rt; !data.is_empty());
+    assert!(rt; number_under(&data, 7) == Some(3));
+    assert!(rt; number_under(&data, 4) == Some(2));
+    assert!(rt; number_under(&data, 5) == None);
+    Ok(())
 }
 
 /// Whether data equal those of these keys and numbers.
@@ -73,12 +70,8 @@ fn merged_pairs(alloc: Global) -> Made<Data> {
 fn merged_data_are_equal_pair_by_pair(rt: HostRuntime) -> Result<(), Fail> {
     let data = merged_pairs(rt.alloc())?;
     assert!(rt; equals_its_copy(rt.alloc(), &data)?);
-    for (pairs, equal) in [
-        ([(7, 3), (4, 2), (5, 4)], true),
-        ([(4, 2), (7, 3), (5, 4)], false),
-    ] {
-        assert_eq!(rt; is_data_of(rt.alloc(), &data, &pairs)?, equal);
-    }
+    assert!(rt; is_data_of(rt.alloc(), &data, &[(7, 3), (4, 2), (5, 4)])?);
+    assert!(rt; !is_data_of(rt.alloc(), &data, &[(4, 2), (7, 3), (5, 4)])?);
     Ok(())
 }
 
@@ -119,7 +112,7 @@ fn next_has_text(alloc: Global, parents: &mut Parents<'_>, text: &str) -> Made<b
 /// Whether the parents of a place are three, from the innermost on.
 fn has_three_parents(alloc: Global, node: QueryPathNode<'_>) -> Made<bool> {
     let mut parents = node.parents();
-    for text in ["hero.friends.1", "hero.friends", "hero"] {
+    for text in &["hero.friends.1", "hero.friends", "hero"] {
         if !next_has_text(alloc, &mut parents, text)? {
             return Ok(false);
         }
@@ -154,7 +147,7 @@ fn the_innermost_key(rt: HostRuntime) -> Result<(), Fail> {
     let node = QueryPathNode {
         segments: segments.as_slice(),
     };
-    assert_eq!(rt; node.field_name(), "name");
+    assert!(rt; node.field_name() == "name");
     Ok(())
 }
 

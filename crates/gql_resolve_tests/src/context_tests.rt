@@ -38,6 +38,6 @@ fn clones_of_contexts(rt: HostRuntime) -> Result<(), Fail> {
     let parts = Parts::new(rt.alloc(), OperationType::Query)?;
     let read = clone_text(rt.alloc(), &parts.context());
     drop(parts);
-    assert_eq!(rt; read?.as_str(), "7 3 2.5 hero 0 0");
+    assert!(rt; read?.as_str() == "7 3 2.5 hero 0 0");
     Ok(())
 }

@@ -1,6 +1,6 @@
 //! Parameters that are there, absent, out of range and of a variable that isn't defined.
-use crate::queries::Ground;
-use gql_base::{Made, Pos, ServerError, ServerResult, Text, Value, Variables, json_of};
+use crate::queries::{error_text, query};
+use gql_base::{Made, Pos, ServerResult, Text, json_of};
 use gql_resolve::{ResolverContext, resolved_value};
 use std::alloc::Global;
 use std::test::Fail;
@@ -9,7 +9,7 @@ use std::test::Fail;
 fn told(alloc: Global, given: ServerResult<(Pos, i32)>) -> Made<Text> {
     match given {
         Ok((pos, number)) => found(alloc, number, pos),
-        Err(error) => refused(alloc, &error),
+        Err(error) => error_text(alloc, &error),
     }
 }
 
@@ -17,22 +17,6 @@ fn found(alloc: Global, number: i32, pos: Pos) -> Made<Text> {
     let mut out = String::new(alloc);
     write!(out, "{number} {}:{}", pos.line, pos.column)?;
     Ok(Text::from_string(out))
-}
-
-fn refused(alloc: Global, error: &ServerError) -> Made<Text> {
-    let mut out = String::new(alloc);
-    write!(out, "{}", error.message.as_str())?;
-    for pos in error.locations.as_slice() {
-        write!(out, " {}:{}", pos.line, pos.column)?;
-    }
-    if !error.path.is_empty() {
-        out.push_str(" with a path")?;
-    }
-    Ok(Text::from_string(out))
-}
-
-fn query(alloc: Global, text: &str) -> Made<Option<Ground>> {
-    Ground::of(alloc, text, Variables::from_value(alloc, Value::Null))
 }
 
 fn asked(alloc: Global, context: &ResolverContext<'_, u64>, default: Option<i32>) -> Made<Text> {
@@ -51,28 +35,26 @@ fn number(alloc: Global, text: &str, default: Option<i32>) -> Made<Text> {
     }
 }
 
+/// Whether the parameter gives this.
+fn gives(alloc: Global, text: &str, default: Option<i32>, given: &str) -> Made<bool> {
+    Ok(number(alloc, text, default)?.as_str() == given)
+}
+
 #[test]
 fn numbers_as_parameters(rt: HostRuntime) -> Result<(), Fail> {
     let alloc = rt.alloc();
-    assert_eq!(rt;
-        number(alloc, "{ o(m: 1, n: 3, n: 4) }", None)?.as_str(),
-        "3 1:14"
-    );
-    assert_eq!(rt; number(alloc, "{ o(m: 1) }", Some(5))?.as_str(), "5 0:0");
+    assert!(rt; gives(alloc, "{ o(m: 1, n: 3, n: 4) }", None, "3 1:14")?);
+    assert!(rt; gives(alloc, "{ o(m: 1) }", Some(5), "5 0:0")?);
     Ok(())
 }
 
 #[test]
 fn parameters_that_are_no_numbers(rt: HostRuntime) -> Result<(), Fail> {
     let alloc = rt.alloc();
-    assert_eq!(rt;
-        number(alloc, "{ o(n: 2147483648) }", None)?.as_str(),
-        "Expected input type \"Int\", found 2147483648. 1:8"
-    );
-    assert_eq!(rt;
-        number(alloc, "{ o(n: $lost) }", Some(5))?.as_str(),
-        "Variable lost is not defined. 1:8"
-    );
+    let far = r#"Expected input type "Int", found 2147483648. 1:8"#;
+    assert!(rt; gives(alloc, "{ o(n: 2147483648) }", None, far)?);
+    let lost = "Variable lost is not defined. 1:8";
+    assert!(rt; gives(alloc, "{ o(n: $lost) }", Some(5), lost)?);
     Ok(())
 }
 
@@ -99,14 +81,8 @@ fn resolved(alloc: Global, text: &str) -> Made<Text> {
 
 #[test]
 fn arguments_with_their_variables(rt: HostRuntime) -> Result<(), Fail> {
-    let alloc = rt.alloc();
-    assert_eq!(rt;
-        resolved(
-            alloc,
-            "query($v: Int = 6) { o(n: [1, {a: $v, b: E}, \"t\"]) }"
-        )?
-        .as_str(),
-        "[1,{\"a\":6,\"b\":\"E\"},\"t\"]"
-    );
+    let text = r#"query($v: Int = 6) { o(n: [1, {a: $v, b: E}, "t"]) }"#;
+    let json = r#"[1,{"a":6,"b":"E"},"t"]"#;
+    assert!(rt; resolved(rt.alloc(), text)?.as_str() == json);
     Ok(())
 }

@@ -7,7 +7,7 @@ ghost use Rattle.gql_doc.specs.declared.document.Field.{out-Field};
 ghost use Rattle.gql_request.specs.QueryEnv.{NestsIn};
 
 use gql_admit::{Chosen, check_depth, choose_operation};
-use gql_base::{Items, Made, Pairs, PathSegment, Value, Variables};
+use gql_base::{Items, Made, Pairs, PathSegment, ServerError, Text, Value, Variables};
 use gql_doc::{ExecutableDocument, Field, Selection, parse_query};
 use gql_input::ObjectAccessor;
 use gql_request::{Data, IntrospectionMode, QueryEnv, QueryPathNode};
@@ -136,4 +136,22 @@ fn first_field(env: &QueryEnv) -> Option<&Field>
         },
         None => None,
     }
+}
+
+/// The query of a text without variables.
+pub fn query(alloc: Global, text: &str) -> Made<Option<Ground>> {
+    Ground::of(alloc, text, Variables::from_value(alloc, Value::Null))
+}
+
+/// The message of an error, with its places. It has no path.
+pub fn error_text(alloc: Global, error: &ServerError) -> Made<Text> {
+    let mut out = String::new(alloc);
+    write!(out, "{}", error.message.as_str())?;
+    for pos in error.locations.as_slice() {
+        write!(out, " {}:{}", pos.line, pos.column)?;
+    }
+    if !error.path.is_empty() {
+        out.push_str(" with a path")?;
+    }
+    Ok(Text::from_string(out))
 }

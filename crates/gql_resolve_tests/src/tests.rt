@@ -63,7 +63,7 @@ fn picked<P: Turns>(turns: &mut P) -> usize {
 
 #[test]
 fn turns_through_their_bound(rt: HostRuntime) {
-    assert_eq!(rt; picked(&mut Last), 4);
+    assert!(rt; picked(&mut Last) == 4);
 }
 
 /// Whether each reader of what a resolver gave reads its own kind alone.

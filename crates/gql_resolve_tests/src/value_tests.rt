@@ -1,8 +1,6 @@
 //! The values of arguments: of a field's arguments and directives, and of parameters.
-use crate::queries::Ground;
-use gql_base::{
-    Copied, Made, Name, Number, Pairs, ServerError, Text, Value, Variables, literal_of,
-};
+use crate::queries::{Ground, error_text};
+use gql_base::{Copied, Made, Name, Number, Pairs, Text, Value, Variables, literal_of};
 use gql_resolve::{ConstDirective, SelectionField};
 use std::alloc::Global;
 use std::test::Fail;
@@ -19,19 +17,6 @@ fn variables(alloc: Global) -> Made<Variables> {
 fn query(alloc: Global, text: &str) -> Made<Option<Ground>> {
     let variables = variables(alloc)?;
     Ground::of(alloc, text, variables)
-}
-
-/// The message of an error, with its places. It has no path.
-fn error_text(alloc: Global, error: &ServerError) -> Made<Text> {
-    let mut out = String::new(alloc);
-    write!(out, "{}", error.message.as_str())?;
-    for pos in error.locations.as_slice() {
-        write!(out, " {}:{}", pos.line, pos.column)?;
-    }
-    if !error.path.is_empty() {
-        out.push_str(" with a path")?;
-    }
-    Ok(Text::from_string(out))
 }
 
 /// A name and a value.
@@ -66,25 +51,19 @@ fn arguments(alloc: Global, text: &str) -> Made<Text> {
     }
 }
 
+/// Whether the arguments of the first field of a query are these in words.
+fn has_arguments(alloc: Global, text: &str, words: &str) -> Made<bool> {
+    Ok(arguments(alloc, text)?.as_str() == words)
+}
+
 #[test]
 fn arguments_with_their_values(rt: HostRuntime) -> Result<(), Fail> {
-    let alloc = rt.alloc();
-    assert_eq!(rt;
-        arguments(
-            alloc,
-            "query($a: Int, $d: Int = 4) { o(s: \"t\", n: [$d, $a], n: E) }"
-        )?
-        .as_str(),
-        "s \"t\"; n [4, 7]; n E; "
-    );
-    assert_eq!(rt;
-        arguments(
-            alloc,
-            "query($d: Int = 4) { o(n: $d, m: {k: [$a]}, l: $lost) }"
-        )?
-        .as_str(),
-        "Variable a is not defined. 1:31"
-    );
+    let given = r#"query($a: Int, $d: Int = 4) { o(s: "t", n: [$d, $a], n: E) }"#;
+    let words = r#"s "t"; n [4, 7]; n E; "#;
+    assert!(rt; has_arguments(rt.alloc(), given, words)?);
+    let lost = "query($d: Int = 4) { o(n: $d, m: {k: [$a]}, l: $lost) }";
+    let refusal = "Variable a is not defined. 1:31";
+    assert!(rt; has_arguments(rt.alloc(), lost, refusal)?);
     Ok(())
 }
 
@@ -128,16 +107,18 @@ fn directives(alloc: Global, text: &str) -> Made<Text> {
     }
 }
 
+/// Whether the directives of the first field of a query are these in words.
+fn has_directives(alloc: Global, text: &str, words: &str) -> Made<bool> {
+    Ok(directives(alloc, text)?.as_str() == words)
+}
+
 #[test]
 fn directives_with_their_values(rt: HostRuntime) -> Result<(), Fail> {
-    let alloc = rt.alloc();
-    assert_eq!(rt;
-        directives(alloc, "query($a: Int) { o @a @b(x: 1, y: $a) }")?.as_str(),
-        "@a 21: @b 24: 26:29 x 1; 32:35 y 7; "
-    );
-    assert_eq!(rt;
-        directives(alloc, "{ o @a @b(x: 1, y: $a) }")?.as_str(),
-        "Variable a is not defined. 1:17"
-    );
+    let given = "query($a: Int) { o @a @b(x: 1, y: $a) }";
+    let words = "@a 21: @b 24: 26:29 x 1; 32:35 y 7; ";
+    assert!(rt; has_directives(rt.alloc(), given, words)?);
+    let lost = "{ o @a @b(x: 1, y: $a) }";
+    let refusal = "Variable a is not defined. 1:17";
+    assert!(rt; has_directives(rt.alloc(), lost, refusal)?);
     Ok(())
 }

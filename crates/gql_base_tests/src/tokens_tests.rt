@@ -1,6 +1,8 @@
-use gql_base::{Made, Number};
+//! The tokens of texts, and the values of block strings.
+use gql_base::{Made, Number, Pos};
 use gql_tokens::{Lexeme, Punctuator, Reached, Token, is_final, next_token, tokens_of};
 use std::alloc::Global;
+use std::test::Fail;
 
 /// A punctuator as it is written.
 fn mark(punctuator: Punctuator) -> &'static str {
@@ -84,7 +86,7 @@ const TOKENS: [(&str, &str); 60] = [
         "1:1 { 1:3 a 1:4 ( 1:5 x 1:6 : 1:8 UNEXPECTED",
     ),
     (
-        "{ a(x: \"\\uD800\") }",
+        r#"{ a(x: "\uD800") }"#,
         "1:1 { 1:3 a 1:4 ( 1:5 x 1:6 : 1:8 UNEXPECTED",
     ),
     ("1.5", "1:1 UNSUPPORTED"),
@@ -114,53 +116,59 @@ const TOKENS: [(&str, &str); 60] = [
     ("\n\r\n\r\r", "5:1 END"),
     ("\u{feff}a,\t,b", "1:2 a 1:6 b 1:7 END"),
     ("\u{e9}", "1:1 UNEXPECTED"),
-    (
-        "\"\u{1f600}\u{e9}\" a",
-        "1:1 <\u{1f600}\u{e9}> 1:6 a 1:7 END",
-    ),
+    (r#""😀é" a"#, "1:1 <\u{1f600}\u{e9}> 1:6 a 1:7 END"),
     ("# a \u{e9}\nb", "2:1 b 2:2 END"),
     ("# \u{e9}\u{1f600}\u{1}", "1:5 UNEXPECTED"),
     ("\u{feff} \u{feff}a", "1:4 a 1:5 END"),
     ("\u{fefe}", "1:1 UNEXPECTED"),
-    (
-        "\"\u{e9}\\n\u{e9}\" a",
-        "1:1 <\u{e9}\n\u{e9}> 1:8 a 1:9 END",
-    ),
-    (
-        "\"\"\"\u{e9}\u{1f600}\"\"\" a",
-        "1:1 <\u{e9}\u{1f600}> 1:10 a 1:11 END",
-    ),
-    ("\"\u{e9}", "1:1 UNEXPECTED"),
+    (r#""é\né" a"#, "1:1 <\u{e9}\n\u{e9}> 1:8 a 1:9 END"),
+    (r#""""é😀""" a"#, "1:1 <\u{e9}\u{1f600}> 1:10 a 1:11 END"),
+    (r#""é"#, "1:1 UNEXPECTED"),
     ("a#b\r\nc", "1:1 a 2:1 c 2:2 END"),
     ("#", "1:2 END"),
     ("# a", "1:4 END"),
     ("# \u{1}a", "1:3 UNEXPECTED"),
     ("a \u{0}", "1:1 a 1:3 UNEXPECTED"),
-    ("\"\"", "1:1 <> 1:3 END"),
+    (r#""""#, "1:1 <> 1:3 END"),
     (
-        "\"\\\"\\\\\\/\\b\\f\\n\\r\\tz\"",
+        r#""\"\\\/\b\f\n\r\tz""#,
         "1:1 <\"\\/\u{8}\u{c}\n\r\tz> 1:20 END",
     ),
-    ("\"\\u00e9\\u0041\"", "1:1 <\u{e9}A> 1:15 END"),
-    ("\"\\u00E9\"a", "1:1 <\u{e9}> 1:9 a 1:10 END"),
-    ("\"\\u12\"", "1:1 UNEXPECTED"),
-    ("\"\\x\"", "1:1 UNEXPECTED"),
-    ("\"\\uDFFF\"", "1:1 UNEXPECTED"),
-    ("\"a", "1:1 UNEXPECTED"),
+    (r#""\u00e9\u0041""#, "1:1 <\u{e9}A> 1:15 END"),
+    (r#""\u00E9"a"#, "1:1 <\u{e9}> 1:9 a 1:10 END"),
+    (r#""\u12""#, "1:1 UNEXPECTED"),
+    (r#""\x""#, "1:1 UNEXPECTED"),
+    (r#""\uDFFF""#, "1:1 UNEXPECTED"),
+    (r#""a"#, "1:1 UNEXPECTED"),
     ("\"a\nb\"", "1:1 UNEXPECTED"),
-    ("\"a\"\"b\"", "1:1 <a> 1:4 <b> 1:7 END"),
-    ("\"\"\"a", "1:1 <> 1:3 UNEXPECTED"),
-    ("[\"\"\"a\"]", "1:1 [ 1:2 <> 1:4 <a> 1:7 ] 1:8 END"),
-    ("\"\"\"\"\"\"\"\"", "1:1 <> 1:7 <> 1:9 END"),
-    ("\"\"\"a\\\"\"\"b\"\"\"c", "1:1 <a\"\"\"b> 1:13 c 1:14 END"),
+    (r#""a""b""#, "1:1 <a> 1:4 <b> 1:7 END"),
+    (r#""""a"#, "1:1 <> 1:3 UNEXPECTED"),
+    (r#"["""a"]"#, "1:1 [ 1:2 <> 1:4 <a> 1:7 ] 1:8 END"),
+    (r#""""""""""#, "1:1 <> 1:7 <> 1:9 END"),
+    (r#""""a\"""b"""c"#, r#"1:1 <a"""b> 1:13 c 1:14 END"#),
 ];
 
-#[test]
-fn tokens_have_their_places(rt: HostRuntime) -> Result<(), std::test::Fail> {
-    for (text, tokens) in TOKENS.iter() {
-        let found = shown(rt.alloc(), *text)?;
-        assert_eq!(rt; found.as_str(), *tokens, "at {text}");
+/// Whether a text has these tokens.
+fn has_tokens(alloc: Global, text: &str, tokens: &str) -> Made<bool> {
+    Ok(shown(alloc, text)?.as_str() == tokens)
+}
+
+/// The first text of a table that has other tokens.
+fn first_wrong_text(
+    alloc: Global,
+    table: &[(&'static str, &'static str)],
+) -> Made<Option<&'static str>> {
+    for (text, tokens) in table {
+        if !has_tokens(alloc, text, tokens)? {
+            return Ok(Some(*text));
+        }
     }
+    Ok(None)
+}
+
+#[test]
+fn tokens_have_their_places(rt: HostRuntime) -> Result<(), Fail> {
+    assert_eq!(rt; first_wrong_text(rt.alloc(), &TOKENS)?, None);
     Ok(())
 }
 
@@ -171,22 +179,19 @@ fn second_of(alloc: Global, text: &str) -> Made<Token> {
     next_token(alloc, text, &mut reached)
 }
 
-/// The second token of a text as `show_token` tells it, and whether it is the last.
-fn second_shown(alloc: Global, text: &str) -> Made<(String, bool)> {
+/// Whether the second token of a text is this one, as `show_token` tells it, and whether it is the
+/// last.
+fn is_second(alloc: Global, text: &str, shown: &str, last: bool) -> Made<bool> {
     let token = second_of(alloc, text)?;
     let mut out = String::new(alloc);
     show_token(&mut out, &token)?;
-    Ok((out, is_final(&token.lexeme)))
+    Ok(out.as_str() == shown && is_final(&token.lexeme) == last)
 }
 
 #[test]
-fn tokens_are_read_one_by_one(rt: HostRuntime) -> Result<(), std::test::Fail> {
-    let (name, last) = second_shown(rt.alloc(), "{\n a")?;
-    assert_eq!(rt; name.as_str(), "2:2 a");
-    assert!(rt; !last);
-    let (end, last) = second_shown(rt.alloc(), "a")?;
-    assert_eq!(rt; end.as_str(), "1:2 END");
-    assert!(rt; last);
+fn tokens_are_read_one_by_one(rt: HostRuntime) -> Result<(), Fail> {
+    assert!(rt; is_second(rt.alloc(), "{\n a", "2:2 a", false)?);
+    assert!(rt; is_second(rt.alloc(), "a", "1:2 END", true)?);
     Ok(())
 }
 
@@ -217,22 +222,44 @@ const BLOCKS: [(&str, &str); 16] = [
     ("\n\ta\n \tb", "a\n\tb"),
     ("\n    a\n  \n    b", "a\n\nb"),
     ("a\\nb", "a\\nb"),
-    ("\n  \\\"\"\"\n  ", "\"\"\""),
+    ("\n  \\\"\"\"\n  ", r#"""""#),
 ];
 
-#[test]
-fn block_strings_have_their_values(rt: HostRuntime) -> Result<(), std::test::Fail> {
-    for (raw, value) in BLOCKS.iter() {
-        let text = format!(in rt.alloc(); "\"\"\"{raw}\"\"\"")?;
-        let tokens = tokens_of(rt.alloc(), text.as_str())?;
-        let Some(first) = tokens.get(0) else {
-            return Err("no token".into());
-        };
-        let mut found = String::new(rt.alloc());
-        show_token(&mut found, first)?;
-        let expected = format!(in rt.alloc(); "1:1 <{value}>")?;
-        assert_eq!(rt; found.as_str(), expected.as_str());
-        assert_eq!(rt; tokens.len(), 2);
+/// Whether a token is the string of this value at the beginning of a text.
+fn is_string(token: &Token, value: &str) -> bool {
+    match &token.lexeme {
+        Lexeme::String(text) => {
+            text.as_str() == value && token.pos == Pos { line: 1, column: 1 }
+        }
+        _ => false,
     }
+}
+
+/// Whether a block string is one token of this value, behind which its text ends.
+fn has_value(alloc: Global, raw: &str, value: &str) -> Made<bool> {
+    let text = format!(in alloc; "\"\"\"{raw}\"\"\"")?;
+    let tokens = tokens_of(alloc, text.as_str())?;
+    match tokens.get(0) {
+        Some(first) => Ok(tokens.len() == 2 && is_string(first, value)),
+        None => Ok(false),
+    }
+}
+
+/// The first block string of a table that has another value.
+fn first_wrong_block(
+    alloc: Global,
+    table: &[(&'static str, &'static str)],
+) -> Made<Option<&'static str>> {
+    for (raw, value) in table {
+        if !has_value(alloc, raw, value)? {
+            return Ok(Some(*raw));
+        }
+    }
+    Ok(None)
+}
+
+#[test]
+fn block_strings_have_their_values(rt: HostRuntime) -> Result<(), Fail> {
+    assert_eq!(rt; first_wrong_block(rt.alloc(), &BLOCKS)?, None);
     Ok(())
 }

@@ -1,4 +1,4 @@
-//! Each public call with ample memory. What a test looks at is made by functions beside it, since a
+//! Sources and sinks: each public call with ample memory. What a test looks at is made by functions beside it, since a
 //! test is proved too.
 use gql_base::{Items, Made};
 use gql_io::{
@@ -32,9 +32,10 @@ fn sure_memory_gives(alloc: Global) -> Made<bool> {
 
 #[test]
 fn sources_in_memory(rt: HostRuntime) -> Result<(), Fail> {
-    for (failing, whole) in [(0, false), (1, false), (2, false), (3, true)] {
-        assert_eq!(rt; memory_gives(rt.alloc(), failing)?, whole, "at {failing}");
+    for failing in 0..3 {
+        assert!(rt; !memory_gives(rt.alloc(), failing)?, "at {failing}");
     }
+    assert!(rt; memory_gives(rt.alloc(), 3)?);
     assert!(rt; sure_memory_gives(rt.alloc())?);
     Ok(())
 }
@@ -54,9 +55,9 @@ fn holds_surely(alloc: Global) -> bool {
 
 #[test]
 fn sinks_in_memory(rt: HostRuntime) -> Result<(), Fail> {
-    for (failing, text) in [(0, ""), (1, "si"), (2, "sink")] {
-        assert!(rt; holds(rt.alloc(), failing, text)?, "at {failing}");
-    }
+    assert!(rt; holds(rt.alloc(), 0, "")?);
+    assert!(rt; holds(rt.alloc(), 1, "si")?);
+    assert!(rt; holds(rt.alloc(), 2, "sink")?);
     assert!(rt; holds_surely(rt.alloc()));
     Ok(())
 }

@@ -1,5 +1,5 @@
 //! The input types, each public call once, at values that are made by small functions.
-use crate::error_tests::message_of;
+use crate::input_error_tests::message_of;
 use gql_base::{Boxed, Made, Number, Text, Value, literal_of};
 use gql_input::InputType;
 use std::alloc::Global;
@@ -27,25 +27,26 @@ fn given<T: InputType + Drop>(alloc: Global, value: Option<Value>) -> Made<Text>
     }
 }
 
+/// Whether this is read of a value, as a literal.
+fn gives<T: InputType + Drop>(alloc: Global, value: Option<Value>, literal: &str) -> Made<bool> {
+    Ok(given::<T>(alloc, value)?.as_str() == literal)
+}
+
 #[test]
 fn values_of_input_types(rt: HostRuntime) -> Result<(), Fail> {
     let alloc = rt.alloc();
-    let truth = Some(Value::Boolean(true));
-    assert_eq!(rt; given::<bool>(alloc, truth)?.as_str(), "true");
-    assert_eq!(rt; given::<i32>(alloc, number(7))?.as_str(), "7");
-    let text = string(alloc, "a")?;
-    assert_eq!(rt; given::<Text>(alloc, text)?.as_str(), "\"a\"");
+    assert!(rt; gives::<bool>(alloc, Some(Value::Boolean(true)), "true")?);
+    assert!(rt; gives::<i32>(alloc, number(7), "7")?);
+    assert!(rt; gives::<Text>(alloc, string(alloc, "a")?, r#""a""#)?);
     Ok(())
 }
 
 #[test]
 fn values_of_options_and_boxes(rt: HostRuntime) -> Result<(), Fail> {
     let alloc = rt.alloc();
-    let null = Some(Value::Null);
-    assert_eq!(rt; given::<Option<i32>>(alloc, null)?.as_str(), "null");
-    assert_eq!(rt; given::<Option<i32>>(alloc, number(-3))?.as_str(), "-3");
-    let truth = Some(Value::Boolean(false));
-    assert_eq!(rt; given::<Boxed<bool>>(alloc, truth)?.as_str(), "false");
+    assert!(rt; gives::<Option<i32>>(alloc, Some(Value::Null), "null")?);
+    assert!(rt; gives::<Option<i32>>(alloc, number(-3), "-3")?);
+    assert!(rt; gives::<Boxed<bool>>(alloc, Some(Value::Boolean(false)), "false")?);
     Ok(())
 }
 
@@ -62,11 +63,11 @@ fn is_own_heart(text: &Text) -> bool {
 #[test]
 fn hearts_of_values(rt: HostRuntime) -> Result<(), Fail> {
     let alloc = rt.alloc();
-    assert_eq!(rt; heart(&true), Some(true));
-    assert_eq!(rt; heart(&7i32), Some(7));
+    assert!(rt; heart(&true) == Some(true));
+    assert!(rt; heart(&7i32) == Some(7));
     assert!(rt; is_own_heart(&Text::new(alloc, "a")?));
-    assert_eq!(rt; heart(&Some(3i32)), Some(3));
-    assert_eq!(rt; heart(&Boxed::new(alloc, false)?), Some(false));
+    assert!(rt; heart(&Some(3i32)) == Some(3));
+    assert!(rt; heart(&Boxed::new(alloc, false)?) == Some(false));
     Ok(())
 }
 
@@ -75,27 +76,27 @@ pub(crate) fn named<T: InputType>() -> &'static str {
     T::type_name()
 }
 
-/// The name of a type with its mark.
-pub(crate) fn qualified<T: InputType>(alloc: Global) -> Made<Text> {
-    T::qualified_type_name(alloc)
+/// Whether this is the name of a type with its mark.
+pub(crate) fn is_qualified<T: InputType>(alloc: Global, name: &str) -> Made<bool> {
+    Ok(T::qualified_type_name(alloc)?.as_str() == name)
 }
 
 #[test]
 fn names_of_types(rt: HostRuntime) -> Result<(), Fail> {
-    assert_eq!(rt; named::<bool>(), "Boolean");
-    assert_eq!(rt; named::<i32>(), "Int");
-    assert_eq!(rt; named::<Text>(), "String");
-    assert_eq!(rt; named::<Option<Text>>(), "String");
-    assert_eq!(rt; named::<Boxed<i32>>(), "Int");
+    assert!(rt; named::<bool>() == "Boolean");
+    assert!(rt; named::<i32>() == "Int");
+    assert!(rt; named::<Text>() == "String");
+    assert!(rt; named::<Option<Text>>() == "String");
+    assert!(rt; named::<Boxed<i32>>() == "Int");
     Ok(())
 }
 
 #[test]
 fn names_of_types_with_their_marks(rt: HostRuntime) -> Result<(), Fail> {
     let alloc = rt.alloc();
-    assert_eq!(rt; qualified::<Boxed<i32>>(alloc)?.as_str(), "Int!");
-    assert_eq!(rt; qualified::<Option<i32>>(alloc)?.as_str(), "Int");
-    assert_eq!(rt; qualified::<bool>(alloc)?.as_str(), "Boolean!");
-    assert_eq!(rt; qualified::<Text>(alloc)?.as_str(), "String!");
+    assert!(rt; is_qualified::<Boxed<i32>>(alloc, "Int!")?);
+    assert!(rt; is_qualified::<Option<i32>>(alloc, "Int")?);
+    assert!(rt; is_qualified::<bool>(alloc, "Boolean!")?);
+    assert!(rt; is_qualified::<Text>(alloc, "String!")?);
     Ok(())
 }

@@ -1,6 +1,6 @@
 //! A scalar of the tests' own, each call of which is compared.
 ghost use Rattle.std.specs.Prelude.{◌≡◌, if◌then◌else◌};
-ghost use Rattle.gql_input_tests.specs.declared.scalar_tests.Switch.TheVariants.{On, Off};
+ghost use Rattle.gql_base_tests.specs.declared.scalar_tests.Switch.TheVariants.{On, Off};
 
 use gql_base::{Made, Text, Value, literal_of};
 use gql_input::{InputValueError, InputValueResult, ScalarType};
@@ -27,7 +27,7 @@ impl ScalarType for Switch {
     ghost use Rattle.gql_base.specs.Kinds.{boolean_of};
     ghost use Rattle.gql_base.specs.declared.value.Value.TheVariants as value;
     ghost use Rattle.gql_input.specs.InputValueError.{expected_text};
-    ghost use Rattle.gql_input_tests.specs.declared.scalar_tests.Switch.TheVariants.{On, Off};
+    ghost use Rattle.gql_base_tests.specs.declared.scalar_tests.Switch.TheVariants.{On, Off};
 
     ghost read = { λ given. ok_or (option_map (λ on. if on then On else Off) (boolean_of given))
         (expected_text (codes "Switch") given) };
@@ -58,19 +58,21 @@ impl ScalarType for Switch {
     }
 }
 
-/// What a value gives at a scalar, where it isn't refused.
-fn read<T: ScalarType + Drop>(alloc: Global, value: Value) -> Made<Option<T>> {
-    Ok(T::parse(alloc, value)?.ok())
+/// Whether a value gives this at a scalar, or is refused.
+fn gives<T: ScalarType + PartialEq + Drop>(
+    alloc: Global,
+    value: Value,
+    scalar: Option<T>,
+) -> Made<bool> {
+    Ok(T::parse(alloc, value)?.ok() == scalar)
 }
 
 #[test]
 fn values_at_a_scalar(rt: HostRuntime) -> Result<(), Fail> {
     let alloc = rt.alloc();
-    let on = read::<Switch>(alloc, Value::Boolean(true))?;
-    assert_eq!(rt; on, Some(Switch::On));
-    let off = read::<Switch>(alloc, Value::Boolean(false))?;
-    assert_eq!(rt; off, Some(Switch::Off));
-    assert_eq!(rt; read::<Switch>(alloc, Value::Null)?, None);
+    assert!(rt; gives(alloc, Value::Boolean(true), Some(Switch::On))?);
+    assert!(rt; gives(alloc, Value::Boolean(false), Some(Switch::Off))?);
+    assert!(rt; gives::<Switch>(alloc, Value::Null, None)?);
     Ok(())
 }
 
@@ -94,8 +96,7 @@ fn shown<T: ScalarType>(alloc: Global, scalar: &T) -> Made<Text> {
 
 #[test]
 fn values_of_a_scalar(rt: HostRuntime) -> Result<(), Fail> {
-    let alloc = rt.alloc();
-    assert_eq!(rt; shown(alloc, &Switch::On)?.as_str(), "true");
-    assert_eq!(rt; shown(alloc, &Switch::Off)?.as_str(), "false");
+    assert!(rt; shown(rt.alloc(), &Switch::On)?.as_str() == "true");
+    assert!(rt; shown(rt.alloc(), &Switch::Off)?.as_str() == "false");
     Ok(())
 }

@@ -26,7 +26,7 @@ fn values_of_another_kind(rt: HostRuntime) -> Result<(), Fail> {
     let alloc = rt.alloc();
     assert_eq!(rt;
         expected::<i32>(alloc, Value::Boolean(true))?.as_str(),
-        "Expected input type \"Int\", found true."
+        r#"Expected input type "Int", found true."#
     );
     Ok(())
 }
@@ -52,11 +52,11 @@ fn errors_at_a_name(rt: HostRuntime) -> Result<(), Fail> {
     let alloc = rt.alloc();
     assert_eq!(rt;
         expected_at(alloc, "Colour", Value::Number(Number::from_i64(1)))?.as_str(),
-        "Expected input type \"Colour\", found 1."
+        r#"Expected input type "Colour", found 1."#
     );
     assert_eq!(rt;
         refused_at(alloc, "Colour", "no")?.as_str(),
-        "Failed to parse \"Colour\": no"
+        r#"Failed to parse "Colour": no"#
     );
     Ok(())
 }
@@ -76,7 +76,7 @@ fn a_refusal_told_of_other_types(rt: HostRuntime) -> Result<(), Fail> {
     let alloc = rt.alloc();
     assert_eq!(rt;
         propagated::<Text>(alloc)?.as_str(),
-        "Failed to parse \"Int\": no (occurred while parsing \"String\")"
+        r#"Failed to parse "Int": no (occurred while parsing "String")"#
     );
     Ok(())
 }
@@ -97,13 +97,11 @@ fn retyped(alloc: Global) -> Made<Text> {
 fn refusals_with_an_extension(rt: HostRuntime) -> Result<(), Fail> {
     assert_eq!(rt;
         extended(rt.alloc())?.as_str(),
-        "{\"message\":\"Failed to parse \\\"Int\\\": no (occurred while parsing \\\"String\\\")\",\
-            \"locations\":[{\"line\":1,\"column\":2}],\"extensions\":{\"code\":null}}"
+        r#"{"message":"Failed to parse \"Int\": no (occurred while parsing \"String\")","locations":[{"line":1,"column":2}],"extensions":{"code":null}}"#
     );
     assert_eq!(rt;
         retyped(rt.alloc())?.as_str(),
-        "{\"message\":\"Failed to parse \\\"Int\\\": no\",\
-            \"locations\":[{\"line\":1,\"column\":2}],\"extensions\":{\"code\":null}}"
+        r#"{"message":"Failed to parse \"Int\": no","locations":[{"line":1,"column":2}],"extensions":{"code":null}}"#
     );
     Ok(())
 }

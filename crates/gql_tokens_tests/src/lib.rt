@@ -1,5 +1,0 @@
-//! Tests of `gql_tokens`: tokens.
-#![tactic(auto)]
-
-#[cfg(test)]
-mod tests;
