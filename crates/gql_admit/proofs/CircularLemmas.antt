@@ -1,8 +1,9 @@
 -- Fragments that reach themselves, told one after another.
-use Rattle.std.proofs.Common.{arith, ◌≡◌, ◌⊎◌, inl, inr, ℕ, zero, suc, ◌+◌, ◌<◌, Bool, true, false, ◌||◌, List, [], ◌∷◌, ◌++◌, length, Some, Result, Ok, Err, OnOk, slice_get, refl, ap, sym, subst, ◌∙◌}
+use Rattle.std.proofs.Common.{arith, ◌≡◌, ◌⊎◌, inl, inr, ℕ, zero, suc, ◌+◌, ◌<◌, Bool, true, false, List, [], ◌∷◌, ◌++◌, length, Some, Result, Ok, Err, OnOk, slice_get, refl, ap, sym, subst, ◌∙◌}
 use Rattle.std.proofs.Math.ListN.{length-map}
 use Rattle.std.proofs.lemmas.Bool.{cases_lt}
 use Rattle.std.specs.Bool.{Decides}
+use Rattle.std.specs.Prelude.{◌==◌}
 use Rattle.std.specs.List.{Contains}
 use Rattle.std.proofs.lemmas.List.Elements.{Contains-append_cases, Contains-append_left, Contains-append_right}
 use Rattle.gql_base.specs.Pairs.{names_of, values_of}
@@ -15,7 +16,8 @@ use Rattle.gql_admit.specs.Circular.{Adds, AreBelow, AreWithin, CircularAt, IsCi
 use Rattle.gql_admit.specs.Spreads.{graph_of, spread_in}
 use Rattle.gql_admit.specs.declared.breach.Breach.{Breach}
 use Rattle.gql_admit.specs.declared.breach.BreachKind.TheVariants as kinds
-use Rattle.gql_admit.proofs.ReachLemmas.{among-append, same_number}
+use Rattle.gql_lists.proofs.SetLemmas.{among-append, or-either}
+use Rattle.gql_admit.proofs.ReachLemmas.{same_number}
 
 never : false ≡ true → ⊥
 never e = cc
@@ -23,14 +25,10 @@ never e = cc
 pub none_below : (bound : ℕ) → AreBelow bound []
 none_below bound = record { below = λ k among. absurd (never among) }
 
-or-either : (a b : Bool) → (a || b) ≡ true → (a ≡ true) ⊎ (b ≡ true)
-or-either true b h = inl refl
-or-either false b h = inr h
-
 pub below_more : (bound : ℕ) (ns : List ℕ) (k : ℕ) → AreBelow bound ns → k < bound → AreBelow bound (ns ++ k ∷ [])
 below_more bound ns k are within = record {
   below = λ m among.
-      elim (or-either (is_in m ns) _ (sym (among-append m ns (k ∷ [])) ∙ among)) [
+      elim (or-either (is_in m ns) _ (sym (among-append ◌==◌ m ns (k ∷ [])) ∙ among)) [
         | inl h ↦ are.below m h
         | inr h ↦ elim (or-either _ false h) [
           | inl same ↦ subst (λ n. n < bound) (sym ((same_number m k).0 same)) within

@@ -5,7 +5,8 @@ use Rattle.std.proofs.lemmas.Option.{slice_get-get_or}
 use Rattle.std.specs.Bool.{Decides}
 use Rattle.std.specs.Prelude.{◌==◌}
 use Rattle.gql_admit.specs.Circular.{AreBelow, AreReached, AreWithin, Marks, ReachesFrom, at_once, further, is_in, led_to, with_number, with_numbers}
-use Rattle.gql_admit.proofs.ReachLemmas.{among-append, or-left, or-right, same_number}
+use Rattle.gql_lists.proofs.SetLemmas.{among-append, or-left, or-right}
+use Rattle.gql_admit.proofs.ReachLemmas.{same_number}
 
 -- a marked place is there already
 pub known_number : (marks : List Bool) (reached : List ℕ) (place : ℕ) → Marks marks reached → slice_get marks place ≡ Some true
@@ -43,11 +44,11 @@ marked_more marks reached place is = record {
             let same : k ≡ place = (same_number k place).0 e in
             let at_place : slice_get (slice_set marks place true) place ≡ Some mark = subst (λ j. slice_get (slice_set marks place true) j ≡ Some mark) same at in
             sym (got_same marks place true mark at_place)
-            ∙ sym (among-append k reached (place ∷ []) ∙ or-right (is_in k reached) _ (or-left (k == place) false e))
+            ∙ sym (among-append ◌==◌ k reached (place ∷ []) ∙ or-right (is_in k reached) _ (or-left (k == place) false e))
         | false ↦ λ e.
             let apart : place ≡ k → ⊥ = λ same. let h : false ≡ true = sym e ∙ (same_number k place).1 (sym same) in cc in
             is.marked k mark (got_other marks place k true mark apart at)
-            ∙ sym (among-append k reached (place ∷ []) ∙ (λ i. is_in k reached || (e i || false)) ∙ or-false (is_in k reached))
+            ∙ sym (among-append ◌==◌ k reached (place ∷ []) ∙ (λ i. is_in k reached || (e i || false)) ∙ or-false (is_in k reached))
       ]) refl;
 }
 

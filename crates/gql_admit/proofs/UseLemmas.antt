@@ -28,7 +28,8 @@ use Rattle.gql_admit.specs.declared.use_place.UsePlace.{UsePlace}
 use Rattle.gql_admit.proofs.AddingLemmas.{adds_same, adds_then, adds_told}
 use Rattle.gql_admit.proofs.BreachLemmas.{first_in, given_at, given_from, later_in, none_in, one_in}
 use Rattle.gql_admit.proofs.MarkLemmas.{reached_within}
-use Rattle.gql_admit.proofs.ReachLemmas.{among-append, among-take, or-either, or-left, or-right, same_number}
+use Rattle.gql_lists.proofs.SetLemmas.{among-append, among-take, or-either, or-left, or-right}
+use Rattle.gql_admit.proofs.ReachLemmas.{same_number}
 use Rattle.gql_admit.proofs.UsePlaceLemmas.{spreads_kept, uses_kept}
 
 never : false ≡ true → ⊥
@@ -72,7 +73,7 @@ spreads_below names places = record { below = λ k there. each places k there }
     each : (ps : List Place) (k : ℕ) → is_in k (spreads_at names ps) ≡ true → k < length names
     each [] k there = absurd (never there)
     each (p ∷ ps) k there =
-        elim (or-either (is_in k (spread_at names p)) (is_in k (spreads_at names ps)) (sym (among-append k (spread_at names p) (spreads_at names ps)) ∙ there)) [
+        elim (or-either (is_in k (spread_at names p)) (is_in k (spreads_at names ps)) (sym (among-append ◌==◌ k (spread_at names p) (spreads_at names ps)) ∙ there)) [
           | inl here ↦ at-one p k here
           | inr behind ↦ each ps k behind
         ]
@@ -296,4 +297,4 @@ module _ (terms : Terms) (fragments : Fragments) (listed : Spread) (is : IsSprea
 
 -- a number that was read is below the bound of all
 pub below_at : (bound : ℕ) (ns : List ℕ) (i k : ℕ) → AreBelow bound ns → slice_get ns i ≡ Some k → k < bound
-below_at bound ns i k are at = are.below k (among-take ns i k at)
+below_at bound ns i k are at = are.below k (among-take ◌==◌ same_number ns i k at)

@@ -21,9 +21,8 @@ use Rattle.gql_select.proofs.UnitingLemmas.{either, same_itself, unite_all-appen
 use Rattle.gql_conflicts.specs.Classes.{key_at}
 use Rattle.gql_select.specs.Behind.{all_behind}
 use Rattle.gql_conflicts.specs.DocumentConflicts.{told}
-use Rattle.gql_lists.proofs.SliceLemmas.{get_map, length_set, map_set}
+use Rattle.gql_lists.proofs.SliceLemmas.{get_map, get_within, length_set, map_last, map_length, map_set}
 use Rattle.gql_select.proofs.OccurrenceLemmas.{behind_append, with_one_more}
-use Rattle.gql_lists.proofs.SliceLemmas.{map_last, map_length}
 use Rattle.gql_select.proofs.ZipLemmas.{names_last, names_long, unite_fresh, unite_found}
 use Rattle.gql_conflicts.specs.Groups.{AreGroups, Grown, first_of, told_of, under_keys, united}
 use Rattle.gql_conflicts.specs.declared.conflict.Conflict.{Conflict}
@@ -114,11 +113,6 @@ get_before_last : {X : Type 0} (xs : List X) (x : X) (i : ℕ) → i < length xs
 get_before_last [] x i h = absurd (omega (arith, h))
 get_before_last (y ∷ xs) x zero h = refl
 get_before_last (y ∷ xs) x (suc i) h = get_before_last xs x i (omega (arith, h))
-
-get_within : {X : Type 0} (xs : List X) (n : ℕ) (x : X) → slice_get xs n ≡ Some x → n < length xs
-get_within [] n x at = cc
-get_within (y ∷ ys) zero x at = omega arith
-get_within (y ∷ ys) (suc n) x at = omega (arith, get_within ys n x at)
 
 last_long : {X : Type 0} (xs : List X) (x : X) → length (xs ++ x ∷ []) ≡ suc (length xs)
 last_long [] x = refl

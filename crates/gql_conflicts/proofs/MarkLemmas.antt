@@ -1,5 +1,6 @@
 -- Entries in the strict order of their marks.
 use Rattle.std.proofs.Common.{◌≡◌, ◌⊎◌, inl, inr, ℕ, zero, suc, ◌+◌, ◌<◌, List, [], ◌∷◌, length, Some, slice_get, refl, ap, sym, ◌∙◌, arith}
+use Rattle.gql_lists.proofs.SliceLemmas.{get_within}
 use Rattle.gql_conflicts.specs.Classes.{HasKeysOnce}
 use Rattle.gql_conflicts.specs.Marks.{mark_of}
 use Rattle.gql_conflicts.specs.Proposals.{ascends_at, mark_at}
@@ -11,11 +12,6 @@ get_before : {A : Type 0} (xs : List A) (n : ℕ) (x : A) → slice_get xs (suc 
 get_before [] n x at = cc
 get_before (y ∷ ys) zero x at = (y, refl)
 get_before (y ∷ ys) (suc n) x at = get_before ys n x at
-
-get_within : {A : Type 0} (xs : List A) (n : ℕ) (x : A) → slice_get xs n ≡ Some x → n < length xs
-get_within [] n x at = cc
-get_within (y ∷ ys) zero x at = omega arith
-get_within (y ∷ ys) (suc n) x at = omega (arith, get_within ys n x at)
 
 three_ways : (i j : ℕ) → ((d : ℕ) × (j ≡ suc (d + i))) ⊎ ((i ≡ j) ⊎ ((d : ℕ) × (i ≡ suc (d + j))))
 three_ways zero zero = inr (inl refl)

@@ -10,10 +10,9 @@ use Rattle.gql_doc.specs.declared.document.Positioned.{Positioned}
 use Rattle.gql_select.specs.Collected.{Setting}
 use Rattle.gql_select.specs.Documents.{both, reading, with_others}
 use Rattle.gql_select.specs.Reading.{keyed}
-use Rattle.gql_lists.proofs.SliceLemmas.{get_map, map_set}
+use Rattle.gql_lists.proofs.SliceLemmas.{get_map, map_last, map_set}
 use Rattle.gql_select.specs.Behind.{all_behind}
 use Rattle.gql_select.proofs.OccurrenceLemmas.{behind_append, with_one_more}
-use Rattle.gql_lists.proofs.SliceLemmas.{map_last}
 use Rattle.gql_select.proofs.ZipLemmas.{names_last, names_long, unite_fresh, unite_found}
 use Rattle.gql_merged.specs.Groups.{under_keys, united}
 use Rattle.gql_engine.specs.Path.{key_text}

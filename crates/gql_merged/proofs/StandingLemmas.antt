@@ -1,6 +1,7 @@
 -- Places of tasks, put together from the last task that was answered to the first.
 use Rattle.std.proofs.Common.{◌≡◌, ℕ, zero, suc, ◌+◌, ◌<◌, ◌≤◌, Bool, true, false, eqb, List, [], ◌∷◌, ◌++◌, length, take, drop, Option, Some, None, slice_get, refl, sym, ap, subst, ◌∙◌, arith, eqb-true, false-eqb, inl, inr, length-append}
 use Rattle.std.specs.Prelude.{◌-◌}
+use Rattle.gql_lists.proofs.SliceLemmas.{get_append_left}
 use Rattle.gql_merged.specs.Entries.{Entry, laid, latest}
 use Rattle.gql_place.specs.Alike.{Paired}
 use Rattle.gql_merged.specs.Standing.{IsHeld, IsStored, present, put_open, stands_for, Store}
@@ -41,18 +42,13 @@ drop_all : {X : Type 0} (xs ys : List X) → drop (length xs) (xs ++ ys) ≡ ys
 drop_all [] ys = refl
 drop_all (x ∷ xs) ys = drop_all xs ys
 
-get_left : {X : Type 0} (xs ys : List X) (i : ℕ) (x : X) → slice_get xs i ≡ Some x → slice_get (xs ++ ys) i ≡ Some x
-get_left [] ys i x is = absurd (cc)
-get_left (y ∷ xs) ys zero x is = is
-get_left (y ∷ xs) ys (suc i) x is = get_left xs ys i x is
-
 module _ {J X : Type 0} {Fits : J → X → Type 0} {beneath : J → List J} where
   -- what is kept of a task stays where another gets something, and tasks are added
   pub held_more : (jobs more : List J) (ks : List (Entry X)) (k : Entry X) (number : ℕ) → (number ≡ k.number → ⊥)
       → IsHeld Fits beneath jobs ks number → IsHeld Fits beneath (jobs ++ more) (ks ++ k ∷ []) number
   held_more jobs more ks k number differs h = record {
     job = h.job;
-    there = get_left jobs more number h.job h.there;
+    there = get_append_left jobs more number h.job h.there;
     kept = h.kept;
     last = latest_other ks k number differs ∙ h.last;
     fits = h.fits;
@@ -70,7 +66,7 @@ module _ {J X : Type 0} {Fits : J → X → Type 0} {beneath : J → List J} whe
       → k.first ≡ length jobs → k.count ≡ length more → more ≡ beneath job → IsHeld Fits beneath (jobs ++ more) (ks ++ k ∷ []) k.number
   held_now jobs more ks k job there fits first count made = record {
     job = job;
-    there = get_left jobs more k.number job there;
+    there = get_append_left jobs more k.number job there;
     kept = k;
     last = latest_same ks k;
     fits = fits;
@@ -95,7 +91,7 @@ module _ {J X P : Type 0} (Fits : J → X → Type 0) (beneath : J → List J) (
   pub stored_more : (more : List J) (store store' : Store X P) (k : Entry X) (number : ℕ) → (number ≡ k.number → ⊥) → store'.entries ≡ store.entries ++ k ∷ []
       → stands_for store'.places number ≡ stands_for store.places number → IsStored Fits beneath Made jobs store number → IsStored Fits beneath Made (jobs ++ more) store' number
   stored_more more store store' k number differs kept same (inl p) =
-      inl (record { job = p.job; there = get_left jobs more number p.job p.there; filled = p.filled; fits = p.fits; none = p.none; place = p.place; put = same ∙ p.put; made = p.made })
+      inl (record { job = p.job; there = get_append_left jobs more number p.job p.there; filled = p.filled; fits = p.fits; none = p.none; place = p.place; put = same ∙ p.put; made = p.made })
   stored_more more store store' k number differs kept same (inr l) =
       inr (record {
         held = subst (λ es. IsHeld Fits beneath (jobs ++ more) es number) (sym kept) (held_more jobs more store.entries k number differs l.held);

@@ -14,7 +14,7 @@ use Rattle.gql_schema.specs.declared.scalar_rule.ScalarRule.TheVariants as rules
 use Rattle.gql_schema.specs.declared.schema_type.SchemaType.{SchemaType}
 use Rattle.gql_schema.specs.declared.schema_type.SchemaType.TheVariants as types
 use Rattle.gql_schema.proofs.NameSetLemmas.{put_named}
-use Rattle.gql_schema.proofs.ReachLemmas.{grows}
+use Rattle.gql_lists.proofs.SetLemmas.{grows}
 
 or-first : (a b : Bool) → (a || b) ≡ false → a ≡ false
 or-first true b h = cc
@@ -70,7 +70,7 @@ module _ (table : TypeTable) where
 
   kept-places : take (length table) (names_of (with_built_in table)) ≡ names_of table
   kept-places =
-      let (rest, is) = grows (names_of table) (codes "Int" ∷ codes "String" ∷ codes "Boolean" ∷ codes "ID" ∷ []) in
+      let (rest, is) = grows bytes_eq (names_of table) (codes "Int" ∷ codes "String" ∷ codes "Boolean" ∷ codes "ID" ∷ []) in
       ap (take (length table)) (names-built ∙ is)
       ∙ take_at (names_of table) rest (length table) (length-map table (λ (p : List ℕ × SchemaType). p.0))
 

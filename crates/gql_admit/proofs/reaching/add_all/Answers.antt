@@ -1,8 +1,10 @@
 use Rattle.std.proofs.Common.{◌≡◌, ◌<◌, Some, get_or, length, slice_get, ap, sym, ◌∙◌, arith}
 use Rattle.std.proofs.lemmas.Option.{slice_get-get_or}
+use Rattle.std.specs.Prelude.{◌==◌}
 use Rattle.gql_admit.specs.Circular.{with_number}
 use Rattle.gql_admit.proofs.MarkLemmas.{numbers_more}
-use Rattle.gql_admit.proofs.ReachLemmas.{among-take}
+use Rattle.gql_lists.proofs.SetLemmas.{among-take}
+use Rattle.gql_admit.proofs.ReachLemmas.{same_number}
 use Rattle.gql_admit.proofs.reaching.add_all.Goals as goal
 
 pub add_one-requires-clause-within : goal.add_one-requires-clause-within
@@ -10,7 +12,7 @@ add_one-requires-clause-within c =
     let places = c.args.places.now in
     let index = c.loop-place.place-index in
     let at : slice_get places index ≡ Some (get_or places index 0) = slice_get-get_or places index 0 (omega arith) in
-    let within : get_or places index 0 < length c.args.marks.now = c.requires.within (get_or places index 0) (among-take places index (get_or places index 0) at) in
+    let within : get_or places index 0 < length c.args.marks.now = c.requires.within (get_or places index 0) (among-take ◌==◌ same_number places index (get_or places index 0) at) in
     omega (arith, within)
 
 pub loop-place-preserved : goal.loop-place-preserved

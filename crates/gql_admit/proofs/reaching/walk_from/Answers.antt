@@ -1,7 +1,9 @@
 use Rattle.std.proofs.Common.{rules, ◌≡◌, ◌<◌, Some, get_or, length, slice_get, ap, sym, ◌∙◌, arith}
+use Rattle.std.specs.Prelude.{◌==◌}
+use Rattle.gql_lists.proofs.SetLemmas.{among-take}
 use Rattle.gql_admit.specs.Circular.{is_in, led_to, with_numbers}
 use Rattle.gql_admit.proofs.MarkLemmas.{led_is, place_read, reached_within}
-use Rattle.gql_admit.proofs.ReachLemmas.{among-take, walk_ends, walk_goes, walk_starts, walk_tells}
+use Rattle.gql_admit.proofs.ReachLemmas.{same_number, walk_ends, walk_goes, walk_starts, walk_tells}
 use Rattle.gql_admit.proofs.reaching.walk_from.Goals as goal
 
 pub add_all-requires-clause-within : goal.add_all-requires-clause-within
@@ -23,7 +25,7 @@ offset_bounds-graph-place c =
     let next : c.walk.next < length c.walk.reached = omega arith in
     let place = get_or c.as_slice.result.now c.walk.next 0 in
     let at : slice_get c.walk.reached c.walk.next ≡ Some place = place_read c.as_slice.result.now c.walk.reached c.walk.next list next in
-    let inside : place < length graph = reached_within graph c.args.starts.now place c.requires.within c.requires.starts (c.walk.invariant.0.sound place (among-take c.walk.reached c.walk.next place at)) in
+    let inside : place < length graph = reached_within graph c.args.starts.now place c.requires.within c.requires.starts (c.walk.invariant.0.sound place (among-take ◌==◌ same_number c.walk.reached c.walk.next place at)) in
     search rules
 
 pub bounds-graph-place : goal.bounds-graph-place
@@ -33,7 +35,7 @@ bounds-graph-place c =
     let next : c.walk.next < length c.walk.reached = omega arith in
     let place = get_or c.as_slice.result.now c.walk.next 0 in
     let at : slice_get c.walk.reached c.walk.next ≡ Some place = place_read c.as_slice.result.now c.walk.reached c.walk.next list next in
-    let inside : place < length graph = reached_within graph c.args.starts.now place c.requires.within c.requires.starts (c.walk.invariant.0.sound place (among-take c.walk.reached c.walk.next place at)) in
+    let inside : place < length graph = reached_within graph c.args.starts.now place c.requires.within c.requires.starts (c.walk.invariant.0.sound place (among-take ◌==◌ same_number c.walk.reached c.walk.next place at)) in
     inside
 
 pub add_all-requires-in-walk-clause-within : goal.add_all-requires-in-walk-clause-within
@@ -43,7 +45,7 @@ add_all-requires-in-walk-clause-within c =
     let next : c.walk.next < length c.walk.reached = omega arith in
     let place = get_or c.as_slice.result.now c.walk.next 0 in
     let at : slice_get c.walk.reached c.walk.next ≡ Some place = place_read c.as_slice.result.now c.walk.reached c.walk.next list next in
-    let inside : place < length graph = reached_within graph c.args.starts.now place c.requires.within c.requires.starts (c.walk.invariant.0.sound place (among-take c.walk.reached c.walk.next place at)) in
+    let inside : place < length graph = reached_within graph c.args.starts.now place c.requires.within c.requires.starts (c.walk.invariant.0.sound place (among-take ◌==◌ same_number c.walk.reached c.walk.next place at)) in
     let read : c.as_slice-in-walk.result.now ≡ c.index-graph-place.result = cc in
     let led : c.as_slice-in-walk.result.now ≡ led_to graph place = led_is graph place c.index-graph-place.result c.as_slice-in-walk.result.now inside c.index-graph-place.is read in
     λ k among.
@@ -57,7 +59,7 @@ walk-smaller c =
     let next : c.walk.next < length c.walk.reached = omega arith in
     let place = get_or c.as_slice.result.now c.walk.next 0 in
     let at : slice_get c.walk.reached c.walk.next ≡ Some place = place_read c.as_slice.result.now c.walk.reached c.walk.next list next in
-    let inside : place < length graph = reached_within graph c.args.starts.now place c.requires.within c.requires.starts (c.walk.invariant.0.sound place (among-take c.walk.reached c.walk.next place at)) in
+    let inside : place < length graph = reached_within graph c.args.starts.now place c.requires.within c.requires.starts (c.walk.invariant.0.sound place (among-take ◌==◌ same_number c.walk.reached c.walk.next place at)) in
     let read : c.as_slice-in-walk.result.now ≡ c.index-graph-place.result = cc in
     let led : c.as_slice-in-walk.result.now ≡ led_to graph place = led_is graph place c.index-graph-place.result c.as_slice-in-walk.result.now inside c.index-graph-place.is read in
     walk_ends graph c.walk.reached c.add_all-in-walk.new.reached c.walk.next place
@@ -70,7 +72,7 @@ walk-preserved c =
     let next : c.walk.next < length c.walk.reached = omega arith in
     let place = get_or c.as_slice.result.now c.walk.next 0 in
     let at : slice_get c.walk.reached c.walk.next ≡ Some place = place_read c.as_slice.result.now c.walk.reached c.walk.next list next in
-    let inside : place < length graph = reached_within graph c.args.starts.now place c.requires.within c.requires.starts (c.walk.invariant.0.sound place (among-take c.walk.reached c.walk.next place at)) in
+    let inside : place < length graph = reached_within graph c.args.starts.now place c.requires.within c.requires.starts (c.walk.invariant.0.sound place (among-take ◌==◌ same_number c.walk.reached c.walk.next place at)) in
     let read : c.as_slice-in-walk.result.now ≡ c.index-graph-place.result = cc in
     let led : c.as_slice-in-walk.result.now ≡ led_to graph place = led_is graph place c.index-graph-place.result c.as_slice-in-walk.result.now inside c.index-graph-place.is read in (
       walk_goes graph c.args.starts.now c.walk.reached c.add_all-in-walk.new.reached c.walk.next place c.walk.invariant.0 at
