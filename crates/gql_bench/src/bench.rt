@@ -11,7 +11,7 @@ use gql_resolve::FieldValue;
 
 /// A bench: what a command runs over, and the requests that it answers. Each cell that a rule names
 /// is one of its cells.
-#[derive(Debug, Drop)]
+#[derive(Drop)]
 pub struct Bench {
     /// The builder of the schema, with the bench's types and settings. Fields of objects have their
     /// resolvers, and fields of subscriptions their sources, by their numbers in the order of the

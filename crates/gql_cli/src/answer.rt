@@ -15,7 +15,7 @@ use gql_resolve::{FieldValue, ResolverSet, Turns};
 use std::alloc::{AllocError, Global};
 
 /// The answer to a bench's requests.
-#[derive(Debug, Drop)]
+#[derive(Drop)]
 pub(crate) enum Answer {
     /// The response to a single request, or those to a batch.
     Response(BatchResponse),

@@ -17,7 +17,7 @@ use gql_schema::{SchemaError, SchemaType, Types};
 use std::alloc::Global;
 
 /// A schema that is being built: its types, which aren't checked yet, and its settings.
-#[derive(Debug, Drop)]
+#[derive(Drop)]
 pub struct SchemaBuilder {
     types: Types,
     settings: Settings,

@@ -8,7 +8,7 @@ use gql_request::IntrospectionMode;
 use serde_json::Value as Json;
 
 /// The schema of a bench.
-#[derive(Debug, Drop)]
+#[derive(Drop)]
 pub struct SchemaForm {
     pub query: Text,
     pub mutation: Option<Text>,
@@ -18,7 +18,7 @@ pub struct SchemaForm {
 }
 
 /// The limits of requests, and what the schema answers of itself.
-#[derive(Clone, Copy, PartialEq, Eq, Debug)]
+#[derive(Clone, Copy, PartialEq, Eq)]
 pub struct Settings {
     /// How deep sets may nest, if the bench says so.
     pub depth: Option<Depth>,
@@ -31,7 +31,7 @@ pub struct Settings {
 }
 
 /// How many levels of sets a request may have.
-#[derive(Clone, Copy, PartialEq, Eq, Debug)]
+#[derive(Clone, Copy, PartialEq, Eq)]
 pub struct Depth {
     pub levels: u64,
 }
