@@ -2,16 +2,16 @@
 ghost use Rattle.std.specs.Prelude.{◌≡◌, ◌<◌, [], false, None, IfOk};
 ghost use Rattle.std.below.core.specs.declared.int.usize.TheConstants.{MAX};
 ghost use Rattle.std.specs.Option.{option_copied};
-ghost use Rattle.gql_exec.specs.Builder.{settings_of, table_of};
+ghost use Rattle.gql_settings.specs.Builder.{settings_of, table_of};
 ghost use Rattle.gql_request.specs.declared.query_env.IntrospectionMode.TheVariants.{Enabled};
 ghost use Rattle.gql_bench.specs.SchemaTable.{after_all, first_numbers};
 ghost use Rattle.gql_bench.specs.Settings.{depth_in, entities_in, settings_in};
 
 use crate::numbers::Numbers;
 use gql_base::{Made, Text};
-use gql_exec::{Schema, SchemaBuilder};
 use gql_form::{Depth, SchemaForm, TypeForm};
 use gql_request::IntrospectionMode;
+use gql_settings::SchemaBuilder;
 use std::alloc::{AllocError, Global};
 
 /// How deep sets may lie in a schema that says nothing of it.
@@ -25,7 +25,7 @@ pub(crate) fn builder_with_settings(alloc: Global, schema: &SchemaForm) -> Made<
     let depth = levels_of(schema.settings.depth)?;
     let directives = limit_of(schema.settings.directives)?;
     let entities = entities_of(schema)?;
-    let bare = Schema::build(
+    let bare = SchemaBuilder::new(
         alloc,
         schema.query.as_str(),
         text_of(&schema.mutation),
