@@ -33,7 +33,7 @@ pub struct Settings {
 /// How many levels of sets a request may have.
 #[derive(Clone, Copy, PartialEq, Eq)]
 pub struct Depth {
-    pub levels: u64,
+    pub levels: u16,
 }
 
 impl Depth {
@@ -48,7 +48,9 @@ impl Form for Depth {
 
     fn read(reader: Reader, json: &Json) -> Result<Depth, Fault> {
         let levels = read_count_within(reader, json, Depth::DEEPEST)?;
-        Ok(Depth { levels })
+        Ok(Depth {
+            levels: levels as u16,
+        })
     }
 }
 
