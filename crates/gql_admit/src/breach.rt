@@ -1,7 +1,7 @@
 use gql_base::{Pos, Text};
 
 /// The rules that a document can break. Breaches at one place are told in this order.
-#[derive(Clone, Copy, Debug)]
+#[derive(Clone, Copy)]
 pub enum BreachKind {
     /// A condition names no object, interface or union (GraphQL, October 2021, sections 5.5.1.2 and
     /// 5.5.1.3).
@@ -36,7 +36,7 @@ pub enum BreachKind {
 
 /// A rule that a document breaks: where, which, the name that it is about, and what is told of it.
 /// Breaches are ordered by these.
-#[derive(Debug, Drop)]
+#[derive(Drop)]
 pub struct Breach {
     pub pos: Pos,
     pub kind: BreachKind,

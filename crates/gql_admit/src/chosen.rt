@@ -3,7 +3,7 @@ use gql_doc::{FragmentDefinition, OperationDefinition, Positioned};
 
 /// The operation that a request runs, with its own name, if it has one, and the fragments of its
 /// document.
-#[derive(Debug, Drop)]
+#[derive(Drop)]
 pub struct Chosen {
     pub operation_name: Option<Text>,
     pub operation: Positioned<OperationDefinition>,

@@ -1,5 +1,5 @@
 /// What is wrong in the definition of a variable. The first of these is told that holds.
-#[derive(Clone, Copy, Debug)]
+#[derive(Clone, Copy)]
 pub enum DefinitionFault {
     /// Its name stands before in the same list (GraphQL, October 2021, section 5.8.1).
     Twice,

@@ -1,7 +1,7 @@
 use gql_schema::Types;
 
 /// What a request is admitted by: the types, the names of their roots, and the limits.
-#[derive(Clone, Copy, Debug)]
+#[derive(Clone, Copy)]
 pub struct Site<'a> {
     pub types: &'a Types,
     /// The name of the query root.

@@ -1,6 +1,6 @@
 -- A bench with all its members, as it is made of what was read.
 use Rattle.std.specs.Prelude.{◌≡◌, [], Option, Some, None}
-use Rattle.gql_exec.specs.Builder.{settings_of, table_of}
+use Rattle.gql_settings.specs.Builder.{settings_of, table_of}
 use Rattle.gql_form.specs.declared.bench_form.BenchForm.{BenchForm}
 use Rattle.gql_form.specs.declared.session_form.SessionForm.{SessionForm}
 use Rattle.gql_form.specs.declared.work_form.WorkForm.{WorkForm}

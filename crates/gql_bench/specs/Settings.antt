@@ -1,8 +1,8 @@
 -- What the schema of a bench has beside its types.
 use Rattle.std.specs.Prelude.{ℕ, Option, Some, None, if◌then◌else◌}
-use Rattle.gql_exec.specs.Limits.{default_depth}
-use Rattle.gql_exec.specs.Settings.{new_settings}
-use Rattle.gql_exec.specs.declared.settings.Settings.{Settings}
+use Rattle.gql_settings.specs.Limits.{default_depth}
+use Rattle.gql_settings.specs.Settings.{new_settings}
+use Rattle.gql_settings.specs.declared.settings.Settings.{Settings}
 use Rattle.gql_form.specs.declared.schema_form.Depth.{Depth}
 use Rattle.gql_form.specs.declared.schema_form.SchemaForm.{SchemaForm}
 use Rattle.gql_bench.specs.SchemaTable.{after_all, first_numbers}

@@ -4,14 +4,14 @@ ghost use Rattle.gql_bench.specs.Cells.{AreBelow};
 
 use crate::rule::Rule;
 use gql_base::Items;
-use gql_exec::SchemaBuilder;
 use gql_form::{EventForm, SessionForm};
 use gql_request::BatchRequest;
 use gql_resolve::FieldValue;
+use gql_settings::SchemaBuilder;
 
 /// A bench: what a command runs over, and the requests that it answers. Each cell that a rule names
 /// is one of its cells.
-#[derive(Debug, Drop)]
+#[derive(Drop)]
 pub struct Bench {
     /// The builder of the schema, with the bench's types and settings. Fields of objects have their
     /// resolvers, and fields of subscriptions their sources, by their numbers in the order of the

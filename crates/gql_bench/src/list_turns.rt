@@ -6,7 +6,7 @@ use gql_resolve::Turns;
 
 /// Turns that a list tells: its next number chooses among the tasks that wait, by the remainder,
 /// and where the list is used up the first of them is chosen.
-#[derive(Debug, Drop)]
+#[derive(Drop)]
 pub struct ListTurns {
     numbers: Items<u64>,
     place: usize,

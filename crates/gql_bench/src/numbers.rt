@@ -6,7 +6,7 @@ use gql_form::TypeForm;
 use std::alloc::AllocError;
 
 /// The numbers of the next resolver and of the next source.
-#[derive(Clone, Copy, PartialEq, Eq, Debug)]
+#[derive(Clone, Copy, PartialEq, Eq)]
 pub struct Numbers {
     pub resolver: u32,
     pub source: u32,

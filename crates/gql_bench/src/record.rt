@@ -11,7 +11,7 @@ use std::marker::Model;
 
 /// One entry of a record: its task, its resolver, whether the answer was there, and where the text
 /// of its path begins and ends.
-#[derive(Debug, Drop)]
+#[derive(Drop)]
 struct Note {
     task: u64,
     begin: usize,
@@ -22,7 +22,7 @@ struct Note {
 
 /// The record of a resolver set. Contracts see the list of its entries. Where memory was wanting
 /// for an entry, a part of its path may stand in the text, and no note tells of it.
-#[derive(Debug, Drop)]
+#[derive(Drop)]
 pub(crate) struct Record {
     paths: String,
     notes: Vec<Note>,
@@ -84,7 +84,7 @@ impl Record {
 }
 
 /// The entries that a resolver set told. Contracts see their list.
-#[derive(Debug, Drop)]
+#[derive(Drop)]
 pub struct Entries<'a> {
     paths: &'a str,
     notes: &'a [Note],

@@ -10,7 +10,7 @@ use gql_resolve::FieldValue;
 use std::alloc::Global;
 
 /// How a resolver answers, and when.
-#[derive(Debug, Drop)]
+#[derive(Drop)]
 pub struct Rule {
     /// The number of polls that are pending before the answer.
     pub delay: u64,
@@ -23,7 +23,7 @@ pub struct Rule {
 }
 
 /// What a resolver answers.
-#[derive(Debug, Drop)]
+#[derive(Drop)]
 pub enum RuleKind {
     /// This.
     Const(FieldValue<i64>),

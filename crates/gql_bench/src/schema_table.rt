@@ -1,6 +1,6 @@
 //! The builder of the schema of a bench, with its types.
 ghost use Rattle.std.specs.Prelude.{◌≡◌, IfOk};
-ghost use Rattle.gql_exec.specs.Builder.{settings_of, table_of};
+ghost use Rattle.gql_settings.specs.Builder.{settings_of, table_of};
 ghost use Rattle.gql_bench.specs.SchemaTable.{declared_table, first_numbers, registered};
 ghost use Rattle.gql_bench.specs.Settings.{settings_in};
 
@@ -8,8 +8,8 @@ use crate::numbers::Numbers;
 use crate::settings::builder_with_settings;
 use crate::type_table::type_of;
 use gql_base::Made;
-use gql_exec::SchemaBuilder;
 use gql_form::{SchemaForm, TypeForm};
+use gql_settings::SchemaBuilder;
 use std::alloc::Global;
 
 /// The builder of a schema, with its types and its settings.

@@ -16,7 +16,7 @@ use std::alloc::Global;
 /// The resolvers of a bench. A resolver answers by the rule of its number, after as many pending
 /// polls as the rule's delay; a number without a rule answers no value at once. The set tells its
 /// record, and the tasks that it began.
-#[derive(Debug, Drop)]
+#[derive(Drop)]
 pub struct Table {
     rules: Items<Rule>,
     cells: Items<i64>,
@@ -26,7 +26,7 @@ pub struct Table {
 }
 
 /// A resolver of a table that has begun: its number, and how many polls are pending still.
-#[derive(Debug, Drop)]
+#[derive(Drop)]
 pub struct TableFuture {
     resolver: u32,
     left: u64,

@@ -51,7 +51,7 @@ pub trait Tables {
 }
 
 /// Makes tables.
-#[derive(Debug, Drop)]
+#[derive(Drop)]
 pub struct TableMaker {
     held: Option<Table>,
 }

@@ -10,8 +10,8 @@ use Rattle.gql_cli.proofs.LoadTypes.{load_table, load_table_is_sound}
 use Rattle.gql_cli.proofs.RefusalLemmas.{never-sound}
 use Rattle.gql_cli.specs.Answer.{IsRefusedTable}
 use Rattle.gql_exec.specs.Builder.{whole_table}
-use Rattle.gql_exec.specs.Federation.{table_with}
-use Rattle.gql_exec.specs.declared.settings.Settings.{Settings}
+use Rattle.gql_settings.specs.Federation.{table_with}
+use Rattle.gql_settings.specs.declared.settings.Settings.{Settings}
 use Rattle.gql_form.specs.declared.bench_form.BenchForm.{BenchForm}
 use Rattle.gql_load.specs.Form.{load_form}
 use Rattle.gql_load.specs.Schema.{load_schema}

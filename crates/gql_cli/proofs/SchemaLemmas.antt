@@ -3,9 +3,9 @@ use Rattle.std.proofs.Common.{◌≡◌, ◌<◌}
 use Rattle.std.proofs.Props.{props}
 use mathlib.Core.HLevel.{is_prop→PathP}
 use Rattle.std.below.core.specs.declared.int.usize.TheConstants.{MAX}
-use Rattle.gql_exec.specs.Builder as builders
+use Rattle.gql_settings.specs.Builder as builders
 use Rattle.gql_exec.specs.Schema.{settings_of, types_in}
-use Rattle.gql_exec.specs.declared.builder.SchemaBuilder.{SchemaBuilder}
+use Rattle.gql_settings.specs.declared.builder.SchemaBuilder.{SchemaBuilder}
 use Rattle.gql_exec.specs.declared.schema.Schema.{Schema}
 use Rattle.gql_schema.specs.Sound.{IsSound}
 use Rattle.gql_schema.specs.Table.{types_of}

@@ -8,7 +8,7 @@ use Rattle.gql_cli.specs.declared.answer.Answer.TheVariants as answer
 use Rattle.gql_engine.specs.Progress.{Seen}
 use Rattle.gql_exec.specs.Batch.{ExecutesAll}
 use Rattle.gql_exec.specs.Builder.{IsSchemaOf, whole_table}
-use Rattle.gql_exec.specs.declared.builder.SchemaBuilder.{SchemaBuilder}
+use Rattle.gql_settings.specs.declared.builder.SchemaBuilder.{SchemaBuilder}
 use Rattle.gql_exec.specs.declared.schema.Schema.{Schema}
 use Rattle.gql_request.specs.BatchRequest.{requests_of}
 use Rattle.gql_request.specs.BatchResponse.{responses_of}

@@ -9,13 +9,13 @@ ghost use Rattle.gql_request.specs.BatchResponse.{responses_of};
 
 use gql_base::{Copied, Items, Made, Text};
 use gql_bench::{Bench, ListTurns, Tables};
-use gql_exec::{DynamicRequest, DynamicRequestExt, Schema, SchemaBuilder};
+use gql_exec::{DynamicRequest, DynamicRequestExt, Schema, SchemaBuilder, SchemaBuilderExt};
 use gql_request::{BatchRequest, BatchResponse, Hooks, Request, Response};
 use gql_resolve::{FieldValue, ResolverSet, Turns};
 use std::alloc::{AllocError, Global};
 
 /// The answer to a bench's requests.
-#[derive(Debug, Drop)]
+#[derive(Drop)]
 pub(crate) enum Answer {
     /// The response to a single request, or those to a batch.
     Response(BatchResponse),

@@ -4,7 +4,7 @@ ghost use Rattle.gql_cli.specs.Command.{form_command};
 use gql_form::Command as FormCommand;
 
 /// What the program is asked for.
-#[derive(Clone, Copy, PartialEq, Eq, Debug)]
+#[derive(Clone, Copy, PartialEq, Eq)]
 pub enum Command {
     /// The response of a bench's request.
     Execute,

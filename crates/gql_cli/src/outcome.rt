@@ -3,7 +3,7 @@ use crate::status::Status;
 use gql_base::Text;
 
 /// What a run has to write.
-#[derive(Debug, Drop)]
+#[derive(Drop)]
 pub enum Outcome {
     /// The usage line.
     Usage,

@@ -2,7 +2,7 @@ use gql_base::{Pos, Text};
 
 /// A conflict: a field that can't be merged with the first one of its key, by its place and its
 /// key.
-#[derive(Debug, Drop)]
+#[derive(Drop)]
 pub struct Conflict {
     pub pos: Pos,
     pub key: Text,

@@ -6,7 +6,7 @@ use crate::entry::Entry;
 /// Classes that are proposed for the sets of a document: of the fragments by their places, and of
 /// the operations in their order; the entries of all classes; and for each field, in the order of a
 /// walk through fragments and operations, the place of its entry.
-#[derive(Debug, Drop)]
+#[derive(Drop)]
 pub(crate) struct Proposal<'a> {
     pub classes: Vec<usize>,
     pub roots: Vec<usize>,

@@ -19,7 +19,7 @@ const ROUNDS: usize = 100;
 type Marked = (u64, usize);
 
 /// What a round finds.
-#[derive(Clone, Copy, PartialEq, Eq, Debug)]
+#[derive(Clone, Copy, PartialEq, Eq)]
 enum Round {
     /// Two fields of one class and key don't ask the same.
     Unlike,

@@ -1,7 +1,7 @@
 use gql_schema::Types;
 
 /// A table of types with the names of its roots.
-#[derive(Clone, Copy, Debug)]
+#[derive(Clone, Copy)]
 pub struct RootedTypes<'a> {
     pub types: &'a Types,
     /// The name of the query root.

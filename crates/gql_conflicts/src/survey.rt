@@ -10,7 +10,7 @@ use gql_doc::{
 use std::alloc::Global;
 
 /// A field: the set around it, and its own set.
-#[derive(Clone, Copy, Debug)]
+#[derive(Clone, Copy)]
 pub(crate) struct Spot<'a> {
     pub around: usize,
     pub field: &'a Positioned<Field>,
@@ -20,7 +20,7 @@ pub(crate) struct Spot<'a> {
 /// The sets of a document, each with one that it is the same as, or itself; the numbers of the sets
 /// of operations; and the fields, in the order of a walk through fragments and operations. The sets
 /// of fragments have the first numbers.
-#[derive(Debug, Drop)]
+#[derive(Drop)]
 pub(crate) struct Survey<'a> {
     pub heads: Vec<usize>,
     pub roots: Vec<usize>,

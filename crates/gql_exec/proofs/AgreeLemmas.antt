@@ -61,7 +61,7 @@ use Rattle.gql_exec.specs.Ready.{env_under, IsMadeReady, prepared_under}
 use Rattle.gql_exec.specs.Root.{object_in, object_named, or_text, root_for, root_object}
 use Rattle.gql_exec.specs.Scene.{scene_for}
 use Rattle.gql_exec.specs.Schema.{settings_of, types_in}
-use Rattle.gql_exec.specs.Settings.{entities_for}
+use Rattle.gql_settings.specs.Settings.{entities_for}
 use Rattle.gql_exec.specs.declared.dynamic_request.DynamicRequest.{DynamicRequest}
 use Rattle.gql_exec.specs.declared.schema.Schema.{Schema}
 

@@ -23,7 +23,7 @@ use Rattle.gql_exec.specs.Ready.{IsMadeReady, prepared_under}
 use Rattle.gql_exec.specs.Root.{root_for}
 use Rattle.gql_exec.specs.Schema.{settings_of}
 use Rattle.gql_exec.specs.SchemaOnly.{is_schema_only, StartsNone}
-use Rattle.gql_exec.specs.Settings.{mode_for}
+use Rattle.gql_settings.specs.Settings.{mode_for}
 use Rattle.gql_exec.specs.declared.schema.Schema.{Schema}
 use Rattle.gql_meaning.specs.Execution.{Execution, field_asking, is_typename}
 use Rattle.gql_merged.specs.Basis.{execution_of, is_introspection_only}

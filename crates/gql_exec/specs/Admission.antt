@@ -2,7 +2,7 @@
 use Rattle.std.specs.Option.{is_some}
 use Rattle.gql_admit.specs.Terms.{Terms}
 use Rattle.gql_exec.specs.Schema.{settings_of, types_in}
-use Rattle.gql_exec.specs.Settings.{entities_for}
+use Rattle.gql_settings.specs.Settings.{entities_for}
 use Rattle.gql_exec.specs.declared.schema.Schema.{Schema}
 use Rattle.gql_request.specs.declared.query_env.IntrospectionMode.{IntrospectionMode}
 use Rattle.gql_schema.specs.Table.{types_of}

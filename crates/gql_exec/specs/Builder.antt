@@ -1,27 +1,14 @@
--- What a builder shows, and what it makes.
-use Rattle.std.specs.Prelude.{◌≡◌, Bool, ◌||◌, Result, Ok, Err}
-use Rattle.gql_exec.specs.Federation.{table_with}
+-- What a builder makes.
+use Rattle.std.specs.Prelude.{◌≡◌, Result, Ok, Err}
 use Rattle.gql_exec.specs.Schema as schemas
-use Rattle.gql_exec.specs.declared.builder.SchemaBuilder.{SchemaBuilder}
 use Rattle.gql_exec.specs.declared.schema.Schema.{Schema}
-use Rattle.gql_exec.specs.declared.settings.Settings.{Settings}
-use Rattle.gql_schema.specs.Entities.{has_entities}
 use Rattle.gql_schema.specs.Sound.{with_built_in, IsFirstRefusal, IsSound}
 use Rattle.gql_schema.specs.Table.{types_of}
 use Rattle.gql_schema.specs.TableReading.{TypeTable}
 use Rattle.gql_schema.specs.declared.schema_error.SchemaError.{SchemaError}
-
--- the types that are registered so far
-abbrev pub table_of : SchemaBuilder → TypeTable
-table_of builder = types_of builder.types
-
-abbrev pub settings_of : SchemaBuilder → Settings
-settings_of builder = builder.settings
-
--- whether the schema has what federation adds: since that is asked for, or since an object has a
--- key
-abbrev pub is_federated : SchemaBuilder → Bool
-is_federated builder = (settings_of builder).federation || has_entities (table_of builder)
+use Rattle.gql_settings.specs.Builder.{is_federated, settings_of, table_of}
+use Rattle.gql_settings.specs.Federation.{table_with}
+use Rattle.gql_settings.specs.declared.builder.SchemaBuilder.{SchemaBuilder}
 
 -- the table that is checked: with the types of federation, where there is one, and then with the
 -- scalars of every schema

@@ -5,12 +5,9 @@ pub mod Builder
 pub mod Counting
 pub mod DynamicRequest
 pub mod Execution
-pub mod Federation
-pub mod Limits
 pub mod PlaceResponse
 pub mod Ready
 pub mod Root
 pub mod Scene
 pub mod Schema
 pub mod SchemaOnly
-pub mod Settings

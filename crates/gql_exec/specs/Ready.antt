@@ -5,10 +5,10 @@ use Rattle.gql_admit.specs.Prepared.{IsPrepared, Prepared}
 use Rattle.gql_base.specs.declared.server_error.ServerError.{ServerError}
 use Rattle.gql_exec.specs.Admission.{terms_for}
 use Rattle.gql_exec.specs.Schema.{settings_of}
-use Rattle.gql_exec.specs.Settings.{entities_for, mode_for}
+use Rattle.gql_settings.specs.Settings.{entities_for, mode_for}
 use Rattle.gql_exec.specs.declared.ready.Ready.{Ready}
 use Rattle.gql_exec.specs.declared.schema.Schema.{Schema}
-use Rattle.gql_exec.specs.declared.settings.Settings.{Settings}
+use Rattle.gql_settings.specs.declared.settings.Settings.{Settings}
 use Rattle.gql_request.specs.declared.query_env.QueryEnv.{QueryEnv}
 use Rattle.gql_request.specs.declared.request.Request.{Request}
 

@@ -5,7 +5,7 @@ use Rattle.gql_base.specs.Pairs.{under}
 use Rattle.gql_doc.specs.declared.document.OperationType.{OperationType}
 use Rattle.gql_doc.specs.declared.document.OperationType.TheVariants as kinds
 use Rattle.gql_exec.specs.Schema.{settings_of, types_in}
-use Rattle.gql_exec.specs.Settings.{root_in}
+use Rattle.gql_settings.specs.Settings.{root_in}
 use Rattle.gql_exec.specs.declared.schema.Schema.{Schema}
 use Rattle.gql_schema.specs.Table.{types_of}
 use Rattle.gql_schema.specs.declared.object.Object.{Object}

@@ -3,7 +3,7 @@ use Rattle.std.specs.Prelude.{[], None}
 use Rattle.std.specs.Borrow.{Bor}
 use Rattle.gql_engine.specs.declared.scene.Scene.{Scene}
 use Rattle.gql_exec.specs.Schema.{settings_of, types_in}
-use Rattle.gql_exec.specs.Settings.{entities_for}
+use Rattle.gql_settings.specs.Settings.{entities_for}
 use Rattle.gql_exec.specs.declared.dynamic_request.DynamicRequest.{DynamicRequest}
 use Rattle.gql_exec.specs.declared.schema.Schema.{Schema}
 use Rattle.gql_request.specs.declared.query_env.QueryEnv.{QueryEnv}

@@ -1,7 +1,7 @@
 -- Requests that ask for the schema alone (introspection-only mode): no resolver is asked for them.
 use Rattle.std.specs.Prelude.{◌≡◌, Bool}
 use Rattle.gql_exec.specs.Schema.{settings_of}
-use Rattle.gql_exec.specs.Settings.{mode_for}
+use Rattle.gql_settings.specs.Settings.{mode_for}
 use Rattle.gql_exec.specs.declared.schema.Schema.{Schema}
 use Rattle.gql_merged.specs.Basis.{is_introspection_only}
 use Rattle.gql_request.specs.declared.request.Request.{Request}

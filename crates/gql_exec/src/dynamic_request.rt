@@ -6,7 +6,7 @@ use gql_resolve::FieldValue;
 use std::alloc::Global;
 
 /// A request with the value that the fields of its root get as their parent.
-#[derive(Debug, Drop)]
+#[derive(Drop)]
 pub struct DynamicRequest<V> {
     pub inner: Request,
     pub root_value: FieldValue<V>,

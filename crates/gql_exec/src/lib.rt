@@ -1,5 +1,5 @@
 //! Schemas as requests meet them: a checked table of types with the names of its roots, its limits
-//! and its data, the builder that makes one, and the execution of requests over it.
+//! and its data, how a builder is finished to one, and the execution of requests over it.
 #![tactic(auto)]
 
 mod batch;
@@ -10,13 +10,12 @@ mod place_response;
 mod ready;
 mod root;
 mod schema;
-mod settings;
 mod shared;
 
 pub use batch::BatchNoMemory;
-pub use builder::SchemaBuilder;
+pub use builder::SchemaBuilderExt;
 pub use dynamic_request::{DynamicRequest, DynamicRequestExt};
+pub use gql_settings::{SchemaBuilder, Settings};
 pub use place_response::response_at;
 pub use ready::Ready;
 pub use schema::Schema;
-pub use settings::Settings;

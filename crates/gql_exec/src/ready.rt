@@ -13,7 +13,7 @@ use gql_request::{Data, Hooks, IntrospectionMode, QueryEnv, Request};
 use std::alloc::Global;
 
 /// A request that is ready for its execution.
-#[derive(Debug, Drop)]
+#[derive(Drop)]
 pub struct Ready {
     pub request: Request,
     /// What the execution knows of it.

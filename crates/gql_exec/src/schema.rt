@@ -4,14 +4,13 @@ ghost use Rattle.std.below.core.specs.declared.int.usize.TheConstants.{MAX};
 ghost use Rattle.std.specs.Option.{option_copied};
 ghost use Rattle.gql_schema.specs.Sound.{IsSound};
 ghost use Rattle.gql_schema.specs.Table.{types_of};
-ghost use Rattle.gql_exec.specs.Settings.{new_settings, root_in, mode_for, entities_for};
+ghost use Rattle.gql_settings.specs.Settings.{new_settings, root_in, mode_for, entities_for};
 
-use crate::builder::SchemaBuilder;
-use crate::settings::Settings;
 use gql_base::{Copied, Made, Text};
 use gql_doc::OperationType;
 use gql_request::{Data, IntrospectionMode};
 use gql_schema::Types;
+use gql_settings::{SchemaBuilder, Settings};
 use std::alloc::Global;
 
 /// A schema: a table of types in which no rule is broken, and its settings. Once it is built, it
@@ -25,7 +24,7 @@ pub struct Schema {
 }
 
 impl Schema {
-    ghost use Rattle.gql_exec.specs.Builder.{settings_of as settings_built, table_of};
+    ghost use Rattle.gql_settings.specs.Builder.{settings_of as settings_built, table_of};
     ghost use Rattle.gql_exec.specs.Schema.{settings_of, types_in};
 
     /// A builder of a schema whose roots have these names. It has no types, the depth of documents
@@ -42,8 +41,7 @@ impl Schema {
             ≡ new_settings query.now (option_copied mutation.entry)
             (option_copied subscription.entry)) }
     {
-        let settings = Settings::new(alloc, query, mutation, subscription)?;
-        Ok(SchemaBuilder::of(alloc, settings))
+        SchemaBuilder::new(alloc, query, mutation, subscription)
     }
 
     /// A schema of a sound table.

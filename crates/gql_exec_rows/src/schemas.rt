@@ -1,6 +1,6 @@
 //! Schemas of two object types, which name their roots in three ways.
 use gql_base::{Made, TypeRef};
-use gql_exec::{Schema, SchemaBuilder};
+use gql_exec::{Schema, SchemaBuilder, SchemaBuilderExt};
 use gql_schema::{Field, Object, SchemaType};
 use std::alloc::Global;
 

@@ -1,7 +1,7 @@
 //! Batches of requests over a ballot.
 use crate::ballot::{Ballot, Last};
 use gql_base::{Items, Made, Text, TypeRef};
-use gql_exec::{BatchNoMemory, DynamicRequest, Schema, SchemaBuilder};
+use gql_exec::{BatchNoMemory, DynamicRequest, Schema, SchemaBuilder, SchemaBuilderExt};
 use gql_request::{BatchResponse, Hooks, Request};
 use gql_schema::{Field, Object, SchemaType};
 use std::alloc::{AllocError, Global};

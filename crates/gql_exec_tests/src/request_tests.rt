@@ -1,7 +1,7 @@
 //! Requests over a schema, with a resolver set of their own.
 use crate::ballot::{Ballot, Last};
 use gql_base::{Made, NoMemory, Text, TypeRef};
-use gql_exec::{DynamicRequest, Schema};
+use gql_exec::{DynamicRequest, Schema, SchemaBuilderExt};
 use gql_request::{Hooks, Request};
 use gql_schema::{Field, Object, SchemaType};
 use std::alloc::{AllocError, Global};

@@ -1,6 +1,6 @@
 use gql_base::{Copied, Made, Number, TypeRef, Value};
 use gql_doc::OperationType;
-use gql_exec::{DynamicRequest, DynamicRequestExt, Schema, SchemaBuilder};
+use gql_exec::{DynamicRequest, DynamicRequestExt, Schema, SchemaBuilder, SchemaBuilderExt};
 use gql_request::{DataKey, IntrospectionMode, Request};
 use gql_resolve::FieldValue;
 use gql_schema::{Field, Object, SchemaType};

@@ -8,7 +8,7 @@ use gql_request::HeaderOp;
 use serde_json::Value as Json;
 
 /// How a field is answered, and when.
-#[derive(Debug, Drop)]
+#[derive(Drop)]
 pub struct AnswerForm {
     pub delay: Delay,
     /// The messages of errors beside the answer.

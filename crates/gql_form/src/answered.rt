@@ -15,7 +15,7 @@ use serde_json::Value as Json;
 use std::collections::BTreeMap;
 
 /// What a bench answers: a value, or what isn't plain JSON.
-#[derive(Debug, Drop)]
+#[derive(Drop)]
 pub enum Answered {
     Value(Value),
     /// A value of the caller's type.

@@ -16,7 +16,7 @@ use serde_json::Value as Json;
 use std::alloc::{AllocError, Global};
 
 /// A bench as it is read.
-#[derive(Debug, Drop)]
+#[derive(Drop)]
 pub struct BenchForm {
     pub setup: SetupForm,
     pub work: WorkForm,

@@ -1,5 +1,5 @@
 /// What the program does with a bench.
-#[derive(Clone, Copy, PartialEq, Eq, Debug)]
+#[derive(Clone, Copy, PartialEq, Eq)]
 pub enum Command {
     Execute,
     Record,

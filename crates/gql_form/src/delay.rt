@@ -9,7 +9,7 @@ use crate::plain::read_count_within;
 use serde_json::Value as Json;
 
 /// How many polls are pending before an answer or an event.
-#[derive(Clone, Copy, PartialEq, Eq, Debug)]
+#[derive(Clone, Copy, PartialEq, Eq)]
 pub struct Delay {
     pub polls: u64,
 }

@@ -7,14 +7,14 @@ use gql_base::Text;
 use serde_json::Value as Json;
 
 /// An event of a subscription.
-#[derive(Debug, Drop)]
+#[derive(Drop)]
 pub struct EventForm {
     pub delay: Delay,
     pub outcome: OutcomeForm,
 }
 
 /// What comes with an event.
-#[derive(Debug, Drop)]
+#[derive(Drop)]
 pub enum OutcomeForm {
     Value(Answered),
     /// An error with this message.

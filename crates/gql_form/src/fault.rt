@@ -4,7 +4,7 @@ use gql_base::{JsonPlace, PathSegment, Text};
 use std::alloc::{AllocError, Global};
 
 /// Why reading stops.
-#[derive(Debug, Drop)]
+#[derive(Drop)]
 pub(crate) enum Fault {
     /// This place, as it is seen from where the reader stands.
     Bad(JsonPlace),

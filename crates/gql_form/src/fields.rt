@@ -8,7 +8,7 @@ use gql_base::{EnumForm, Items, Name, TypeRef, Value, read_value};
 use serde_json::Value as Json;
 
 /// An argument of a field.
-#[derive(Debug, Drop)]
+#[derive(Drop)]
 pub struct ArgumentForm {
     pub name: Name,
     pub ty: TypeRef,
@@ -16,7 +16,7 @@ pub struct ArgumentForm {
 }
 
 /// A field of an object, behind its name.
-#[derive(Debug, Drop)]
+#[derive(Drop)]
 pub struct FieldForm {
     pub ty: TypeRef,
     pub args: Items<ArgumentForm>,
@@ -24,21 +24,21 @@ pub struct FieldForm {
 }
 
 /// A field of an interface, behind its name.
-#[derive(Debug, Drop)]
+#[derive(Drop)]
 pub struct InterfaceFieldForm {
     pub ty: TypeRef,
     pub args: Items<ArgumentForm>,
 }
 
 /// A field of an input object, behind its name.
-#[derive(Debug, Drop)]
+#[derive(Drop)]
 pub struct InputFieldForm {
     pub ty: TypeRef,
     pub default: Option<Value>,
 }
 
 /// A field of the subscription, behind its name.
-#[derive(Debug, Drop)]
+#[derive(Drop)]
 pub struct SubscriptionFieldForm {
     pub ty: TypeRef,
     pub args: Items<ArgumentForm>,

@@ -10,7 +10,7 @@ use http_header::{HeaderName, HeaderNameError, HeaderValue, HeaderValueError};
 use serde_json::Value as Json;
 
 /// What is done to a header.
-#[derive(Clone, Copy, PartialEq, Eq, Debug)]
+#[derive(Clone, Copy, PartialEq, Eq)]
 pub(crate) enum HeaderWord {
     Insert,
     Append,

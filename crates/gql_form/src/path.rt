@@ -11,7 +11,7 @@ use gql_base::{Items, Name, is_name};
 use serde_json::Value as Json;
 
 /// A path into the arguments of a field.
-#[derive(Debug, Drop)]
+#[derive(Drop)]
 pub struct Path {
     /// The names, from outside.
     pub names: Items<Name>,

@@ -12,13 +12,13 @@ use gql_base::{Items, Name, Text};
 use serde_json::Value as Json;
 
 /// The number of a cell, below the number of the bench's cells.
-#[derive(Clone, Copy, PartialEq, Eq, Debug)]
+#[derive(Clone, Copy, PartialEq, Eq)]
 pub struct Cell {
     pub place: u64,
 }
 
 /// How a field is answered.
-#[derive(Debug, Drop)]
+#[derive(Drop)]
 pub enum RuleForm {
     /// By this.
     Const(Answered),

@@ -10,7 +10,7 @@ use gql_schema::ScalarRule;
 use serde_json::Value as Json;
 
 /// The two ends of a range.
-#[derive(Clone, Copy, PartialEq, Eq, Debug)]
+#[derive(Clone, Copy, PartialEq, Eq)]
 pub(crate) struct Between {
     low: i64,
     high: i64,

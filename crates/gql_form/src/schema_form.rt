@@ -8,7 +8,7 @@ use gql_request::IntrospectionMode;
 use serde_json::Value as Json;
 
 /// The schema of a bench.
-#[derive(Debug, Drop)]
+#[derive(Drop)]
 pub struct SchemaForm {
     pub query: Text,
     pub mutation: Option<Text>,
@@ -18,7 +18,7 @@ pub struct SchemaForm {
 }
 
 /// The limits of requests, and what the schema answers of itself.
-#[derive(Clone, Copy, PartialEq, Eq, Debug)]
+#[derive(Clone, Copy, PartialEq, Eq)]
 pub struct Settings {
     /// How deep sets may nest, if the bench says so.
     pub depth: Option<Depth>,
@@ -31,9 +31,9 @@ pub struct Settings {
 }
 
 /// How many levels of sets a request may have.
-#[derive(Clone, Copy, PartialEq, Eq, Debug)]
+#[derive(Clone, Copy, PartialEq, Eq)]
 pub struct Depth {
-    pub levels: u64,
+    pub levels: u16,
 }
 
 impl Depth {
@@ -48,7 +48,9 @@ impl Form for Depth {
 
     fn read(reader: Reader, json: &Json) -> Result<Depth, Fault> {
         let levels = read_count_within(reader, json, Depth::DEEPEST)?;
-        Ok(Depth { levels })
+        Ok(Depth {
+            levels: levels as u16,
+        })
     }
 }
 

@@ -7,7 +7,7 @@ use serde_json::Value as Json;
 use std::str::FromStr;
 
 /// A WebSocket session, with the script of its client.
-#[derive(Debug, Drop)]
+#[derive(Drop)]
 pub struct SessionForm {
     pub protocol: Protocols,
     /// How long the client may be silent, in milliseconds.
@@ -16,7 +16,7 @@ pub struct SessionForm {
 }
 
 /// A moment at which the session is polled.
-#[derive(Debug, Drop)]
+#[derive(Drop)]
 pub struct EntryForm {
     /// The moment, in milliseconds.
     pub at: u64,

@@ -10,7 +10,7 @@ use gql_base::{Items, Value};
 use serde_json::Value as Json;
 
 /// What a bench has for every command: its schema, and what runs over it start with.
-#[derive(Debug, Drop)]
+#[derive(Drop)]
 pub struct SetupForm {
     pub schema: SchemaForm,
     pub cells: Items<i64>,
@@ -21,7 +21,7 @@ pub struct SetupForm {
 }
 
 /// The hooks of a bench.
-#[derive(Clone, Copy, PartialEq, Eq, Debug)]
+#[derive(Clone, Copy, PartialEq, Eq)]
 pub enum HooksForm {
     None,
     /// Each stage is logged.

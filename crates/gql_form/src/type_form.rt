@@ -11,7 +11,7 @@ use gql_base::{Items, Name, Pairs, Text};
 use gql_schema::ScalarRule;
 use serde_json::Value as Json;
 
-#[derive(Debug, Drop)]
+#[derive(Drop)]
 pub struct ObjectForm {
     pub name: Name,
     pub interfaces: Items<Name>,
@@ -20,46 +20,46 @@ pub struct ObjectForm {
     pub fields: Pairs<FieldForm>,
 }
 
-#[derive(Debug, Drop)]
+#[derive(Drop)]
 pub struct InterfaceForm {
     pub name: Name,
     pub fields: Pairs<InterfaceFieldForm>,
 }
 
-#[derive(Debug, Drop)]
+#[derive(Drop)]
 pub struct UnionForm {
     pub name: Name,
     pub members: Items<Name>,
 }
 
-#[derive(Debug, Drop)]
+#[derive(Drop)]
 pub struct EnumTypeForm {
     pub name: Name,
     pub items: Items<Name>,
 }
 
-#[derive(Debug, Drop)]
+#[derive(Drop)]
 pub struct InputForm {
     pub name: Name,
     pub oneof: bool,
     pub fields: Pairs<InputFieldForm>,
 }
 
-#[derive(Debug, Drop)]
+#[derive(Drop)]
 pub struct ScalarForm {
     pub name: Name,
     /// Without a rule every value is taken.
     pub rule: Option<ScalarRule>,
 }
 
-#[derive(Debug, Drop)]
+#[derive(Drop)]
 pub struct SubscriptionForm {
     pub name: Name,
     pub fields: Pairs<SubscriptionFieldForm>,
 }
 
 /// A type of a bench.
-#[derive(Debug, Drop)]
+#[derive(Drop)]
 pub enum TypeForm {
     Object(ObjectForm),
     Interface(InterfaceForm),
@@ -71,7 +71,7 @@ pub enum TypeForm {
 }
 
 /// What a type is.
-#[derive(Clone, Copy, PartialEq, Eq, Debug)]
+#[derive(Clone, Copy, PartialEq, Eq)]
 pub(crate) enum TypeKind {
     Object,
     Interface,

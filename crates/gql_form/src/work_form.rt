@@ -16,7 +16,7 @@ use gql_request::{BatchRequest, ParseRequestError, Request};
 use serde_json::Value as Json;
 
 /// What a command does with a bench.
-#[derive(Debug, Drop)]
+#[derive(Drop)]
 pub enum WorkForm {
     /// It answers a request.
     One(Request),

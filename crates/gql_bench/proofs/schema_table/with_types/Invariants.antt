@@ -1,5 +1,5 @@
 use Rattle.std.proofs.Common.{◌≡◌, drop}
-use Rattle.gql_exec.specs.Builder.{settings_of, table_of}
+use Rattle.gql_settings.specs.Builder.{settings_of, table_of}
 use Rattle.gql_bench.specs.SchemaTable.{first_numbers, registered}
 use Rattle.gql_bench.proofs.schema_table.with_types.Given as goal
 

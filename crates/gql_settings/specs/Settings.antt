@@ -3,8 +3,8 @@ use Rattle.std.specs.Prelude.{ℕ, Bool, true, false, ◌&&◌, not, List, [], O
 use Rattle.std.specs.Prelude.{if◌then◌else◌}
 use Rattle.gql_doc.specs.declared.document.OperationType.{OperationType}
 use Rattle.gql_doc.specs.declared.document.OperationType.TheVariants as kinds
-use Rattle.gql_exec.specs.Limits.{default_depth}
-use Rattle.gql_exec.specs.declared.settings.Settings.{Settings}
+use Rattle.gql_settings.specs.Limits.{default_depth}
+use Rattle.gql_settings.specs.declared.settings.Settings.{Settings}
 use Rattle.gql_request.specs.declared.query_env.IntrospectionMode.{IntrospectionMode}
 use Rattle.gql_request.specs.declared.query_env.IntrospectionMode.TheVariants as modes
 

@@ -31,7 +31,7 @@ pub struct Settings {
 impl Settings {
     ghost use Rattle.std.specs.Prelude.{◌≡◌, IfOk};
     ghost use Rattle.std.specs.Option.{option_copied};
-    ghost use Rattle.gql_exec.specs.Settings.{new_settings};
+    ghost use Rattle.gql_settings.specs.Settings.{new_settings};
 
     /// The settings of a new builder.
     pub(crate) fn new(

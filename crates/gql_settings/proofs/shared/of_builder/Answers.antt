@@ -1,7 +1,7 @@
 use denote.Exit.{yes}
 use denote.Param.Send.{param_send, param_sync, arg_send, arg_sync}
-use Rattle.gql_exec.proofs.SendLemmas.{builder_send, builder_sync}
-use Rattle.gql_exec.proofs.shared.of_builder.Goals as goal
+use Rattle.gql_settings.proofs.SendLemmas.{builder_send, builder_sync}
+use Rattle.gql_settings.proofs.shared.of_builder.Goals as goal
 
 pub shared-requires-send-T : goal.shared-requires-send-T
 shared-requires-send-T c κs = param_send _ _ (arg_send _ yes _ builder_send)

@@ -1,0 +1,4 @@
+pub mod Builder
+pub mod Federation
+pub mod Limits
+pub mod Settings
