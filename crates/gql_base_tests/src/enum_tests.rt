@@ -9,7 +9,7 @@ use std::alloc::Global;
 use std::test::Fail;
 
 /// Two colours.
-#[derive(Clone, Copy, PartialEq, Eq, Debug)]
+#[derive(Clone, Copy, PartialEq, Eq)]
 pub(crate) enum Colour {
     Red,
     Green,

@@ -16,17 +16,26 @@ fn extensions(alloc: Global) -> Made<ErrorExtensionValues> {
     Ok(values)
 }
 
+/// The JSON text of the extensions.
+fn extensions_text(alloc: Global) -> Made<Text> {
+    let values = extensions(alloc)?;
+    let mut out = String::new(alloc);
+    push_extension_values(&mut out, &values)?;
+    Ok(Text::from_string(out))
+}
+
+/// Whether the extension b alone is left.
+fn is_left(values: &ErrorExtensionValues) -> bool {
+    values.len() == 1 && values.at(0).0 == "b" && values.get("a").is_none()
+}
+
 #[test]
 fn extension_values(rt: HostRuntime) -> Result<(), Fail> {
+    assert!(rt; extensions_text(rt.alloc())?.as_str() == r#"{"a":true,"b":2}"#);
     let mut values = extensions(rt.alloc())?;
-    let mut out = String::new(rt.alloc());
-    push_extension_values(&mut out, &values)?;
-    assert!(rt; out.as_str() == r#"{"a":true,"b":2}"#);
     values.unset("c");
     values.unset("a");
-    assert!(rt; values.len() == 1);
-    assert!(rt; values.at(0).0 == "b");
-    assert!(rt; values.get("a").is_none());
+    assert!(rt; is_left(&values));
     Ok(())
 }
 

@@ -148,23 +148,24 @@ fn parts_of_json(rt: HostRuntime) -> Result<(), Fail> {
     Ok(())
 }
 
-/// Appends the text of a type and a blank.
-fn push_one(out: &mut String, ty: TypeRef) -> Made<()> {
-    push_type(out, &ty)?;
-    out.push(' ')
+/// Whether a type is written so.
+fn is_written(alloc: Global, ty: TypeRef, text: &str) -> Made<bool> {
+    let mut out = String::new(alloc);
+    push_type(&mut out, &ty)?;
+    Ok(out.as_str() == text)
 }
 
 #[test]
 fn types(rt: HostRuntime) -> Result<(), Fail> {
     let alloc = rt.alloc();
-    let mut out = String::new(alloc);
-    push_one(&mut out, TypeRef::named(alloc, TypeRef::INT)?)?;
-    push_one(&mut out, TypeRef::named_nn(alloc, TypeRef::ID)?)?;
-    push_one(&mut out, TypeRef::named_list(alloc, TypeRef::STRING)?)?;
-    push_one(&mut out, TypeRef::named_list_nn(alloc, TypeRef::BOOLEAN)?)?;
-    push_one(&mut out, TypeRef::named_nn_list(alloc, "A")?)?;
-    push_one(&mut out, TypeRef::named_nn_list_nn(alloc, "B")?)?;
-    assert_eq!(rt; out.as_str(), "Int ID! [String] [Boolean]! [A!] [B!]! ");
+    assert!(rt; is_written(alloc, TypeRef::named(alloc, TypeRef::INT)?, "Int")?);
+    assert!(rt; is_written(alloc, TypeRef::named_nn(alloc, TypeRef::ID)?, "ID!")?);
+    let texts = TypeRef::named_list(alloc, TypeRef::STRING)?;
+    assert!(rt; is_written(alloc, texts, "[String]")?);
+    let truths = TypeRef::named_list_nn(alloc, TypeRef::BOOLEAN)?;
+    assert!(rt; is_written(alloc, truths, "[Boolean]!")?);
+    assert!(rt; is_written(alloc, TypeRef::named_nn_list(alloc, "A")?, "[A!]")?);
+    assert!(rt; is_written(alloc, TypeRef::named_nn_list_nn(alloc, "B")?, "[B!]!")?);
     Ok(())
 }
 

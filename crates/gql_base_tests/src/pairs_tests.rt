@@ -1,6 +1,7 @@
 //! Tests of names and pairs past the few that are searched in order, and of what is lent to be
 //! changed.
-use gql_base::{Copied, Items, Made, Name, Names, Pairs, Value, Variables};
+use crate::tests::copies;
+use gql_base::{Items, Made, Name, Names, Pairs, Value, Variables};
 use std::alloc::Global;
 use std::test::Fail;
 
@@ -26,15 +27,20 @@ fn ten(alloc: Global) -> Made<Pairs<i64>> {
     Ok(pairs)
 }
 
-#[test]
-fn ten_pairs(rt: HostRuntime) -> Result<(), Fail> {
-    let alloc = rt.alloc();
+/// Ten numbers, of which one was set anew where there was room for more.
+fn ten_again(alloc: Global) -> Made<Pairs<i64>> {
     let mut pairs = ten(alloc)?;
     pairs.reserve(3)?;
     pairs.add(Name::new(alloc, "c")?, 30)?;
+    Ok(pairs)
+}
+
+#[test]
+fn ten_pairs(rt: HostRuntime) -> Result<(), Fail> {
+    let pairs = ten_again(rt.alloc())?;
     assert!(rt; !pairs.is_empty());
-    assert_eq!(rt; pairs.get("c").copied(), Some(30));
-    assert!(rt; pairs.try_clone(alloc)? == pairs);
+    assert!(rt; pairs.get("c").copied() == Some(30));
+    assert!(rt; copies(rt.alloc(), &pairs)?);
     Ok(())
 }
 
@@ -47,11 +53,9 @@ fn parts(rt: HostRuntime) -> Result<(), Fail> {
     let alloc = rt.alloc();
     let (mut names, numbers) = ten_names(alloc)?;
     names.reserve(1)?;
-    assert!(rt; numbers.len() == 10);
-    assert!(rt; names.len() == 10);
-    assert!(rt; names.at(9) == "j");
+    assert!(rt; numbers.len() == 10 && names.len() == 10 && names.at(9) == "j");
     assert!(rt; names.place_of("j") == Some(9));
-    assert!(rt; names.try_clone(alloc)? == names);
+    assert!(rt; copies(alloc, &names)?);
     Ok(())
 }
 

@@ -48,21 +48,39 @@ fn names(rt: HostRuntime) -> Result<(), Fail> {
     Ok(())
 }
 
+/// The numbers 5, 8 and 7, of which the second was another.
+fn numbers(alloc: Global) -> Made<Items<i64>> {
+    let mut items = Items::new(alloc);
+    items.push(5)?;
+    items.append(Items::from_slice(alloc, &[6, 7])?)?;
+    items.set(1, 8);
+    Ok(items)
+}
+
+/// Whether a list has these numbers, by each of its readers.
+fn has_numbers(items: &Items<i64>, numbers: &[i64]) -> bool {
+    items.len() == numbers.len()
+        && items.as_slice() == numbers
+        && items.get(1).copied() == numbers.get(1).copied()
+}
+
+/// Whether the last number is taken off a list, and two are left.
+fn leaves_two(alloc: Global) -> Made<bool> {
+    let mut items = numbers(alloc)?;
+    let last = items.pop();
+    let two = Items::from_vec(vec![in alloc; 5, 8]?);
+    Ok(last == Some(7) && items == two)
+}
+
 #[test]
 fn lists(rt: HostRuntime) -> Result<(), Fail> {
     let alloc = rt.alloc();
-    let mut items = Items::new(alloc);
-    assert!(rt; items.is_empty());
-    items.push(5)?;
-    items.append(Items::from_slice(alloc, &[6, 7])?)?;
-    assert!(rt; items.len() == 3);
-    items.set(1, 8);
-    assert!(rt; items.as_slice() == [5, 8, 7].as_slice());
-    assert!(rt; items.get(1).copied() == Some(8));
-    assert!(rt; items.pop() == Some(7));
-    assert!(rt; items == Items::from_vec(vec![in alloc; 5, 8]?));
+    assert!(rt; Items::<i64>::new(alloc).is_empty());
+    assert!(rt; leaves_two(alloc)?);
+    let items = numbers(alloc)?;
+    assert!(rt; has_numbers(&items, &[5, 8, 7]));
     assert!(rt; copies::<Items<i64>>(alloc, &items)?);
-    assert!(rt; items.into_vec().as_slice() == [5, 8].as_slice());
+    assert!(rt; items.into_vec().as_slice() == [5, 8, 7].as_slice());
     Ok(())
 }
 
@@ -83,16 +101,23 @@ fn inserted(alloc: Global, pairs: &mut Pairs<i64>, name: &str, value: i64) -> Ma
     pairs.insert(Name::new(alloc, name)?, value)
 }
 
+/// Whether pairs begin with the number 3 under the name b, and one more stands behind it.
+fn begin_with_three(pairs: &Pairs<i64>) -> bool {
+    pairs.len() == 2 && pairs.at(0).0 == "b" && *pairs.at(0).1 == 3
+}
+
+/// Whether a number takes the place of another under its name.
+fn takes_its_place(alloc: Global) -> Made<bool> {
+    let mut pairs = Pairs::new(alloc);
+    let first = inserted(alloc, &mut pairs, "b", 1)?;
+    pairs.add(Name::new(alloc, "a")?, 2)?;
+    let second = inserted(alloc, &mut pairs, "b", 3)?;
+    Ok(first == None && second == Some(1) && begin_with_three(&pairs))
+}
+
 #[test]
 fn pairs(rt: HostRuntime) -> Result<(), Fail> {
-    let alloc = rt.alloc();
-    let mut pairs = Pairs::new(alloc);
-    assert!(rt; inserted(alloc, &mut pairs, "b", 1)? == None);
-    pairs.add(Name::new(alloc, "a")?, 2)?;
-    assert!(rt; inserted(alloc, &mut pairs, "b", 3)? == Some(1));
-    assert!(rt; pairs.len() == 2);
-    assert!(rt; pairs.at(0).0 == "b");
-    assert!(rt; *pairs.at(0).1 == 3);
+    assert!(rt; takes_its_place(rt.alloc())?);
     Ok(())
 }
 
