@@ -1,0 +1,5 @@
+mod KeptRows
+mod ListedRows
+mod PieceRows
+mod SendLemmas
+mod StoreRows

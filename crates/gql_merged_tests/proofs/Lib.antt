@@ -1,4 +1,0 @@
-mod KeptRows
-mod ListedRows
-mod PieceRows
-mod StoreRows
