@@ -1,13 +1,10 @@
-//! Tests of `gql_cli`: the program.
+//! Tests of `gql_cli` whose runs are no lines of the stored cases of `gql_cases`: inputs that a test
+//! makes, faults in mid-stream, and pipes.
 #![tactic(auto)]
 
 #[cfg(test)]
-mod record_tests;
+mod input_tests;
 #[cfg(test)]
 mod runs;
 #[cfg(test)]
-mod schema_tests;
-#[cfg(test)]
-mod shape_tests;
-#[cfg(test)]
-mod tests;
+mod stream_tests;
