@@ -2,13 +2,11 @@
 #![tactic(auto)]
 
 #[cfg(test)]
-mod calls_tests;
+mod schema_fit_tests;
 #[cfg(test)]
-mod fits_tests;
+mod schema_sample;
+mod schema_shared;
 #[cfg(test)]
-mod named_tests;
+mod schema_table_tests;
 #[cfg(test)]
-mod sample;
-mod shared;
-#[cfg(test)]
-mod tests;
+mod schema_type_tests;

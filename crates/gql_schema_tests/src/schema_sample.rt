@@ -1,5 +1,5 @@
 //! A type of each kind, and a table of them.
-use gql_base::{Items, Made, Name, Number, Text, TypeRef, Value};
+use gql_base::{Items, Made, Number, Text, TypeRef, Value};
 use gql_schema::{
     Enum, Field, InputObject, InputValue, Interface, InterfaceField, Object, Scalar, ScalarRule,
     SchemaType, Subscription, SubscriptionField, Types, Union,
@@ -11,25 +11,23 @@ fn int_type(alloc: Global) -> Made<TypeRef> {
 }
 
 /// The argument `a: Int = 3`.
-pub(crate) fn argument(alloc: Global) -> Made<InputValue> {
-    let name = Name::new(alloc, "a")?;
-    let argument = InputValue::with_name(name, int_type(alloc)?);
+fn argument(alloc: Global) -> Made<InputValue> {
+    let argument = InputValue::new(alloc, "a", int_type(alloc)?)?;
     Ok(argument.default_value(Value::Number(Number::from_i64(3))))
 }
 
 /// The field `f: Int` of the resolver 7, with an argument.
-pub(crate) fn field(alloc: Global, argument: InputValue) -> Made<Field> {
-    let ty = int_type(alloc)?;
-    Field::with_name(alloc, Name::new(alloc, "f")?, ty, 7).argument(alloc, argument)
+fn field(alloc: Global, argument: InputValue) -> Made<Field> {
+    Field::new(alloc, "f", int_type(alloc)?, 7)?.argument(alloc, argument)
 }
 
 /// The object `O` with a field.
 fn object_with(alloc: Global, field: Field) -> Made<Object> {
-    Object::with_name(alloc, Name::new(alloc, "O")?).field(alloc, field)
+    Object::new(alloc, "O")?.field(alloc, field)
 }
 
 /// The object `O` with the field `f`, which implements `I` and has a key.
-pub(crate) fn object(alloc: Global) -> Made<Object> {
+fn object(alloc: Global) -> Made<Object> {
     let field = field(alloc, argument(alloc)?)?;
     object_with(alloc, field)?
         .implement(alloc, "I")?
@@ -37,58 +35,49 @@ pub(crate) fn object(alloc: Global) -> Made<Object> {
 }
 
 /// The field `f: Int` of an interface, with an argument.
-pub(crate) fn interface_field(alloc: Global, argument: InputValue) -> Made<InterfaceField> {
-    let ty = int_type(alloc)?;
-    InterfaceField::with_name(alloc, Name::new(alloc, "f")?, ty).argument(alloc, argument)
+fn interface_field(alloc: Global, argument: InputValue) -> Made<InterfaceField> {
+    InterfaceField::new(alloc, "f", int_type(alloc)?)?.argument(alloc, argument)
 }
 
 /// The interface `I` with the field `f`.
-pub(crate) fn interface(alloc: Global) -> Made<Interface> {
+fn interface(alloc: Global) -> Made<Interface> {
     let field = interface_field(alloc, argument(alloc)?)?;
-    Interface::with_name(alloc, Name::new(alloc, "I")?).field(alloc, field)
+    Interface::new(alloc, "I")?.field(alloc, field)
 }
 
 /// The field `f: Int` of the source 9, with an argument.
-pub(crate) fn subscription_field(alloc: Global, argument: InputValue) -> Made<SubscriptionField> {
-    let ty = int_type(alloc)?;
-    SubscriptionField::with_name(alloc, Name::new(alloc, "f")?, ty, 9).argument(alloc, argument)
+fn subscription_field(alloc: Global, argument: InputValue) -> Made<SubscriptionField> {
+    SubscriptionField::new(alloc, "f", int_type(alloc)?, 9)?.argument(alloc, argument)
 }
 
 /// The subscription `S` with the field `f`.
-pub(crate) fn subscription(alloc: Global) -> Made<Subscription> {
+fn subscription(alloc: Global) -> Made<Subscription> {
     let field = subscription_field(alloc, argument(alloc)?)?;
-    Subscription::with_name(alloc, Name::new(alloc, "S")?).field(alloc, field)
+    Subscription::new(alloc, "S")?.field(alloc, field)
 }
 
 /// The oneof input object `In` with the field `a`.
-pub(crate) fn input_object(alloc: Global) -> Made<InputObject> {
+fn input_object(alloc: Global) -> Made<InputObject> {
     let field = InputValue::new(alloc, "a", int_type(alloc)?)?;
-    let input = InputObject::with_name(alloc, Name::new(alloc, "In")?).field(alloc, field)?;
+    let input = InputObject::new(alloc, "In")?.field(alloc, field)?;
     Ok(input.oneof())
 }
 
 /// The enum `E` of the items `A` and `B`.
-pub(crate) fn enum_type(alloc: Global) -> Made<Enum> {
-    Enum::with_name(alloc, Name::new(alloc, "E")?)
-        .item(alloc, "A")?
-        .item(alloc, "B")
+fn enum_type(alloc: Global) -> Made<Enum> {
+    Enum::new(alloc, "E")?.item(alloc, "A")?.item(alloc, "B")
 }
 
-pub(crate) fn union_type(alloc: Global) -> Made<Union> {
-    Union::with_name(alloc, Name::new(alloc, "U")?).possible_type(alloc, "O")
+/// The union `U` of the member `O`.
+fn union_type(alloc: Global) -> Made<Union> {
+    Union::new(alloc, "U")?.possible_type(alloc, "O")
 }
 
 /// The scalar `D`, which takes the text `x` alone.
-pub(crate) fn scalar(alloc: Global) -> Made<Scalar> {
-    let scalar = Scalar::with_name(Name::new(alloc, "D")?);
-    let texts = one_text(alloc)?;
-    Ok(scalar.rule(ScalarRule::OneOf(texts)))
-}
-
-fn one_text(alloc: Global) -> Made<Items<Text>> {
+fn scalar(alloc: Global) -> Made<Scalar> {
     let mut texts = Items::new(alloc);
     texts.push(Text::new(alloc, "x")?)?;
-    Ok(texts)
+    Ok(Scalar::new(alloc, "D")?.rule(ScalarRule::OneOf(texts)))
 }
 
 /// The kinds of types.
@@ -118,7 +107,7 @@ fn type_of(alloc: Global, kind: Kind) -> Made<SchemaType> {
 /// A table with a type of each kind.
 pub(crate) fn table(alloc: Global) -> Made<Types> {
     let mut types = Types::new(alloc);
-    for kind in [
+    for kind in &[
         Kind::Object,
         Kind::Interface,
         Kind::Subscription,
@@ -127,7 +116,7 @@ pub(crate) fn table(alloc: Global) -> Made<Types> {
         Kind::Union,
         Kind::Scalar,
     ] {
-        types.register(alloc, type_of(alloc, kind)?)?;
+        types.register(alloc, type_of(alloc, *kind)?)?;
     }
     Ok(types)
 }

@@ -1,5 +1,5 @@
 //! What a resolver's context borrows, for tests: a field and an operation without selections, a
-//! parent, and arguments.
+//! parent, and no arguments.
 ghost use Rattle.std.specs.Prelude.{◌≡◌, ◌<◌, [], IfOk, length};
 ghost use Rattle.std.proofs.Props.{props};
 ghost use Rattle.gql_doc.specs.Depth.{selections_of};
@@ -26,9 +26,9 @@ pub struct Parts {
 }
 
 impl Parts {
-    /// Parts for a query, of a field under this parent with these arguments.
+    /// Parts for a query, of a field under this parent.
     #[tactic(auto, using(gql_request::proofs::NestLemmas::empty_nests))]
-    pub fn new(alloc: Global, parent: Value, arguments: Pairs<Value>) -> Made<Parts> {
+    pub fn new(alloc: Global, parent: Value) -> Made<Parts> {
         let env = environment(alloc);
         let item = field(alloc)?;
         let segments = path(alloc)?;
@@ -36,7 +36,7 @@ impl Parts {
             item,
             env,
             parent: FieldValue::value(parent),
-            arguments,
+            arguments: Pairs::new(alloc),
             data: Data::new(alloc),
             segments,
         })

@@ -1,7 +1,7 @@
 use denote.Exit.{yes}
 use denote.Param.Send.{param_send, param_sync, arg_send, arg_sync}
-use Rattle.gql_form_tests.proofs.SendLemmas.{bench_send, bench_sync}
-use Rattle.gql_form_tests.proofs.shared.of_bench_form.Goals as goal
+use Rattle.gql_top_tests.proofs.SendLemmas.{bench_send, bench_sync}
+use Rattle.gql_top_tests.proofs.shared.of_bench_form.Goals as goal
 
 pub shared-requires-send-T : goal.shared-requires-send-T
 shared-requires-send-T c κs = param_send _ _ (arg_send _ yes _ bench_send)

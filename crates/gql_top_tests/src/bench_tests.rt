@@ -21,12 +21,12 @@ fn bench_in(alloc: Global, command: Command, json: Json) -> Made<Option<Bench>> 
 }
 
 /// A bench with all members but a session.
-const WHOLE: &str = "{\"schema\":{\"query\":\"Q\",\"types\":[\
-{\"kind\":\"object\",\"name\":\"Q\",\"fields\":[\
-{\"name\":\"f\",\"type\":\"Int\",\"answer\":{\"const\":1,\"delay\":3}}]},\
-{\"kind\":\"subscription\",\"name\":\"S\",\"fields\":[\
-{\"name\":\"s\",\"type\":\"Int\",\"events\":[{\"value\":1},{\"delay\":2,\"fail\":\"e\"}]}]}]},\
-\"cells\":[4],\"root\":{\"$own\":6},\"turns\":[7,0],\"hooks\":\"log\",\"request\":{}}";
+const WHOLE: &str = r#"{"schema":{"query":"Q","types":[
+{"kind":"object","name":"Q","fields":[
+{"name":"f","type":"Int","answer":{"const":1,"delay":3}}]},
+{"kind":"subscription","name":"S","fields":[
+{"name":"s","type":"Int","events":[{"value":1},{"delay":2,"fail":"e"}]}]}]},
+"cells":[4],"root":{"$own":6},"turns":[7,0],"hooks":"log","request":{}}"#;
 
 /// Whether a bench has one rule with a delay of 3, and one source of two events.
 fn has_rule_and_source(bench: &Bench) -> bool {
@@ -43,14 +43,16 @@ fn has_request(bench: &Bench) -> bool {
 #[test]
 fn the_members_of_a_bench(rt: HostRuntime) -> Result<(), Fail> {
     let made = bench(rt.alloc(), Command::Execute, WHOLE)?.ok_or("no bench")?;
-    assert!(rt; has_rule_and_source(&made));
-    assert!(rt; has_request(&made));
+    assert!(rt; has_rule_and_source(&made) && has_request(&made));
     Ok(())
 }
 
 /// A session: its bench has no request.
-const SESSION: &str = "{\"schema\":{\"query\":\"Q\",\"types\":[]},\
-\"ws\":{\"protocol\":\"graphql-ws\",\"script\":[]}}";
+const SESSION: &str = r#"{"schema":{"query":"Q","types":[]},
+"ws":{"protocol":"graphql-ws","script":[]}}"#;
+
+/// A batch of one request.
+const BATCH: &str = r#"{"schema":{"query":"Q","types":[]},"requests":[{}]}"#;
 
 /// Whether the bench of a text is built, where it is one.
 fn is_built(alloc: Global, command: Command, text: &str) -> Made<Option<bool>> {
@@ -62,8 +64,7 @@ fn is_built(alloc: Global, command: Command, text: &str) -> Made<Option<bool>> {
 
 #[test]
 fn which_benches_are_built(rt: HostRuntime) -> Result<(), Fail> {
-    assert_eq!(rt; is_built(rt.alloc(), Command::Ws, SESSION)?, Some(false));
-    let batch = "{\"schema\":{\"query\":\"Q\",\"types\":[]},\"requests\":[{}]}";
-    assert_eq!(rt; is_built(rt.alloc(), Command::Batch, batch)?, Some(true));
+    assert!(rt; is_built(rt.alloc(), Command::Ws, SESSION)? == Some(false));
+    assert!(rt; is_built(rt.alloc(), Command::Batch, BATCH)? == Some(true));
     Ok(())
 }
