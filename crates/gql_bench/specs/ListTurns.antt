@@ -1,6 +1,6 @@
 -- Turns by a list of numbers, and the place of the next one.
 use Rattle.std.specs.Prelude.{ℕ, suc, ◌%◌, List, Option, Some, None, slice_get}
-use Rattle.gql_engine.specs.Record.{Choice}
+use Rattle.gql_tasks.specs.Record.{Choice}
 
 abbrev pub chosen_by : Option ℕ → ℕ → ℕ
 chosen_by None n = 0

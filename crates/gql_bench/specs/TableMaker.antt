@@ -1,6 +1,6 @@
 -- How a resolver set serves that is made for a bench.
 use Rattle.std.specs.Prelude.{◌≡◌, ℕ, ℤ, List}
-use Rattle.gql_engine.specs.Phases.{Serving}
+use Rattle.gql_tasks.specs.Phases.{Serving}
 use Rattle.gql_resolve.specs.Call.{Call}
 use Rattle.gql_bench.specs.Table.{table_answer, table_delay, table_effect}
 use Rattle.gql_bench.specs.declared.rule.Rule.{Rule}

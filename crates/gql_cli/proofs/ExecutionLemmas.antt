@@ -9,12 +9,12 @@ use Rattle.gql_bench.specs.declared.bench.Bench.{Bench}
 use Rattle.gql_bench.specs.declared.list_turns.ListTurns.{ListTurns}
 use Rattle.gql_admit.specs.Prepared.{Prepared}
 use Rattle.gql_cli.specs.Execution.{answers_of, bench_serving, Between, cells_by, ComesOf, ExecutedInOrder, GoesOn, IsExecuted, IsRecord, IsRecordAtOnce, IsRecordInTurn, none_told, place_in, RecordBy, story}
-use Rattle.gql_engine.specs.Pace.{EachPaced}
-use Rattle.gql_engine.specs.Parts.{due_by}
-use Rattle.gql_engine.specs.Phases.{IsPhase, Phases, RunsInTurn, Serving, after_root, serving_by, story_in}
-use Rattle.gql_engine.specs.Progress.{RunsWhole, Seen, stage_of, story_of}
-use Rattle.gql_engine.specs.Record.{Choice, Made, Stage, Story, Turned, fresh, made_at, state_at, waiting}
-use Rattle.gql_engine.specs.declared.scene.Scene.{Scene}
+use Rattle.gql_tasks.specs.Pace.{EachPaced}
+use Rattle.gql_tasks.specs.Parts.{due_by}
+use Rattle.gql_tasks.specs.Phases.{IsPhase, Phases, RunsInTurn, Serving, after_root, serving_by, story_in}
+use Rattle.gql_tasks.specs.Progress.{RunsWhole, Seen, stage_of, story_of}
+use Rattle.gql_tasks.specs.Record.{Choice, Made, Stage, Story, Turned, fresh, made_at, state_at, waiting}
+use Rattle.gql_merged.specs.declared.scene.Scene.{Scene}
 use Rattle.gql_exec.specs.Batch.{ExecutesAll, ExecutesOne}
 use Rattle.gql_exec.specs.Execution.{Ask, asks, ComesOf as Came, Executes, GoesOn as Went, mutates, place_by, RanBy, Runs, world_by}
 use Rattle.gql_exec.specs.PlaceResponse.{response_at}

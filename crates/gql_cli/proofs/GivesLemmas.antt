@@ -19,7 +19,7 @@ use Rattle.gql_cli.specs.declared.answer.Answer.TheVariants as answer
 use Rattle.gql_cli.specs.declared.command.Command.{Command}
 use Rattle.gql_cli.specs.declared.outcome.Outcome.{Outcome}
 use Rattle.gql_cli.specs.declared.outcome.Outcome.TheVariants.{Answered, BadSchema, BadShape, HasErrors, Loaded, NotBuilt, NotJson, ReadFault, TooLong, Usage}
-use Rattle.gql_engine.specs.Progress.{Seen}
+use Rattle.gql_tasks.specs.Progress.{Seen}
 use Rattle.gql_exec.specs.Batch.{ExecutesAll}
 use Rattle.gql_exec.specs.Builder.{IsSchemaOf}
 use Rattle.gql_exec.specs.declared.schema.Schema.{Schema}

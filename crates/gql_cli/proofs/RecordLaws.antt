@@ -3,10 +3,10 @@ use Rattle.std.proofs.Common.{◌≡◌, ◌⊎◌, ℕ, zero, suc, ◌<◌, ◌
 use Rattle.std.proofs.lemmas.List.{append_cancel_left}
 use Rattle.std.proofs.lemmas.Bool.{cases_order}
 use Rattle.std.proofs.lemmas.Option.{slice_get_within}
-use Rattle.gql_engine.specs.Arena.{Subject}
-use Rattle.gql_engine.specs.Pace.{EachPaced, pending_then_ready, told_of}
-use Rattle.gql_engine.specs.Phases.{after_root, IsPhase, PacedSince, Phases, Serving, story_in}
-use Rattle.gql_engine.specs.Record.{Choice, Made, NamesTask, Stage, Story, Turned, after_entry, after_mark, beneath_of, fresh, made_at, state_at, waiting}
+use Rattle.gql_tasks.specs.Arena.{Subject}
+use Rattle.gql_tasks.specs.Pace.{EachPaced, pending_then_ready, told_of}
+use Rattle.gql_tasks.specs.Phases.{after_root, IsPhase, PacedSince, Phases, Serving, story_in}
+use Rattle.gql_tasks.specs.Record.{Choice, Made, NamesTask, Stage, Story, Turned, after_entry, after_mark, beneath_of, fresh, made_at, state_at, waiting}
 use Rattle.gql_resolve.specs.declared.record_entry.RecordEntry.{RecordEntry}
 
 module _ {A : Type 0} where

@@ -5,7 +5,7 @@ use Rattle.gql_cli.specs.Execution.{ExecutedInOrder, first_of}
 use Rattle.gql_cli.specs.Request.{AreAlike, requests_for, rooted_with}
 use Rattle.gql_cli.specs.declared.answer.Answer.{Answer}
 use Rattle.gql_cli.specs.declared.answer.Answer.TheVariants as answer
-use Rattle.gql_engine.specs.Progress.{Seen}
+use Rattle.gql_tasks.specs.Progress.{Seen}
 use Rattle.gql_exec.specs.Batch.{ExecutesAll}
 use Rattle.gql_exec.specs.Builder.{IsSchemaOf, whole_table}
 use Rattle.gql_settings.specs.declared.builder.SchemaBuilder.{SchemaBuilder}

@@ -6,11 +6,11 @@ use Rattle.gql_admit.specs.Prepared.{Prepared}
 use Rattle.gql_bench.specs.ListTurns.{list_turns}
 use Rattle.gql_bench.specs.Table.{table_answer, table_delay, table_effect}
 use Rattle.gql_bench.specs.declared.bench.Bench.{Bench}
-use Rattle.gql_engine.specs.Pace.{EachPaced}
-use Rattle.gql_engine.specs.Phases.{Phases, Serving}
-use Rattle.gql_engine.specs.Progress.{story_of}
-use Rattle.gql_engine.specs.Record.{Made, Stage, Story, Turned, fresh, made_at, state_at, waiting}
-use Rattle.gql_engine.specs.declared.scene.Scene.{Scene}
+use Rattle.gql_tasks.specs.Pace.{EachPaced}
+use Rattle.gql_tasks.specs.Phases.{Phases, Serving}
+use Rattle.gql_tasks.specs.Progress.{story_of}
+use Rattle.gql_tasks.specs.Record.{Made, Stage, Story, Turned, fresh, made_at, state_at, waiting}
+use Rattle.gql_merged.specs.declared.scene.Scene.{Scene}
 use Rattle.gql_exec.specs.Execution.{Ask, asks, error_response, fault_response, mutates}
 use Rattle.gql_exec.specs.PlaceResponse.{response_at}
 use Rattle.gql_exec.specs.Ready.{IsMadeReady}

@@ -2,7 +2,7 @@
 ghost use Rattle.std.specs.Prelude.{◌≡◌, IfOk, Some};
 ghost use Rattle.gql_cli.specs.Answer.{IsAnswerOver, IsAnswerTo};
 ghost use Rattle.gql_cli.specs.Request.{AreAlike, rooted_with};
-ghost use Rattle.gql_engine.specs.Progress.{seen};
+ghost use Rattle.gql_tasks.specs.Progress.{seen};
 ghost use Rattle.gql_exec.specs.Batch.{ExecutesAll, ExecutesOne};
 ghost use Rattle.gql_request.specs.BatchRequest.{requests_of};
 ghost use Rattle.gql_request.specs.BatchResponse.{responses_of};

@@ -8,11 +8,11 @@ use Rattle.gql_base.specs.declared.value.Value.{Value}
 use Rattle.gql_doc.specs.declared.document.Field.{Field}
 use Rattle.gql_doc.specs.declared.document.Positioned.{Positioned}
 use Rattle.gql_doc.specs.declared.document.Selection.{Selection}
-use Rattle.gql_engine.specs.Parts.{choice_by, due_by}
-use Rattle.gql_engine.specs.Progress.{RunsWhole, RunStopped, Seen, stage_of, story_at}
-use Rattle.gql_engine.specs.Pace.{EachPacedSoFar}
-use Rattle.gql_engine.specs.Record.{Story, fresh}
-use Rattle.gql_engine.specs.declared.scene.Scene.{Scene}
+use Rattle.gql_tasks.specs.Parts.{choice_by, due_by}
+use Rattle.gql_tasks.specs.Progress.{RunsWhole, RunStopped, Seen, stage_of, story_at}
+use Rattle.gql_tasks.specs.Pace.{EachPacedSoFar}
+use Rattle.gql_tasks.specs.Record.{Story, fresh}
+use Rattle.gql_merged.specs.declared.scene.Scene.{Scene}
 use Rattle.gql_exec.proofs.RecordLemmas.{mapped, fresh-mapped, paced-mapped, so-far-mapped, ran-mapped, stopped-mapped}
 use Rattle.gql_exec.specs.Bare.{bare_basis, bare_job, bare_layers, bare_scene}
 use Rattle.gql_exec.specs.Scene.{shown}

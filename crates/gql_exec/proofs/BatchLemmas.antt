@@ -2,7 +2,7 @@
 use Rattle.std.proofs.Common.{◌≡◌, ◌≤◌, ◌<◌, ◌+◌, ℕ, suc, List, [], ◌∷◌, ◌++◌, Option, Some, None, get_or, length, length-append, slice_get, take, inl, refl, ap, sym, ◌∙◌, subst, arith}
 use Rattle.std.proofs.lemmas.List.{take_all, take_more}
 use Rattle.std.proofs.lemmas.Option.{get_or_from_slice_get, slice_get_read, slice_get_within}
-use Rattle.gql_engine.specs.Progress.{Seen}
+use Rattle.gql_tasks.specs.Progress.{Seen}
 use Rattle.gql_exec.specs.Batch.{ExecutesAll, ExecutesOne, StopsAfter, StopsAt}
 use Rattle.gql_exec.specs.Execution.{asks, Executes, Stops}
 use Rattle.gql_exec.specs.declared.dynamic_request.DynamicRequest.{DynamicRequest}

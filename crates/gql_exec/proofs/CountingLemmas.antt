@@ -1,8 +1,8 @@
 -- The steps of an execution are as many as the answers that it asks.
 use Rattle.std.proofs.Common.{◌≡◌, ◌+◌, ℕ, Bool, true, false, List, Result, Ok, Err, OnOk, ap, sym, ◌∙◌, subst}
 use Rattle.gql_base.specs.Pairs.{values_of}
-use Rattle.gql_engine.specs.Parts.{due_by}
-use Rattle.gql_engine.specs.declared.scene.Scene.{Scene}
+use Rattle.gql_tasks.specs.Parts.{due_by}
+use Rattle.gql_merged.specs.declared.scene.Scene.{Scene}
 use Rattle.gql_exec.proofs.BareLemmas.{execution-bare}
 use Rattle.gql_exec.specs.Bare.{bare_scene}
 use Rattle.gql_exec.specs.Counting.{answers_of, CountsAnswers, CountsOf, CountsOn, CountsTasks, tasks_by}

@@ -1,8 +1,8 @@
 -- What was run of a request's scene is the execution of the request.
 use Rattle.std.proofs.Common.{◌≡◌, ◌⊎◌, ℕ, Bool, [], Result, Ok, Err, IfErr, IfOk, inr, ap, sym, ◌∙◌, subst}
 use Rattle.gql_base.specs.declared.no_memory.NoMemory.{NoMemory}
-use Rattle.gql_engine.specs.Progress.{Seen}
-use Rattle.gql_engine.specs.declared.scene.Scene.{Scene}
+use Rattle.gql_tasks.specs.Progress.{Seen}
+use Rattle.gql_merged.specs.declared.scene.Scene.{Scene}
 use Rattle.gql_exec.specs.Bare.{bare_scene}
 use Rattle.gql_exec.specs.Execution.{Ask, asked_scene, CutAs, ExecutesAs, GoesOnAs, HaltsAs, mutates, place_by, RanAs, RunsAs, StandAs, StopsAs, world_by}
 use Rattle.gql_exec.specs.PlaceResponse.{response_at}

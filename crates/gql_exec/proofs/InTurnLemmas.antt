@@ -2,12 +2,12 @@
 use Rattle.std.proofs.Common.{◌≡◌, ◌≤◌, ℕ, zero, suc, List, [], ◌∷◌, ◌++◌, map, length, take, Option, Some, None, option_map, slice_get, refl, ap, sym, ◌∙◌, subst, arith}
 use Rattle.std.proofs.lemmas.List.{map-append, length-map}
 use Rattle.std.proofs.lemmas.Option.{slice_get-map}
-use Rattle.gql_engine.specs.Pace.{pending_then_ready, told_of}
-use Rattle.gql_engine.specs.Parts.{choice_by}
-use Rattle.gql_engine.specs.Phases.{after_root, answers_in, AreCut, CutBefore, HaltsInTurn, IsCutPhase, IsPhase, none_made, PacedSince, PacedSinceSoFar, Phases, RootsStand, RunsInTurn, Serving, serving_at, story_in, with_root, world_past}
-use Rattle.gql_engine.specs.Progress.{Seen, stage_of}
-use Rattle.gql_engine.specs.Record.{Choice, Made, Stage, Story, untold}
-use Rattle.gql_engine.specs.declared.scene.Scene.{Scene}
+use Rattle.gql_tasks.specs.Pace.{pending_then_ready, told_of}
+use Rattle.gql_tasks.specs.Parts.{choice_by}
+use Rattle.gql_tasks.specs.Phases.{after_root, answers_in, AreCut, CutBefore, HaltsInTurn, IsCutPhase, IsPhase, none_made, PacedSince, PacedSinceSoFar, Phases, RootsStand, RunsInTurn, Serving, serving_at, story_in, with_root, world_past}
+use Rattle.gql_tasks.specs.Progress.{Seen, stage_of}
+use Rattle.gql_tasks.specs.Record.{Choice, Made, Stage, Story, untold}
+use Rattle.gql_merged.specs.declared.scene.Scene.{Scene}
 use Rattle.gql_exec.proofs.BareLemmas.{beneath-bare, keys-bare}
 use Rattle.gql_exec.proofs.RecordLemmas.{mapped, ran-mapped, staged, stopped-mapped}
 use Rattle.gql_exec.specs.Bare.{bare_job, bare_scene}

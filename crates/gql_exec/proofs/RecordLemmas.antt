@@ -3,8 +3,8 @@ use Rattle.std.proofs.Common.{◌≡◌, ℕ, true, false, Bool, List, [], ◌�
 use Rattle.std.proofs.lemmas.List.{map-append}
 use Rattle.std.proofs.lemmas.Option.{slice_get-map}
 use Rattle.std.specs.Option.{ForSome}
-use Rattle.gql_engine.specs.Pace.{EachPaced, EachPacedSoFar, pending_then_ready, told_of}
-use Rattle.gql_engine.specs.Record.{Choice, EachWaits, Mark, Made, NamesTask, Ran, Stage, Stopped, Story, Turned, untold, ready, fresh, untold_marks, beneath_of, after_ready, after_mark, after_entry, begun_at, begins, made_at, state_at, waiting}
+use Rattle.gql_tasks.specs.Pace.{EachPaced, EachPacedSoFar, pending_then_ready, told_of}
+use Rattle.gql_tasks.specs.Record.{Choice, EachWaits, Mark, Made, NamesTask, Ran, Stage, Stopped, Story, Turned, untold, ready, fresh, untold_marks, beneath_of, after_ready, after_mark, after_entry, begun_at, begins, made_at, state_at, waiting}
 use Rattle.gql_resolve.specs.Record.{with_more}
 use Rattle.gql_resolve.specs.declared.record_entry.RecordEntry.{RecordEntry}
 

@@ -10,13 +10,13 @@ use Rattle.gql_admit.specs.Choice.{choice}
 use Rattle.gql_admit.specs.Prepared.{IsLimited, IsPrepared, IsRead, IsRuled, IsSettled, Prepared, limits_checked}
 use Rattle.gql_admit.specs.Terms.{Terms}
 use Rattle.gql_admit.specs.declared.chosen.Chosen.{Chosen}
-use Rattle.gql_engine.proofs.RecordLemmas.{with_more_none}
-use Rattle.gql_engine.specs.Arena.{Work}
-use Rattle.gql_engine.specs.Parts.{choice_by}
-use Rattle.gql_engine.specs.Phases.{none_made, Phases, RunsInTurn, serving_at}
-use Rattle.gql_engine.specs.Progress.{RunsWhole, Seen, stage_of, story_at}
-use Rattle.gql_engine.specs.Record.{Choice, Story, Turned, begun_at, fresh}
-use Rattle.gql_engine.specs.declared.scene.Scene.{Scene}
+use Rattle.gql_tasks.proofs.RecordLemmas.{with_more_none}
+use Rattle.gql_tasks.specs.Arena.{Work}
+use Rattle.gql_tasks.specs.Parts.{choice_by}
+use Rattle.gql_tasks.specs.Phases.{none_made, Phases, RunsInTurn, serving_at}
+use Rattle.gql_tasks.specs.Progress.{RunsWhole, Seen, stage_of, story_at}
+use Rattle.gql_tasks.specs.Record.{Choice, Story, Turned, begun_at, fresh}
+use Rattle.gql_merged.specs.declared.scene.Scene.{Scene}
 use Rattle.gql_exec.specs.Admission.{terms_for}
 use Rattle.gql_exec.specs.Execution.{Ask, asked_scene, ComesOfAs, ExecutesAs, GoesOnAs, mutates, RanAs}
 use Rattle.gql_exec.specs.Ready.{IsMadeReady, prepared_under}

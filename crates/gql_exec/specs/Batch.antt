@@ -2,7 +2,7 @@
 -- itself as a request alone (GraphQL, October 2021, section 6).
 use Rattle.std.specs.Prelude.{◌≡◌, ◌≤◌, ℕ, List, [], ◌∷◌, Option, Some, None, length, slice_get}
 use Rattle.std.specs.Prelude.{take}
-use Rattle.gql_engine.specs.Progress.{Seen}
+use Rattle.gql_tasks.specs.Progress.{Seen}
 use Rattle.gql_exec.specs.Execution.{asks, Executes, Stops}
 use Rattle.gql_exec.specs.declared.dynamic_request.DynamicRequest.{DynamicRequest}
 use Rattle.gql_exec.specs.declared.schema.Schema.{Schema}

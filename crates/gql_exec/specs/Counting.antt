@@ -2,8 +2,8 @@
 -- of a set one.
 use Rattle.std.specs.Prelude.{◌≡◌, ◌+◌, ℕ, Bool, true, false, List, Result, Ok, Err}
 use Rattle.gql_admit.specs.Prepared.{Prepared}
-use Rattle.gql_engine.specs.Parts.{due_by}
-use Rattle.gql_engine.specs.declared.scene.Scene.{Scene}
+use Rattle.gql_tasks.specs.Parts.{due_by}
+use Rattle.gql_merged.specs.declared.scene.Scene.{Scene}
 use Rattle.gql_exec.specs.Execution.{Ask, mutates}
 use Rattle.gql_exec.specs.Ready.{IsMadeReady}
 use Rattle.gql_exec.specs.Root.{root_for}

@@ -5,10 +5,10 @@ use Rattle.gql_admit.specs.Prepared.{Prepared}
 use Rattle.gql_admit.specs.Refusal.{refusal}
 use Rattle.gql_base.specs.declared.server_error.ServerError.{ServerError}
 use Rattle.gql_base.specs.declared.value.Value.TheVariants as value
-use Rattle.gql_engine.specs.Parts.{due_by}
-use Rattle.gql_engine.specs.Phases.{HaltsInTurn, RootsStand, RunsInTurn}
-use Rattle.gql_engine.specs.Progress.{RunStopped, RunsWhole, Seen}
-use Rattle.gql_engine.specs.declared.scene.Scene.{Scene}
+use Rattle.gql_tasks.specs.Parts.{due_by}
+use Rattle.gql_tasks.specs.Phases.{HaltsInTurn, RootsStand, RunsInTurn}
+use Rattle.gql_tasks.specs.Progress.{RunStopped, RunsWhole, Seen}
+use Rattle.gql_merged.specs.declared.scene.Scene.{Scene}
 use Rattle.gql_exec.specs.PlaceResponse.{response_at}
 use Rattle.gql_exec.specs.Ready.{IsMadeReady}
 use Rattle.gql_exec.specs.Root.{root_for}

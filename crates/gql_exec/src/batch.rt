@@ -1,6 +1,6 @@
 //! The execution of batches: requests one after another over one world.
 ghost use Rattle.std.specs.Prelude.{◌≡◌, length, IfErr, IfOk};
-ghost use Rattle.gql_engine.specs.Progress.{seen};
+ghost use Rattle.gql_tasks.specs.Progress.{seen};
 ghost use Rattle.gql_exec.specs.Batch.{ExecutesAll, StopsAfter};
 
 use crate::dynamic_request::DynamicRequest;

@@ -1,8 +1,8 @@
 //! The execution of requests (GraphQL, October 2021, section 6).
 ghost use Rattle.std.specs.Prelude.{◌≡◌, ◌+◌, ◌<◌, [], true, false, IfErr, IfOk, OnOk};
 ghost use Rattle.std.specs.Option.{ForSome};
-ghost use Rattle.gql_engine.specs.Progress.{seen};
-ghost use Rattle.gql_engine.specs.Steps.{IsCounted};
+ghost use Rattle.gql_tasks.specs.Progress.{seen};
+ghost use Rattle.gql_tasks.specs.Steps.{IsCounted};
 ghost use Rattle.gql_exec.specs.Bare.{bare_scene};
 ghost use Rattle.gql_exec.specs.Counting.{CountsAnswers, CountsTasks, tasks_by};
 ghost use Rattle.gql_exec.specs.Execution.{asks, Executes, ExecutesApart, ExecutesAs};
@@ -18,8 +18,7 @@ use crate::place_response::response_of;
 use crate::schema::Schema;
 use gql_base::{Items, Made, NoMemory, ServerError, Steps};
 use gql_doc::OperationType;
-use gql_engine::Scene;
-use gql_merged::{Grouping, run_grouped, run_mutation_grouped};
+use gql_merged::{Grouping, Scene, run_grouped, run_mutation_grouped};
 use gql_request::{Data, Hooks, QueryEnv, Response};
 use gql_resolve::{Layers, ResolverSet, Turns};
 use gql_schema::Object;

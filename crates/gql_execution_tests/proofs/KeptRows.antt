@@ -1,6 +1,6 @@
 -- A plan that keeps what its second task was given still holds what it held of the first.
 use Rattle.std.proofs.Common.{ℕ}
-use Rattle.gql_engine.specs.declared.given.Given.{Given}
+use Rattle.gql_tasks.specs.declared.given.Given.{Given}
 use Rattle.gql_merged.specs.TreePlan.{HasKept, HoldsIn}
 use Rattle.gql_merged.specs.declared.tree_plan.TreePlan.{TreePlan}
 

@@ -15,8 +15,7 @@ use gql_doc::{
     DocumentOperations, ExecutableDocument, FragmentDefinition, OperationDefinition, OperationType,
     Positioned, parse_query,
 };
-use gql_engine::Scene;
-use gql_merged::{Grouping, run_apart, run_grouped, run_merged, run_mutation_grouped};
+use gql_merged::{Grouping, Scene, run_apart, run_grouped, run_merged, run_mutation_grouped};
 use gql_place::{Place, faults, raise};
 use gql_request::{Data, Hooks, IntrospectionMode, QueryEnv};
 use gql_resolve::{FieldValue, Layers, Turns};

@@ -3,7 +3,7 @@ use Rattle.std.proofs.Common.{◌≡◌, ℕ, zero, suc, Bool, true, false, List
 use Rattle.gql_doc.specs.declared.document.Field.{Field}
 use Rattle.gql_doc.specs.declared.document.Positioned.{Positioned}
 use Rattle.gql_doc.specs.declared.document.Selection.{Selection}
-use Rattle.gql_engine.specs.declared.scene.Scene.{Scene}
+use Rattle.gql_merged.specs.declared.scene.Scene.{Scene}
 use Rattle.gql_meaning.proofs.ExecutionLemmas.{are_fitting}
 use Rattle.gql_meaning.specs.Execution.{Execution, field_outcome, named_outcome, setting_in}
 use Rattle.gql_meaning.specs.Responses.{world_after}

@@ -13,7 +13,7 @@ use Rattle.gql_doc.specs.Depth.{field_set}
 use Rattle.gql_doc.specs.declared.document.Field.{Field}
 use Rattle.gql_doc.specs.declared.document.Positioned.{Positioned}
 use Rattle.gql_doc.specs.declared.document.Selection.{Selection}
-use Rattle.gql_engine.specs.Path.{key_text}
+use Rattle.gql_merged.specs.KeyNames.{key_text}
 use Rattle.gql_meaning.specs.Execution.{Asking, field_asking}
 use Rattle.gql_request.specs.QueryEnv.{levels_of}
 use Rattle.gql_resolve.specs.declared.answer.Answer.{Answer}

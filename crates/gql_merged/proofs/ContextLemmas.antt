@@ -4,8 +4,8 @@ use Rattle.std.specs.Prelude.{◌&&◌}
 use Rattle.gql_base.specs.declared.path_segment.PathSegment.{PathSegment}
 use Rattle.gql_base.specs.declared.path_segment.PathSegment.TheVariants as segment
 use Rattle.gql_lists.proofs.SliceLemmas.{get_map}
-use Rattle.gql_engine.specs.Path.{key_text}
-use Rattle.gql_engine.specs.Plan.{IsContextOf}
+use Rattle.gql_merged.specs.KeyNames.{key_text}
+use Rattle.gql_tasks.specs.Plan.{IsContextOf}
 use Rattle.gql_input.specs.Accessor.{members_behind}
 use Rattle.gql_request.specs.declared.query_env.QueryEnv.{QueryEnv}
 use Rattle.gql_resolve.specs.Call.{is_mutation, is_single}

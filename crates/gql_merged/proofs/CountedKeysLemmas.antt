@@ -8,11 +8,11 @@ use Rattle.gql_doc.specs.Depth.{operation_set}
 use Rattle.gql_doc.specs.declared.document.Field.{Field}
 use Rattle.gql_doc.specs.declared.document.Positioned.{Positioned}
 use Rattle.gql_doc.specs.declared.document.Selection.{Selection}
-use Rattle.gql_engine.proofs.CountLemmas.{phase_count}
-use Rattle.gql_engine.specs.Path.{key_text}
-use Rattle.gql_engine.specs.Phases.{answer_between, answers_in, Phases, Serving}
-use Rattle.gql_engine.specs.Record.{Choice, Stage, waiting_from}
-use Rattle.gql_engine.specs.declared.scene.Scene.{Scene}
+use Rattle.gql_tasks.proofs.CountLemmas.{phase_count}
+use Rattle.gql_merged.specs.KeyNames.{key_text}
+use Rattle.gql_tasks.specs.Phases.{answer_between, answers_in, Phases, Serving}
+use Rattle.gql_tasks.specs.Record.{Choice, Stage, waiting_from}
+use Rattle.gql_merged.specs.declared.scene.Scene.{Scene}
 use Rattle.gql_meaning.specs.Counted.{one_if, parents_in, total}
 use Rattle.gql_meaning.specs.Execution.{Asking, field_asking}
 use Rattle.gql_meaning.specs.Responses.{world_of}

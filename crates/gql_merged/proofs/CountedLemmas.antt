@@ -12,11 +12,11 @@ use Rattle.gql_doc.specs.Depth.{operation_set}
 use Rattle.gql_doc.specs.declared.document.Field.{Field}
 use Rattle.gql_doc.specs.declared.document.Positioned.{Positioned}
 use Rattle.gql_doc.specs.declared.document.Selection.{Selection}
-use Rattle.gql_engine.proofs.CountLemmas.{IsCount, sum, whole_count}
-use Rattle.gql_engine.specs.Path.{key_text}
-use Rattle.gql_engine.specs.Progress.{story_of}
-use Rattle.gql_engine.specs.Record.{EachWaits, fresh, Made, made_at, waiting_from}
-use Rattle.gql_engine.specs.declared.scene.Scene.{Scene}
+use Rattle.gql_tasks.proofs.CountLemmas.{IsCount, sum, whole_count}
+use Rattle.gql_merged.specs.KeyNames.{key_text}
+use Rattle.gql_tasks.specs.Progress.{story_of}
+use Rattle.gql_tasks.specs.Record.{EachWaits, fresh, Made, made_at, waiting_from}
+use Rattle.gql_merged.specs.declared.scene.Scene.{Scene}
 use Rattle.gql_meaning.specs.Completion.{Completed}
 use Rattle.gql_meaning.specs.Counted.{count_as, one_if, parents_in, parents_step, total}
 use Rattle.gql_meaning.specs.Execution.{Asking, field_asking, field_outcome}

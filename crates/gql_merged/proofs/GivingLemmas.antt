@@ -8,7 +8,7 @@ use Rattle.gql_base.specs.TypeRef.{is_nullable}
 use Rattle.gql_base.specs.declared.path_segment.PathSegment.{PathSegment}
 use Rattle.gql_base.specs.declared.pos.Pos.{Pos}
 use Rattle.gql_base.specs.declared.value.Value.{Value}
-use Rattle.gql_engine.specs.declared.given.Given.TheVariants.{Answered}
+use Rattle.gql_tasks.specs.declared.given.Given.TheVariants.{Answered}
 use Rattle.gql_meaning.specs.Completion.{Completed, shape_of}
 use Rattle.gql_meaning.specs.Responses.{Members}
 use Rattle.gql_place.proofs.PieceLemmas.{leaf_same}

@@ -15,7 +15,7 @@ use Rattle.gql_select.specs.Behind.{all_behind}
 use Rattle.gql_select.proofs.OccurrenceLemmas.{behind_append, with_one_more}
 use Rattle.gql_select.proofs.ZipLemmas.{names_last, names_long, unite_fresh, unite_found}
 use Rattle.gql_merged.specs.Groups.{under_keys, united}
-use Rattle.gql_engine.specs.Path.{key_text}
+use Rattle.gql_merged.specs.KeyNames.{key_text}
 use Rattle.gql_merged.specs.declared.group.Group.{Group}
 
 -- the group with one more occurrence

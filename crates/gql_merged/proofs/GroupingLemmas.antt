@@ -7,8 +7,8 @@ use Rattle.std.specs.Str.{bytes_eq}
 use Rattle.gql_base.specs.Pairs.{HasDistinctNames, names_of, under, unite, unite_all}
 use Rattle.gql_doc.specs.declared.document.Field.{Field}
 use Rattle.gql_doc.specs.declared.document.Positioned.{Positioned}
-use Rattle.gql_engine.specs.Path.{key_text}
-use Rattle.gql_engine.specs.declared.scene.Scene.{Scene}
+use Rattle.gql_merged.specs.KeyNames.{key_text}
+use Rattle.gql_merged.specs.declared.scene.Scene.{Scene}
 use Rattle.gql_place.specs.Join.{join}
 use Rattle.gql_place.specs.declared.place.Place.{Place}
 use Rattle.gql_resolve.specs.Call.{Call}

@@ -2,24 +2,24 @@
 use Rattle.std.proofs.Common.{◌≡◌, ℕ, zero, suc, ◌+◌, ◌-◌, ◌<◌, ◌≤◌, Bool, true, false, ltb, List, [], ◌∷◌, ◌++◌, take, drop, length, Option, Some, None, slice_get, inl, inr, refl, ap, sym, subst, ◌∙◌, arith, append_assoc, length-append, ltb-true, ltb-false}
 use Rattle.std.specs.Prelude.{slice_set}
 use Rattle.gql_base.specs.declared.no_memory.NoMemory.{NoMemory}
-use Rattle.gql_engine.proofs.AimLemmas.{with_plan}
-use Rattle.gql_engine.proofs.InTurnLemmas.{cut_between, cut_in_turn, in_turn_more}
+use Rattle.gql_tasks.proofs.AimLemmas.{with_plan}
+use Rattle.gql_tasks.proofs.InTurnLemmas.{cut_between, cut_in_turn, in_turn_more}
 use Rattle.gql_lists.proofs.SliceLemmas.{get_append, get_at, get_within}
-use Rattle.gql_engine.proofs.ProgressLemmas.{steady_none}
-use Rattle.gql_engine.proofs.RecordLemmas.{with_more_none}
-use Rattle.gql_engine.proofs.RoundLemmas.{enters_none}
-use Rattle.gql_engine.proofs.RunLemmas.{all_done}
-use Rattle.gql_engine.proofs.StepLemmas.{all_started}
-use Rattle.gql_engine.specs.Arena.{fresh_states, IsRight as IsRightAt, started, Subject, total, Work}
-use Rattle.gql_engine.specs.Pace.{pending_then_ready}
-use Rattle.gql_engine.specs.Parts.{Moment, Parts, choice_by, stage, subject}
-use Rattle.gql_engine.specs.Phases.{answer_between, CutBefore, CutInTurn, HaltsInTurn, InTurn, none_made, Serving, serving_at, NextRoot, PhaseCut, PhaseOver, Phases, serving_of, world_past}
-use Rattle.gql_engine.specs.Progress.{Seen}
-use Rattle.gql_engine.specs.Record.{Choice, fresh, Mark, Stage}
-use Rattle.gql_engine.specs.Rounds.{IsOneOf}
-use Rattle.gql_engine.specs.declared.arena.State.{State}
-use Rattle.gql_engine.specs.declared.arena.State.TheVariants as state
-use Rattle.gql_engine.specs.declared.given.Given.{Given}
+use Rattle.gql_tasks.proofs.ProgressLemmas.{steady_none}
+use Rattle.gql_tasks.proofs.RecordLemmas.{with_more_none}
+use Rattle.gql_tasks.proofs.RoundLemmas.{enters_none}
+use Rattle.gql_tasks.proofs.RunLemmas.{all_done}
+use Rattle.gql_tasks.proofs.StepLemmas.{all_started}
+use Rattle.gql_tasks.specs.Arena.{fresh_states, IsRight as IsRightAt, started, Subject, total, Work}
+use Rattle.gql_tasks.specs.Pace.{pending_then_ready}
+use Rattle.gql_tasks.specs.Parts.{Moment, Parts, choice_by, stage, subject}
+use Rattle.gql_tasks.specs.Phases.{answer_between, CutBefore, CutInTurn, HaltsInTurn, InTurn, none_made, Serving, serving_at, NextRoot, PhaseCut, PhaseOver, Phases, serving_of, world_past}
+use Rattle.gql_tasks.specs.Progress.{Seen}
+use Rattle.gql_tasks.specs.Record.{Choice, fresh, Mark, Stage}
+use Rattle.gql_tasks.specs.Rounds.{IsOneOf}
+use Rattle.gql_tasks.specs.declared.arena.State.{State}
+use Rattle.gql_tasks.specs.declared.arena.State.TheVariants as state
+use Rattle.gql_tasks.specs.declared.given.Given.{Given}
 use Rattle.gql_place.specs.declared.piece.Piece.{Piece}
 use Rattle.gql_resolve.specs.Call.{Call}
 use Rattle.gql_resolve.specs.declared.record_entry.RecordEntry.{RecordEntry}

@@ -32,6 +32,7 @@ pub mod PlanLemmas
 pub mod PutLemmas
 pub mod RunLemmas
 pub mod SeenLemmas
+pub mod SendLemmas
 pub mod SerialLemmas
 pub mod StandingLemmas
 pub mod StoredLemmas

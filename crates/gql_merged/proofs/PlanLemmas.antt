@@ -5,9 +5,9 @@ use Rattle.std.specs.Bool.{◌==◌}
 use Rattle.std.specs.List.{AllByRecursion, flat_map}
 use Rattle.gql_select.specs.Collected.{own_selections}
 use Rattle.gql_lists.proofs.SliceLemmas.{get_append, get_map, get_within}
-use Rattle.gql_engine.specs.Plan.{HasMade}
-use Rattle.gql_engine.specs.declared.given.Given.{Given}
-use Rattle.gql_engine.specs.declared.given.Given.TheVariants.{Answered, Put}
+use Rattle.gql_tasks.specs.Plan.{HasMade}
+use Rattle.gql_tasks.specs.declared.given.Given.{Given}
+use Rattle.gql_tasks.specs.declared.given.Given.TheVariants.{Answered, Put}
 use Rattle.gql_place.specs.declared.piece.Piece.{Piece}
 use Rattle.gql_merged.specs.Entries.{laid}
 use Rattle.gql_merged.specs.Assembling.{IsMadeAlone}
@@ -23,7 +23,7 @@ use Rattle.gql_merged.specs.declared.kept.Filled.{Filled}
 use Rattle.gql_merged.specs.declared.kept.Kept.{Kept}
 use Rattle.gql_merged.specs.declared.task.Task.{Task}
 use Rattle.gql_merged.specs.declared.tree_plan.TreePlan.{TreePlan}
-use Rattle.gql_engine.proofs.BlockLemmas.{is-zero}
+use Rattle.gql_tasks.proofs.BlockLemmas.{is-zero}
 use Rattle.gql_merged.proofs.AssemblyLemmas.{no_length}
 use Rattle.gql_merged.proofs.BeneathLemmas.{every_at}
 use Rattle.gql_merged.proofs.EntryLemmas.{laid_more}

@@ -12,18 +12,18 @@ use Rattle.gql_doc.specs.Depth.{operation_set}
 use Rattle.gql_doc.specs.declared.document.Field.{Field}
 use Rattle.gql_doc.specs.declared.document.Positioned.{Positioned}
 use Rattle.gql_lists.proofs.SliceLemmas.{get_at, get_within}
-use Rattle.gql_engine.proofs.RecordLemmas.{with_more_none}
-use Rattle.gql_engine.proofs.RunLemmas.{all_done, first_made, first_right}
-use Rattle.gql_engine.proofs.StepLemmas.{all_started, started_fresh}
-use Rattle.gql_engine.specs.Arena.{fresh_states, IsRight as IsRightAt, made_of, marks_of, started, total}
-use Rattle.gql_engine.specs.Pace.{EachPaced, EachPacedSoFar, pending_then_ready}
-use Rattle.gql_engine.specs.Parts.{choice_by, delay_by, due_by}
-use Rattle.gql_engine.specs.Progress.{Agrees, RunsWhole, RunStopped, Seen, stage_of, story_at}
-use Rattle.gql_engine.specs.Record.{begun_at, fresh, Ran, Stopped, waiting_from}
-use Rattle.gql_engine.specs.Rounds.{KeepNumbers}
-use Rattle.gql_engine.specs.declared.arena.State.{State}
-use Rattle.gql_engine.specs.declared.given.Given.TheVariants.{Answered}
-use Rattle.gql_engine.specs.declared.scene.Scene.{Scene}
+use Rattle.gql_tasks.proofs.RecordLemmas.{with_more_none}
+use Rattle.gql_tasks.proofs.RunLemmas.{all_done, first_made, first_right}
+use Rattle.gql_tasks.proofs.StepLemmas.{all_started, started_fresh}
+use Rattle.gql_tasks.specs.Arena.{fresh_states, IsRight as IsRightAt, made_of, marks_of, started, total}
+use Rattle.gql_tasks.specs.Pace.{EachPaced, EachPacedSoFar, pending_then_ready}
+use Rattle.gql_tasks.specs.Parts.{choice_by, delay_by, due_by}
+use Rattle.gql_tasks.specs.Progress.{Agrees, RunsWhole, RunStopped, Seen, stage_of, story_at}
+use Rattle.gql_tasks.specs.Record.{begun_at, fresh, Ran, Stopped, waiting_from}
+use Rattle.gql_tasks.specs.Rounds.{KeepNumbers}
+use Rattle.gql_tasks.specs.declared.arena.State.{State}
+use Rattle.gql_tasks.specs.declared.given.Given.TheVariants.{Answered}
+use Rattle.gql_merged.specs.declared.scene.Scene.{Scene}
 use Rattle.gql_meaning.specs.Responses.{Members, root_place}
 use Rattle.gql_place.specs.Alike.{Paired, Same, SameMembers}
 use Rattle.gql_place.specs.Pieces.{place_in}

@@ -7,8 +7,8 @@ use Rattle.gql_base.specs.declared.value.Value.TheVariants as value
 use Rattle.gql_doc.specs.Depth.{operation_set}
 use Rattle.gql_doc.specs.declared.document.Field.{Field}
 use Rattle.gql_doc.specs.declared.document.Positioned.{Positioned}
-use Rattle.gql_engine.specs.Phases.{answer_between, Serving, world_past}
-use Rattle.gql_engine.specs.declared.scene.Scene.{Scene}
+use Rattle.gql_tasks.specs.Phases.{answer_between, Serving, world_past}
+use Rattle.gql_merged.specs.declared.scene.Scene.{Scene}
 use Rattle.gql_meaning.specs.Execution.{Asking, field_asking, field_outcome}
 use Rattle.gql_meaning.specs.Responses.{Members, placed, world_of}
 use Rattle.gql_place.specs.Filled.{place_with}

@@ -9,12 +9,11 @@ use Rattle.gql_base.specs.Pairs.{names_of, values_of}
 use Rattle.gql_base.specs.declared.path_segment.PathSegment.TheVariants as segment
 use Rattle.gql_doc.specs.declared.document.Field.{Field}
 use Rattle.gql_doc.specs.declared.document.Positioned.{Positioned}
-use Rattle.gql_engine.specs.Path.{key_text}
 use Rattle.gql_resolve.specs.Layers.{layers_of}
 use Rattle.gql_merged.specs.Asks.{asking_at, is_call}
 use Rattle.gql_merged.specs.Groups.{united}
 use Rattle.gql_merged.specs.Jobs.{Job, job_by, jobs_by_as}
-use Rattle.gql_merged.specs.KeyNames.{names_in}
+use Rattle.gql_merged.specs.KeyNames.{key_text, names_in}
 use Rattle.gql_merged.specs.Levels.{Asked, asked_behind, asked_by, members_of}
 use Rattle.gql_merged.specs.Parents.{jobs_here, rooted, standing_of}
 use Rattle.gql_merged.specs.Stored.{Spot}

@@ -5,7 +5,7 @@ use Rattle.std.specs.Borrow.{Bor}
 use Rattle.gql_doc.specs.declared.document.Field.{Field, out-roll-Field}
 use Rattle.gql_doc.specs.declared.document.Positioned.{Positioned}
 use Rattle.gql_doc.specs.Document.{alias_or}
-use Rattle.gql_engine.specs.Path.{key_text}
+use Rattle.gql_merged.specs.KeyNames.{key_text}
 use Rattle.gql_select.specs.Collected.{own_selections}
 use Rattle.gql_select.specs.Documents.{both, with_others, with_selections}
 use Rattle.gql_select.specs.Behind.{all_behind}

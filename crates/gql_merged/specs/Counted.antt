@@ -5,7 +5,7 @@ use Rattle.gql_base.specs.Pairs.{values_of}
 use Rattle.gql_doc.specs.declared.document.Field.{Field}
 use Rattle.gql_doc.specs.declared.document.Positioned.{Positioned}
 use Rattle.gql_doc.specs.declared.document.Selection.{Selection}
-use Rattle.gql_engine.specs.declared.scene.Scene.{Scene}
+use Rattle.gql_merged.specs.declared.scene.Scene.{Scene}
 use Rattle.gql_meaning.specs.Counted.{count_as, total}
 use Rattle.gql_meaning.specs.Responses.{world_after}
 use Rattle.gql_resolve.specs.Call.{Call}

@@ -3,9 +3,9 @@ use Rattle.std.specs.Prelude.{◌≡◌, not, List, Option, Some, None, Result, 
 use Rattle.gql_base.specs.TypeRef.{is_nullable}
 use Rattle.gql_base.specs.declared.error.Error.{Error}
 use Rattle.gql_base.specs.declared.value.Value.{Value}
-use Rattle.gql_engine.specs.Given.{beneath_given}
-use Rattle.gql_engine.specs.declared.given.Given.{Given}
-use Rattle.gql_engine.specs.declared.given.Given.TheVariants.{Answered, Put}
+use Rattle.gql_tasks.specs.Given.{beneath_given}
+use Rattle.gql_tasks.specs.declared.given.Given.{Given}
+use Rattle.gql_tasks.specs.declared.given.Given.TheVariants.{Answered, Put}
 use Rattle.gql_place.specs.declared.shape.Shape.TheVariants as shape
 use Rattle.gql_resolve.specs.declared.answer.Answer.{Answer}
 use Rattle.gql_select.specs.Collected.{own_selections}

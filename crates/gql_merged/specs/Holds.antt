@@ -1,8 +1,8 @@
 -- What a plan holds of its tasks: the places of those with none beneath them, and what is kept of
 -- the others.
 use Rattle.std.specs.Prelude.{◌≡◌, ◌<◌, ◌⊎◌, ℕ, false, List, [], Option, None, Ok}
-use Rattle.gql_engine.specs.declared.given.Given.{Given}
-use Rattle.gql_engine.specs.declared.given.Given.TheVariants.{Put}
+use Rattle.gql_tasks.specs.declared.given.Given.{Given}
+use Rattle.gql_tasks.specs.declared.given.Given.TheVariants.{Put}
 use Rattle.gql_place.specs.declared.piece.Piece.{Piece}
 use Rattle.gql_meaning.specs.Completion.{shape_of}
 use Rattle.gql_resolve.specs.declared.answer.Answer.{Answer}

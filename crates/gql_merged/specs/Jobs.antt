@@ -18,8 +18,8 @@ use Rattle.gql_merged.specs.Basis.{execution_of}
 use Rattle.gql_merged.specs.Grouped.{groups_in}
 use Rattle.gql_merged.specs.Levels.{Asked}
 use Rattle.gql_merged.specs.declared.basis.Basis.{Basis}
-use Rattle.gql_engine.specs.Path.{key_text}
-use Rattle.gql_engine.specs.Plan.{Asking as Asks}
+use Rattle.gql_merged.specs.KeyNames.{key_text}
+use Rattle.gql_tasks.specs.Plan.{Asking as Asks}
 use Rattle.gql_merged.specs.Stored.{Spot, spots}
 
 -- a task: what the execution stands on, the name of an object, a field of it, merged over its

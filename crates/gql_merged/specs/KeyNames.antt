@@ -1,6 +1,9 @@
 -- The keys of an object's fields.
 use Rattle.std.specs.Prelude.{ℕ, List}
 use Rattle.gql_base.specs.Pairs.{names_of}
+use Rattle.gql_doc.specs.Document.{key_of}
+use Rattle.gql_doc.specs.declared.document.Field.{Field}
+use Rattle.gql_doc.specs.declared.document.Positioned.{Positioned}
 use Rattle.gql_merged.specs.declared.key_names.Keys.{Keys}
 use Rattle.gql_merged.specs.declared.key_names.Keys.TheVariants as keys
 
@@ -8,3 +11,7 @@ use Rattle.gql_merged.specs.declared.key_names.Keys.TheVariants as keys
 abbrev pub names_in : Keys → List (List ℕ)
 names_in (keys.Once pairs) = names_of pairs
 names_in (keys.Each names) = names.items
+
+-- the key of an occurrence of a field
+abbrev pub key_text : Positioned Field → List ℕ
+key_text occurrence = (key_of occurrence.node).node

@@ -1,8 +1,8 @@
 -- What one root key of a mutation leaves behind the others.
 use Rattle.std.specs.Prelude.{◌≡◌, ◌-◌, ◌++◌, ℕ, true, List, [], ◌∷◌, Option, Some, length, slice_set}
 use Rattle.gql_base.specs.declared.no_memory.NoMemory.{NoMemory}
-use Rattle.gql_engine.specs.Parts.{Moment, Parts}
-use Rattle.gql_engine.specs.Phases.{CutInTurn, InTurn}
+use Rattle.gql_tasks.specs.Parts.{Moment, Parts}
+use Rattle.gql_tasks.specs.Phases.{CutInTurn, InTurn}
 use Rattle.gql_place.specs.declared.piece.Piece.{Piece}
 use Rattle.gql_resolve.specs.Call.{Call}
 use Rattle.gql_resolve.specs.declared.answer.Answer.{Answer}

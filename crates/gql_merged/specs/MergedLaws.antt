@@ -7,7 +7,7 @@ use Rattle.gql_base.specs.declared.pos.Pos.{Pos}
 use Rattle.gql_doc.specs.declared.document.Field.{Field}
 use Rattle.gql_doc.specs.declared.document.Positioned.{Positioned}
 use Rattle.gql_doc.specs.declared.document.Selection.{Selection}
-use Rattle.gql_engine.specs.declared.scene.Scene.{Scene}
+use Rattle.gql_merged.specs.declared.scene.Scene.{Scene}
 use Rattle.gql_meaning.specs.Completion.{Completed}
 use Rattle.gql_meaning.specs.Execution.{Execution, field_asking}
 use Rattle.gql_place.specs.Filled.{fill}

@@ -9,7 +9,7 @@ use Rattle.gql_base.specs.declared.value.Value.{Value}
 use Rattle.gql_doc.specs.declared.document.Field.{Field}
 use Rattle.gql_doc.specs.declared.document.Positioned.{Positioned}
 use Rattle.gql_doc.specs.declared.document.Selection.{Selection}
-use Rattle.gql_engine.specs.Path.{key_text}
+use Rattle.gql_merged.specs.KeyNames.{key_text}
 use Rattle.gql_meaning.specs.Execution.{Asking, asking_at, Execution, field_asking, is_typename}
 use Rattle.gql_meaning.specs.TableSetting.{arguments_in, field_in}
 use Rattle.gql_resolve.specs.declared.answer.Answer.{Answer}

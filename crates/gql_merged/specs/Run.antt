@@ -5,8 +5,8 @@ use Rattle.gql_doc.specs.Depth.{deep_from, operation_set, selections_of}
 use Rattle.gql_doc.specs.declared.document.Field.{Field}
 use Rattle.gql_doc.specs.declared.document.Positioned.{Positioned}
 use Rattle.gql_doc.specs.declared.document.Selection.{Selection}
-use Rattle.gql_engine.specs.Arena.{Subject, subject_of, Work}
-use Rattle.gql_engine.specs.declared.scene.Scene.{Scene}
+use Rattle.gql_tasks.specs.Arena.{Subject, subject_of, Work}
+use Rattle.gql_merged.specs.declared.scene.Scene.{Scene}
 use Rattle.gql_meaning.specs.Responses.{Members, placed, root_place}
 use Rattle.gql_place.specs.Join.{join}
 use Rattle.gql_place.specs.declared.place.Place.{Place}

@@ -5,9 +5,9 @@ use Rattle.std.specs.Prelude.{◌≡◌, ℕ, zero, suc, true, false, List, [], 
 use Rattle.gql_doc.specs.declared.document.Field.{Field}
 use Rattle.gql_doc.specs.declared.document.Positioned.{Positioned}
 use Rattle.gql_doc.specs.declared.document.Selection.{Selection}
-use Rattle.gql_engine.specs.Arena.{Work}
-use Rattle.gql_engine.specs.Phases.{answer_between, Serving}
-use Rattle.gql_engine.specs.declared.scene.Scene.{Scene}
+use Rattle.gql_tasks.specs.Arena.{Work}
+use Rattle.gql_tasks.specs.Phases.{answer_between, Serving}
+use Rattle.gql_merged.specs.declared.scene.Scene.{Scene}
 use Rattle.gql_meaning.specs.Responses.{Asked, Members, placed, world_after}
 use Rattle.gql_place.specs.Join.{join}
 use Rattle.gql_place.specs.declared.piece.Piece.{Piece}

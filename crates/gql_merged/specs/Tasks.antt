@@ -2,7 +2,7 @@
 use Rattle.std.specs.Prelude.{◌≡◌, ℕ, ◌≤◌, List, [], ◌∷◌, ◌++◌, Some, length, map, slice_get}
 use Rattle.gql_base.specs.declared.path_segment.PathSegment.{PathSegment}
 use Rattle.gql_base.specs.declared.path_segment.PathSegment.TheVariants as segment
-use Rattle.gql_engine.specs.Path.{key_text}
+use Rattle.gql_merged.specs.KeyNames.{key_text}
 use Rattle.gql_resolve.specs.Layers.{layers_of}
 use Rattle.gql_merged.specs.Asks.{asking_at}
 use Rattle.gql_merged.specs.Groups.{united}

@@ -1,7 +1,7 @@
 -- What a plan does with what its tasks are given.
 use Rattle.std.specs.Prelude.{◌≡◌, ℕ, Some, slice_get}
-use Rattle.gql_engine.specs.Plan.{HasMade}
-use Rattle.gql_engine.specs.declared.given.Given.{Given}
+use Rattle.gql_tasks.specs.Plan.{HasMade}
+use Rattle.gql_tasks.specs.declared.given.Given.{Given}
 use Rattle.gql_merged.specs.Fitting.{made_beneath}
 use Rattle.gql_merged.specs.Holds.{HoldsSince, store_in}
 use Rattle.gql_merged.specs.Jobs.{Job}

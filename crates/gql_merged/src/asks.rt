@@ -4,7 +4,7 @@ use gql_base::{Pairs, TypeRef, Value};
 
 /// What a field asks on an object, whatever the object's value: the object's name, nothing, or a
 /// call of a resolver.
-#[derive(Debug, Drop)]
+#[derive(Drop)]
 pub enum Asks {
     Typename,
     Nothing,

@@ -5,7 +5,7 @@ use gql_schema::Types;
 
 /// How the occurrences of fields that an object has are put into groups, each of which asks one
 /// answer, and what is kept of their places.
-#[derive(Clone, Copy, Debug)]
+#[derive(Clone, Copy)]
 pub enum Grouping {
     /// One group for each key, which is merged execution. Of a place that tells a response nothing
     /// beside its data, the data alone is kept.

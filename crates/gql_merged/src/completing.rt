@@ -14,23 +14,10 @@ use crate::naming::complete_named;
 use gql_base::{Error, Items, Made, Name, TypeRef, Value};
 use gql_place::Shape;
 use gql_resolve::FieldValue;
-use gql_schema::Types;
 use std::alloc::Global;
 
-/// What a resolver's result comes to at a type: an object has its type's name, and the value that
-/// its fields are asked of.
-pub fn complete_result<V: Drop>(
-    alloc: Global,
-    types: &Types,
-    ty: &TypeRef,
-    outcome: Result<Option<FieldValue<V>>, Error>,
-) -> Made<Shape<Name, FieldValue<V>>>
-    ensures { IfOk result (λ shape. shape ≡ shape_of (types_of types.now) ty.now outcome) }
-{
-    complete_known(alloc, &Known::of(types, ty.type_name()), ty, outcome)
-}
-
-/// The same where the innermost name of the type was looked up.
+/// What a resolver's result comes to at a type, where the innermost name of the type was looked up:
+/// an object has its type's name, and the value that its fields are asked of.
 pub(crate) fn complete_known<V: Drop>(
     alloc: Global,
     known: &Known<'_>,

@@ -16,7 +16,7 @@ use std::collections::VecDeque;
 /// The tree of a completed answer, whose objects take these members from the front, one after
 /// another. Where places aren't kept whole, it is data as long as it tells nothing else.
 #[cycle(fill)]
-pub fn fill(
+pub(crate) fn fill(
     alloc: Global,
     shape: Shape<(), ()>,
     pos: Pos,

@@ -14,9 +14,9 @@ use crate::parent::Parent;
 use crate::placing::place_answer;
 use crate::task::Task;
 use gql_base::{Error, Items, Made, Value};
-use gql_engine::Given;
 use gql_place::Shape;
 use gql_resolve::Answer;
+use gql_tasks::Given;
 use std::alloc::Global;
 
 /// What a task comes to with what it is given. The tasks beneath it are made behind the others.

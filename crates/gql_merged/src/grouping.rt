@@ -8,8 +8,7 @@ ghost use Rattle.gql_select.specs.Reading.{keyed, merged};
 ghost use Rattle.gql_select.specs.Behind.{all_behind};
 ghost use Rattle.gql_merged.specs.Grouped.{groups_by};
 ghost use Rattle.gql_merged.specs.Groups.{under_keys, under_names};
-ghost use Rattle.gql_merged.specs.KeyNames.{names_in};
-ghost use Rattle.gql_engine.specs.Path.{key_text};
+ghost use Rattle.gql_merged.specs.KeyNames.{key_text, names_in};
 
 use crate::basis::Grouping;
 use crate::group::{Group, Groups};

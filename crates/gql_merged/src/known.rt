@@ -10,19 +10,3 @@ pub(crate) struct Known<'a> {
     pub ty: Option<&'a SchemaType>,
     pub ghost looked_up: { IsUnder types.now name.now ty } by { copied_set ty-code },
 }
-
-impl<'a> Known<'a> {
-    ghost use Rattle.std.specs.Prelude.{◌≡◌};
-
-    /// The name, looked up in a table.
-    pub(crate) fn of(types: &'a Types, name: &'a str) -> Known<'a>
-        ensures types { result.types.now ≡ types.now }
-        ensures name { result.name.now ≡ name.now }
-    {
-        Known {
-            types,
-            name,
-            ty: types.get(name),
-        }
-    }
-}

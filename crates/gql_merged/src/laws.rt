@@ -2,7 +2,7 @@
 //! common. Each is the contract of a function without parameters.
 
 ghost use Rattle.std.specs.Prelude.{ℕ};
-ghost use Rattle.gql_engine.specs.declared.scene.Scene.{Scene};
+ghost use Rattle.gql_merged.specs.declared.scene.Scene.{Scene};
 ghost use Rattle.gql_resolve.specs.Call.{Call};
 ghost use Rattle.gql_resolve.specs.declared.answer.Answer.{Answer};
 ghost use Rattle.gql_merged.specs.MergedLaws.{AgreeingApartIsMerged};

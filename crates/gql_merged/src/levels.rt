@@ -29,7 +29,7 @@ use std::alloc::Global;
 use std::rc::Rc;
 
 /// The fields of an object in selections.
-pub fn fields_in<'a>(
+pub(crate) fn fields_in<'a>(
     alloc: Global,
     basis: &Basis<'a>,
     object: &str,
@@ -42,7 +42,7 @@ pub fn fields_in<'a>(
 }
 
 /// The fields of an object in the sets of all occurrences of a key.
-pub fn fields_beneath<'a>(
+pub(crate) fn fields_beneath<'a>(
     alloc: Global,
     basis: &Basis<'a>,
     object: &str,
@@ -58,7 +58,7 @@ pub fn fields_beneath<'a>(
 /// The level of an object with these fields, grouped so, whose sets nest within the levels of the
 /// request.
 #[tactic(auto, using(crate::proofs::LevelLemmas::asked_zipped))]
-pub fn level_of<'a>(
+pub(crate) fn level_of<'a>(
     alloc: Global,
     basis: &Basis<'a>,
     grouping: Grouping,

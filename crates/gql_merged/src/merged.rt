@@ -1,14 +1,14 @@
 //! Merged execution of an operation that is no mutation (GraphQL, October 2021, section 6.2.1).
 ghost use Rattle.std.specs.Prelude.{ℕ, ◌≡◌, false, IfErr, IfOk, OnErr, OnOk};
-ghost use Rattle.gql_engine.specs.Parts.{due_by};
-ghost use Rattle.gql_engine.specs.Progress.{RunsWhole, RunStopped, seen};
+ghost use Rattle.gql_tasks.specs.Parts.{due_by};
+ghost use Rattle.gql_tasks.specs.Progress.{RunsWhole, RunStopped, seen};
 ghost use Rattle.gql_resolve.specs.Call.{is_mutation};
 ghost use Rattle.gql_merged.specs.Run.{merged_response, merged_work_whole, Nests};
 
 use crate::basis::Grouping;
 use crate::run::run_on_blank;
+use crate::scene::Scene;
 use gql_base::NoMemory;
-use gql_engine::Scene;
 use gql_place::Place;
 use gql_request::Hooks;
 use gql_resolve::{ResolverSet, Turns};

@@ -5,7 +5,7 @@ ghost use Rattle.gql_merged.specs.Groups.{united};
 ghost use Rattle.gql_merged.specs.Parents.{index_of, steps_before, value_of};
 ghost use Rattle.gql_merged.specs.Steps.{index_step, path_of, segment_of, written};
 ghost use Rattle.gql_merged.specs.Tasks.{path_with};
-ghost use Rattle.gql_engine.specs.Path.{key_text};
+ghost use Rattle.gql_merged.specs.KeyNames.{key_text};
 
 use crate::level::Node;
 use crate::parent::Held;

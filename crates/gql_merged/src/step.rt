@@ -1,5 +1,5 @@
 /// One step of a path: the key of a field, or the place of an item in its list, counted from 0.
-#[derive(Clone, Copy, Debug)]
+#[derive(Clone, Copy)]
 pub enum Step<'a> {
     Key(&'a str),
     Index(usize),

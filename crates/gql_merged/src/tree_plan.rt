@@ -1,6 +1,6 @@
 ghost use Rattle.std.specs.Prelude.{ℕ, ◌≡◌, ◌≤◌, Some, length, slice_get};
 ghost use Rattle.std.specs.Option.{option_copied};
-ghost use Rattle.gql_engine.specs.Plan.{alias_in};
+ghost use Rattle.gql_tasks.specs.Plan.{alias_in};
 ghost use Rattle.gql_merged.specs.Entries.{laid};
 ghost use Rattle.gql_merged.specs.Fitting.{entries_in};
 ghost use Rattle.gql_merged.specs.Groups.{united};
@@ -16,11 +16,11 @@ use crate::paths::{value_in, write_path};
 use crate::task::Task;
 use gql_base::{Made, PathSegment};
 use gql_doc::Field;
-use gql_engine::{Given, Plan};
 use gql_input::ObjectAccessor;
 use gql_place::Piece;
 use gql_request::{QueryPathNode, ResolveInfo};
 use gql_resolve::ResolverContext;
+use gql_tasks::{Given, Plan};
 use std::alloc::Global;
 use std::mem;
 
@@ -46,7 +46,7 @@ pub struct TreePlan<'a, V> {
 impl<'a, V: Drop> TreePlan<'a, V> {
     ghost use Rattle.std.specs.Prelude.{ℕ, ◌≡◌, ◌<◌, ◌++◌, ◌∷◌, [], Ok, None, Some, length, IfOk};
     ghost use Rattle.std.specs.Prelude.{OnOk};
-    ghost use Rattle.gql_engine.specs.declared.given.Given.TheVariants.{Put};
+    ghost use Rattle.gql_tasks.specs.declared.given.Given.TheVariants.{Put};
     ghost use Rattle.gql_merged.specs.Standing.{PutsAt};
     ghost use Rattle.gql_merged.specs.Holds.{HoldsSince, store_in};
     ghost use Rattle.gql_merged.specs.Tasks.{job_of_task, jobs_in};
@@ -141,9 +141,9 @@ impl<'a, V: Drop> TreePlan<'a, V> {
 
 impl<'a, V: Drop> Plan<V> for TreePlan<'a, V> {
     ghost use Rattle.std.specs.Prelude.{ℕ, ◌<◌, false, Some, List, length, slice_get, IfOk, OnOk};
-    ghost use Rattle.gql_engine.specs.Given.{beneath_given};
-    ghost use Rattle.gql_engine.specs.Plan.{HasMade};
-    ghost use Rattle.gql_engine.specs.declared.given.Given.{Given as GivenTo};
+    ghost use Rattle.gql_tasks.specs.Given.{beneath_given};
+    ghost use Rattle.gql_tasks.specs.Plan.{HasMade};
+    ghost use Rattle.gql_tasks.specs.declared.given.Given.{Given as GivenTo};
     ghost use Rattle.gql_merged.specs.Holds.{HoldsSince, store_in};
     ghost use Rattle.gql_merged.specs.Jobs.{asked_by_job, Job, jobs_beneath};
     ghost use Rattle.gql_merged.specs.Tasks.{IsAimed, jobs_in};

@@ -1,5 +1,5 @@
 use Rattle.gql_cli.proofs.GivesLemmas.{answer_held}
-use Rattle.gql_engine.specs.Progress.{seen}
+use Rattle.gql_tasks.specs.Progress.{seen}
 use Rattle.gql_cli.proofs.answer.answer_by.Goals as goal
 
 pub make-requires : goal.make-requires

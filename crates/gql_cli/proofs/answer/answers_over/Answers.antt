@@ -1,6 +1,6 @@
 use Rattle.std.proofs.Common.{[], ◌∷◌, refl, subst, sym}
 use Rattle.gql_bench.specs.contracts.list_turns.ListTurnsTurns.TheImpl.{ghosts}
-use Rattle.gql_engine.specs.Progress.{seen}
+use Rattle.gql_tasks.specs.Progress.{seen}
 use Rattle.gql_exec.specs.Batch.{ExecutesAll}
 use Rattle.gql_request.specs.BatchRequest.{requests_of}
 use Rattle.gql_cli.specs.Request.{rooted_with}

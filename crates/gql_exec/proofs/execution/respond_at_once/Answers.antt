@@ -1,7 +1,7 @@
 use Rattle.std.proofs.Common.{◌+◌, false, inl, inr, ap, refl, sym, ◌∙◌}
-use Rattle.gql_engine.proofs.RootLemmas.{if_err}
-use Rattle.gql_engine.specs.Parts.{due_by}
-use Rattle.gql_engine.specs.Progress.{seen}
+use Rattle.gql_tasks.proofs.RootLemmas.{if_err}
+use Rattle.gql_tasks.specs.Parts.{due_by}
+use Rattle.gql_tasks.specs.Progress.{seen}
 use Rattle.gql_exec.proofs.BareLemmas.{response-bare, stopped-bare, whole-bare}
 use Rattle.gql_exec.proofs.ExecutionLemmas.{halts_by, response_same, runs_by}
 use Rattle.gql_merged.proofs.ApartLemmas.{alike_by}

@@ -1,6 +1,6 @@
 use Rattle.std.proofs.Common.{◌+◌, true, inl, inr, ap, sym, ◌∙◌}
-use Rattle.gql_engine.proofs.RootLemmas.{if_err}
-use Rattle.gql_engine.specs.Progress.{seen}
+use Rattle.gql_tasks.proofs.RootLemmas.{if_err}
+use Rattle.gql_tasks.specs.Progress.{seen}
 use Rattle.gql_exec.proofs.BareLemmas.{last-bare, serial-bare}
 use Rattle.gql_exec.proofs.ExecutionLemmas.{halts_by, response_same, runs_by}
 use Rattle.gql_exec.proofs.InTurnLemmas.{all_stand, halts-in-turn-bare, in-turn-bare, stand-bare}

@@ -1,7 +1,7 @@
 use Rattle.std.proofs.Common.{◌≡◌, ap, false, map, subst, sym, ◌∙◌}
 use Rattle.std.proofs.lemmas.Result.{IfOk-weaker}
 use Rattle.gql_base.specs.Pairs.{HasDistinctNames}
-use Rattle.gql_engine.proofs.RootRunLemmas.{on_ok}
+use Rattle.gql_tasks.proofs.AdvanceLemmas.{on_ok}
 use Rattle.gql_place.specs.Alike.{SameMembers}
 use Rattle.gql_place.specs.Pieces.{members_in, place_in}
 use Rattle.gql_place.proofs.PieceLemmas.{object_same, tree_trans}

@@ -1,7 +1,7 @@
 use Rattle.std.proofs.Common.{ap, map, subst, sym, ◌∙◌}
 use Rattle.std.proofs.lemmas.Result.{IfOk-weaker}
 use Rattle.std.specs.Vec.Iter.{into_iter_items}
-use Rattle.gql_engine.proofs.RootRunLemmas.{on_ok}
+use Rattle.gql_tasks.proofs.AdvanceLemmas.{on_ok}
 use Rattle.gql_place.specs.Alike.{SameTree}
 use Rattle.gql_place.specs.Pieces.{members_in, place_in, places_in}
 use Rattle.gql_merged.specs.Filling.{left_after, tree_with}

@@ -6,7 +6,7 @@ use Rattle.gql_base.proofs.PairLemmas.{under_no_place}
 use Rattle.gql_select.specs.Behind.{all_behind}
 use Rattle.gql_merged.specs.Groups.{under_keys, united}
 use Rattle.gql_select.specs.Documents.{with_others}
-use Rattle.gql_engine.specs.Path.{key_text}
+use Rattle.gql_merged.specs.KeyNames.{key_text}
 use Rattle.gql_merged.specs.declared.group.Group.{Group}
 use Rattle.gql_merged.proofs.GroupLemmas.{occurrence_found, occurrence_fresh, united_more}
 use Rattle.gql_merged.proofs.grouping.add_occurrence.Goals as goal

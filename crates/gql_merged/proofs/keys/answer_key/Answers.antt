@@ -1,11 +1,11 @@
 use Rattle.std.proofs.Common.{◌≡◌, ◌∷◌, ◌∙◌, [], None, Some, ap, arith, length, length-append, refl, slice_get, suc, sym}
 use Rattle.std.specs.Prelude.{Ok}
 use Rattle.std.proofs.lemmas.List.{length-map}
-use Rattle.gql_engine.proofs.InTurnLemmas.{next_alone, next_root, next_sound}
-use Rattle.gql_engine.proofs.RunLemmas.{all_answered}
-use Rattle.gql_engine.specs.Parts.{at, outside, root_parts}
-use Rattle.gql_engine.specs.Phases.{NextRoot, serving_by}
-use Rattle.gql_engine.specs.declared.given.Given.TheVariants.{Put}
+use Rattle.gql_tasks.proofs.InTurnLemmas.{next_alone, next_root, next_sound}
+use Rattle.gql_tasks.proofs.RunLemmas.{all_answered}
+use Rattle.gql_tasks.specs.Parts.{at, outside, root_parts}
+use Rattle.gql_tasks.specs.Phases.{NextRoot, serving_by}
+use Rattle.gql_tasks.specs.declared.given.Given.TheVariants.{Put}
 use Rattle.gql_merged.specs.Holds.{store_in}
 use Rattle.gql_merged.specs.Serial.{answer_in_phase}
 use Rattle.gql_merged.specs.Tasks.{job_of_task, jobs_in}

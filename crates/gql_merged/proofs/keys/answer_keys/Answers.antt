@@ -1,8 +1,8 @@
 use Rattle.std.proofs.Common.{◌≡◌, ◌∷◌, ◌++◌, ◌∙◌, [], List, ap, arith, drop, length, subst, sym, take}
 use Rattle.std.specs.List.{AllByRecursion}
-use Rattle.gql_engine.proofs.RootLemmas.{if_err}
-use Rattle.gql_engine.specs.Parts.{at, outside, root_parts}
-use Rattle.gql_engine.specs.Phases.{CutInTurn, InTurn, serving_by, world_past}
+use Rattle.gql_tasks.proofs.RootLemmas.{if_err}
+use Rattle.gql_tasks.specs.Parts.{at, outside, root_parts}
+use Rattle.gql_tasks.specs.Phases.{CutInTurn, InTurn, serving_by, world_past}
 use Rattle.gql_merged.specs.Keys.{IsKey}
 use Rattle.gql_merged.specs.Run.{job_subject}
 use Rattle.gql_merged.specs.Serial.{PlacedInTurn}

@@ -1,7 +1,7 @@
 use Rattle.std.proofs.Common.{◌≡◌, ◌≤◌, [], drop, length, take}
 use Rattle.std.specs.List.{AllByRecursion}
-use Rattle.gql_engine.specs.Parts.{at, outside, root_parts}
-use Rattle.gql_engine.specs.Phases.{InTurn, serving_by}
+use Rattle.gql_tasks.specs.Parts.{at, outside, root_parts}
+use Rattle.gql_tasks.specs.Phases.{InTurn, serving_by}
 use Rattle.gql_merged.specs.Keys.{IsKey}
 use Rattle.gql_merged.specs.Serial.{PlacedInTurn}
 use Rattle.gql_merged.specs.Tasks.{jobs_in}

@@ -1,5 +1,5 @@
 use Rattle.std.proofs.Common.{refl, subst, sym}
-use Rattle.gql_engine.specs.declared.given.Given.TheVariants.{Answered}
+use Rattle.gql_tasks.specs.declared.given.Given.TheVariants.{Answered}
 use Rattle.gql_place.specs.declared.piece.Piece.TheVariants as kept
 use Rattle.gql_merged.specs.Holds.{ComesAlone, IsLeafAlone}
 use Rattle.gql_merged.specs.Tasks.{job_of_task}

@@ -1,5 +1,5 @@
 use Rattle.std.proofs.Common.{◌∙◌}
-use Rattle.gql_engine.specs.Parts.{due_by}
+use Rattle.gql_tasks.specs.Parts.{due_by}
 use Rattle.gql_merged.proofs.GroupingLemmas.{by_key_whole_is_merged}
 use Rattle.gql_merged.proofs.merged.run_merged.Goals as goal
 

@@ -2,16 +2,15 @@ use Rattle.std.proofs.Common.{◌≡◌, ◌+◌, ◌∷◌, ◌++◌, ◌∙◌
 use Rattle.std.specs.Prelude.{IfOk}
 use Rattle.std.proofs.lemmas.Result.{IfErr-weaker, IfOk-weaker}
 use Rattle.gql_base.specs.declared.no_memory.NoMemory.{NoMemory}
-use Rattle.gql_engine.proofs.AdvanceLemmas.{on_err}
-use Rattle.gql_engine.proofs.InTurnLemmas.{cut_between, in_turn_none}
-use Rattle.gql_engine.proofs.RootLemmas.{if_err}
-use Rattle.gql_engine.proofs.RootRunLemmas.{on_ok}
-use Rattle.gql_engine.proofs.RoundLemmas.{no_rounds, so_far_enters_whole, stopped_rounds, whole_rounds}
-use Rattle.gql_engine.specs.Arena.{made_of, marks_of, started, total}
-use Rattle.gql_engine.specs.Parts.{at, choice_by, outside, root_parts, stage}
-use Rattle.gql_engine.specs.Phases.{AreCut, CutInTurn, none_made, Phases, RootsStand, serving_by, world_past}
-use Rattle.gql_engine.specs.Progress.{seen}
-use Rattle.gql_engine.specs.Rounds.{RoundsStopped, RoundsWhole}
+use Rattle.gql_tasks.proofs.AdvanceLemmas.{on_err, on_ok}
+use Rattle.gql_tasks.proofs.InTurnLemmas.{cut_between, in_turn_none}
+use Rattle.gql_tasks.proofs.RootLemmas.{if_err}
+use Rattle.gql_tasks.proofs.RoundLemmas.{no_rounds, so_far_enters_whole, stopped_rounds, whole_rounds}
+use Rattle.gql_tasks.specs.Arena.{made_of, marks_of, started, total}
+use Rattle.gql_tasks.specs.Parts.{at, choice_by, outside, root_parts, stage}
+use Rattle.gql_tasks.specs.Phases.{AreCut, CutInTurn, none_made, Phases, RootsStand, serving_by, world_past}
+use Rattle.gql_tasks.specs.Progress.{seen}
+use Rattle.gql_tasks.specs.Rounds.{RoundsStopped, RoundsWhole}
 use Rattle.gql_meaning.specs.Responses.{root_place}
 use Rattle.gql_place.specs.Alike.{Same}
 use Rattle.gql_place.specs.Pieces.{place_in}

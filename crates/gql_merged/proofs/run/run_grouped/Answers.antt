@@ -1,13 +1,13 @@
 use Rattle.std.proofs.Common.{◌≡◌, ◌∷◌, [], length, false, take, sym, ap, subst, ◌∙◌, refl}
 use Rattle.std.specs.Prelude.{slice_get}
 use Rattle.std.proofs.lemmas.List.{length-map}
-use Rattle.gql_engine.proofs.AdvanceLemmas.{on_err}
-use Rattle.gql_engine.proofs.PaceLemmas.{each_paced, each_so_far, so_far_whole}
-use Rattle.gql_engine.proofs.RoundLemmas.{no_rounds, so_far_enters_whole, stopped_rounds, whole_rounds}
-use Rattle.gql_engine.proofs.RunLemmas.{all_answered, first_sound}
-use Rattle.gql_engine.specs.Parts.{at, due_by, outside}
-use Rattle.gql_engine.specs.Progress.{seen}
-use Rattle.gql_engine.specs.Rounds.{KeepNumbers, RoundsStopped, RoundsWhole}
+use Rattle.gql_tasks.proofs.AdvanceLemmas.{on_err}
+use Rattle.gql_tasks.proofs.PaceLemmas.{each_paced, each_so_far, so_far_whole}
+use Rattle.gql_tasks.proofs.RoundLemmas.{no_rounds, so_far_enters_whole, stopped_rounds, whole_rounds}
+use Rattle.gql_tasks.proofs.RunLemmas.{all_answered, first_sound}
+use Rattle.gql_tasks.specs.Parts.{at, due_by, outside}
+use Rattle.gql_tasks.specs.Progress.{seen}
+use Rattle.gql_tasks.specs.Rounds.{KeepNumbers, RoundsStopped, RoundsWhole}
 use Rattle.gql_resolve.specs.Call.{is_mutation}
 use Rattle.gql_merged.specs.Assembling.{AreApart, IsAssembled}
 use Rattle.gql_merged.specs.Holds.{store_in}

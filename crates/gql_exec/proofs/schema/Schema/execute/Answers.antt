@@ -1,4 +1,4 @@
-use Rattle.gql_engine.specs.Progress.{seen}
+use Rattle.gql_tasks.specs.Progress.{seen}
 use Rattle.gql_exec.proofs.SchemaOnlyLemmas.{starts_ok}
 use Rattle.gql_exec.specs.Execution.{asks}
 use Rattle.gql_merged.specs.declared.basis.Grouping.TheVariants as grouping

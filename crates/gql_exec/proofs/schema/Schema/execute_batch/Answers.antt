@@ -1,4 +1,4 @@
-use Rattle.gql_engine.specs.Progress.{seen}
+use Rattle.gql_tasks.specs.Progress.{seen}
 use Rattle.gql_exec.proofs.BatchLemmas.{ends_next, goes_on}
 use Rattle.gql_exec.proofs.schema.Schema.execute_batch.Goals as goal
 

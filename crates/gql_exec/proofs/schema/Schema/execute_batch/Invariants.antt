@@ -1,4 +1,4 @@
-use Rattle.gql_engine.specs.Progress.{seen}
+use Rattle.gql_tasks.specs.Progress.{seen}
 use Rattle.gql_exec.proofs.BatchLemmas.{IsSoFar}
 use Rattle.gql_exec.proofs.schema.Schema.execute_batch.Given as goal
 

@@ -1,5 +1,5 @@
 use Rattle.std.proofs.Common.{subst}
-use Rattle.gql_engine.specs.Progress.{seen}
+use Rattle.gql_tasks.specs.Progress.{seen}
 use Rattle.gql_exec.proofs.AgreeLemmas.{agrees_ready}
 use Rattle.gql_exec.proofs.CountingLemmas.{counts_tasks}
 use Rattle.gql_exec.proofs.ExecutionLemmas.{executes, halts}

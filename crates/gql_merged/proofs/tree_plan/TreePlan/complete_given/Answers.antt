@@ -1,7 +1,7 @@
 use Rattle.std.proofs.Common.{◌∙◌, ◌<◌, ◌++◌, inr, ◌∷◌, [], List, None, ap, arith, length, length-append, refl, subst, sym}
 use Rattle.std.proofs.lemmas.List.{length-map}
 use Rattle.std.proofs.lemmas.Option.{slice_get_read}
-use Rattle.gql_engine.specs.Plan.{HasMade}
+use Rattle.gql_tasks.specs.Plan.{HasMade}
 use Rattle.gql_merged.specs.Fitting.{made_beneath}
 use Rattle.gql_merged.specs.Holds.{ComesAlone, HoldsGiven, store_in}
 use Rattle.gql_merged.specs.Standing.{PutsAt}

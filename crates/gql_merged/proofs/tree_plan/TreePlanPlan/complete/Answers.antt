@@ -1,7 +1,7 @@
 use Rattle.std.proofs.Common.{◌<◌, inr, List, ap, arith, length, refl, subst, sym}
 use Rattle.std.proofs.lemmas.List.{length-map}
 use Rattle.std.proofs.lemmas.Option.{slice_get_read}
-use Rattle.gql_engine.specs.Plan.{HasMade}
+use Rattle.gql_tasks.specs.Plan.{HasMade}
 use Rattle.gql_place.specs.declared.piece.Piece.TheVariants as piece
 use Rattle.gql_merged.specs.Fitting.{made_beneath}
 use Rattle.gql_merged.specs.Holds.{HoldsGiven, store_in}

@@ -1,0 +1,30 @@
+use Rattle.gql_tasks.specs.Parts.{parts, at, outside}
+use Rattle.gql_tasks.proofs.ProgressLemmas.{kept_none, kept_trans, went_none, went_trans, ended_trans}
+use Rattle.gql_tasks.proofs.UponLemmas.{stretch_err}
+use Rattle.gql_tasks.proofs.scheduler.finish.Goals as goal
+
+pub events-init : goal.events-init
+events-init g c =
+    let e = parts g.R.ResolverSet g.L.Plan g.H.Rounds g.P.Turns in
+    let first = at c.args.plan.now c.args.arena.now (outside c.args.resolvers.now c.args.hooks.now c.args.turns.now c.args.steps.now) in
+    record { kept = kept_none {e = e} first; went = went_none {m = first} c.requires.sound }
+
+pub reach_event-requires-clause-sound : goal.reach_event-requires-clause-sound
+reach_event-requires-clause-sound g c = c.events.invariant.went.sound
+
+pub returns-in_err-reach_event-clause-stretch : goal.returns-in_err-reach_event-clause-stretch
+returns-in_err-reach_event-clause-stretch g c =
+    let later = c.in_err-reach_event.ensures.stretch in
+    stretch_err _ c.from_residual.result c.from_residual.ensures.1 (kept_trans c.events.invariant.kept later.kept)
+    (ended_trans c.events.invariant.kept c.events.invariant.went.passed later.ended)
+
+pub events-preserved : goal.events-preserved
+events-preserved g c =
+    let later = c.in_ok-reach_event.ensures.stretch in
+    record {
+      kept = kept_trans c.events.invariant.kept later.kept;
+      went = went_trans c.events.invariant.kept c.events.invariant.went later.went;
+    }
+
+pub returns-clause-stretch : goal.returns-clause-stretch
+returns-clause-stretch g c = record { kept = c.events.invariant.kept; went = c.events.invariant.went; ended = tt }

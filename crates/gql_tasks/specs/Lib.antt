@@ -1,0 +1,14 @@
+pub mod Advance
+pub mod Arena
+pub mod Given
+pub mod Pace
+pub mod Parts
+pub mod Phases
+pub mod Plan
+pub mod Progress
+pub mod Record
+pub mod Root
+pub mod Rounds
+pub mod Steps
+pub mod Turn
+pub mod Waiting
