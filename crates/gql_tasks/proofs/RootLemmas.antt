@@ -142,6 +142,12 @@ answered_world : {V W : Type 0} (E : Type 0) (effect : W → W) (world new : W) 
 answered_world {V = V} E effect world new due given is turned =
     subst (λ (g : Given V). new ≡ world_turned {E = E} true effect world (Ok (turn.Answered g))) is turned
 
+module _ {R Own World Future L H P : Type 0} (e : Parts R Own World Future L H P) where
+  -- memory was wanting before anything was given
+  pub no_world_left : (root : Bool) (old new : Moment R Future L H P) (want : NoMemory) → want.roots ≡ 0 → e.set.world new.set ≡ e.set.world old.set → WorldLeft e root old new want
+  no_world_left true old new want none same = inl (none, same)
+  no_world_left false old new want none same = (none, same)
+
 module _ {R Own World Future L H P : Type 0} {e : Parts R Own World Future L H P} where
   -- a plan that was aimed at a task
   still_aimed : {first : Moment R Future L H P} {plan : L} {turns : P} {number : ℕ} {was : State Future} {context : ResolverContext Own} {info : ResolveInfo}
@@ -173,11 +179,6 @@ module _ {R Own World Future L H P : Type 0} {e : Parts R Own World Future L H P
     world_left true law new place stood roots (Put put) is turned = inl (is, turned)
     world_left false law new place stood roots (Answered answer) is turned = (is, turned)
     world_left false law new place stood roots (Put put) is turned = (is, turned)
-
-  -- memory was wanting before anything was given
-  pub no_world_left : (root : Bool) (old new : Moment R Future L H P) (want : NoMemory) → want.roots ≡ 0 → e.set.world new.set ≡ e.set.world old.set → WorldLeft e root old new want
-  no_world_left true old new want none same = inl (none, same)
-  no_world_left false old new want none same = (none, same)
 
   -- a turn of a root
   pub root_answered : {old new : Moment R Future L H P} → e.root ≡ true → TurnAnswered e old new → RootAnswered e old new

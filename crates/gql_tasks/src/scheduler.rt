@@ -36,11 +36,11 @@ pub(crate) fn advance<R: ResolverSet, L: Plan<R::Own>, H: Rounds, P: Turns, S: L
     turns: &mut P,
     steps: &mut Steps<S>,
 ) -> Result<Reached, NoMemory>
-    requires sound { IsSound (parts_as root R.ResolverSet L.Plan H.Rounds P.Turns)
+    requires sound { IsSound (parts_as R.ResolverSet root L.Plan H.Rounds P.Turns)
         (at plan.old arena.old (outside resolvers.old hooks.old turns.old steps.old)) }
     requires some { 0 < length arena.old.waiting }
     requires alone { root ≡ true → length arena.old.waiting ≡ 1 }
-    ensures turned { Advanced (parts_as root R.ResolverSet L.Plan H.Rounds P.Turns)
+    ensures turned { Advanced (parts_as R.ResolverSet root L.Plan H.Rounds P.Turns)
         (at plan.old arena.old (outside resolvers.old hooks.old turns.old steps.old))
         (at plan.new arena.new (outside resolvers.new hooks.new turns.new steps.new)) result }
     ensures nearer { IfOk result

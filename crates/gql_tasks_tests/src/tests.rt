@@ -46,7 +46,9 @@ fn pair<H: Rounds, S: Ledger>(
     let mut arena = fresh_arena(alloc, 2)?;
     let mut turns = Alternate { second: false };
     let mut steps: Steps<S> = Steps::new(blank);
-    finish(alloc, &mut plan, &mut arena, set, hooks, &mut turns, &mut steps)?;
+    finish(
+        alloc, &mut plan, &mut arena, set, hooks, &mut turns, &mut steps,
+    )?;
     Ok(plan.into_given())
 }
 
@@ -68,7 +70,9 @@ fn root<S: Ledger>(
     let mut hooks = Hooks::none(alloc);
     let mut turns = Alternate { second: false };
     let mut steps: Steps<S> = Steps::new(blank);
-    run_phase(alloc, &mut plan, &mut arena, set, &mut hooks, &mut turns, &mut steps)?;
+    run_phase(
+        alloc, &mut plan, &mut arena, set, &mut hooks, &mut turns, &mut steps,
+    )?;
     Ok(plan.into_given())
 }
 
@@ -80,8 +84,7 @@ fn a_task_may_wait_for_another(rt: HostRuntime) -> Result<(), Fail> {
     let given = pair::<Hooks, Brand>(rt.alloc(), &ground, &mut set, &mut hooks, Blank::new(1))?;
     let record = record_text(rt.alloc(), &set)?;
     assert_eq!(rt; given.as_str(), "1=1;0=0;3=1;2=0;5=1;4=0;");
-    assert_eq!(
-        rt;
+    assert_eq!(rt;
         record.as_str(),
         "0 0 0 false;1 1 1 true;0 0 0 true;3 1 1.1 true;2 0 1.0 true;5 1 0.1 true;4 0 0.0 true;"
     );
@@ -95,8 +98,7 @@ fn hooks_are_told_of_each_task_once(rt: HostRuntime) -> Result<(), Fail> {
     let mut hooks = Telling::new(rt.alloc());
     let given = pair::<Telling, Brand>(rt.alloc(), &ground, &mut set, &mut hooks, Blank::new(1))?;
     assert_eq!(rt; given.as_str(), "1=1;0=0;3=1;2=0;5=1;4=0;");
-    assert_eq!(
-        rt;
+    assert_eq!(rt;
         hooks.text.as_str(),
         "0 is Query.b as x: Int;1 is Query.b as x: Int;1 1 is Query.b as x: Int;\
          1 0 is Query.b as x: Int;0 1 is Query.b as x: Int;0 0 is Query.b as x: Int;"

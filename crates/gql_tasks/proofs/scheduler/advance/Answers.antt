@@ -17,7 +17,7 @@ use Rattle.gql_tasks.proofs.scheduler.advance.Goals as goal
 pub aim-requires : goal.aim-requires
 aim-requires g c =
     let first = at c.args.plan.now c.args.arena.now (outside c.args.resolvers.now c.args.hooks.now c.args.turns.now c.args.steps.now) in
-    let inside = within {e = parts_as c.args.root g.R.ResolverSet g.L.Plan g.H.Rounds g.P.Turns} first c.pick_task-picked.result.place c.pick_task-picked.result.number c.requires.sound c.pick_task-picked.ensures.stands in
+    let inside = within {e = parts_as g.R.ResolverSet c.args.root g.L.Plan g.H.Rounds g.P.Turns} first c.pick_task-picked.result.place c.pick_task-picked.result.number c.requires.sound c.pick_task-picked.ensures.stands in
     inside.1
 
 pub returns-in_err-aim-clause-turned : goal.returns-in_err-aim-clause-turned
@@ -26,25 +26,25 @@ returns-in_err-aim-clause-turned g c =
     advanced_err _ c.from_residual.result c.from_residual.ensures.1 (λ want none. record {
       steady = record { rules_is = refl; lawful_is = λ law. law; paced_is = λ pace. pace; quiet_is = λ calm. calm; counted = none_counted _ _ _ _ refl refl };
       ended = ended_none first _ refl refl;
-      world = λ law. no_world_left c.args.root _ _ want none refl;
+      world = λ law. no_world_left (parts_as g.R.ResolverSet c.args.root g.L.Plan g.H.Rounds g.P.Turns) c.args.root _ _ want none refl;
     })
 
 pub context-context-requires-clause-within : goal.context-context-requires-clause-within
 context-context-requires-clause-within g c =
     let first = at c.args.plan.now c.args.arena.now (outside c.args.resolvers.now c.args.hooks.now c.args.turns.now c.args.steps.now) in
-    let inside = within {e = parts_as c.args.root g.R.ResolverSet g.L.Plan g.H.Rounds g.P.Turns} first c.pick_task-picked.result.place c.pick_task-picked.result.number c.requires.sound c.pick_task-picked.ensures.stands in
+    let inside = within {e = parts_as g.R.ResolverSet c.args.root g.L.Plan g.H.Rounds g.P.Turns} first c.pick_task-picked.result.place c.pick_task-picked.result.number c.requires.sound c.pick_task-picked.ensures.stands in
     subst (λ ts. c.pick_task-picked.result.number < length ts) (sym c.aim.ensures.stays) inside.1
 
 pub info-info-requires-clause-within : goal.info-info-requires-clause-within
 info-info-requires-clause-within g c =
     let first = at c.args.plan.now c.args.arena.now (outside c.args.resolvers.now c.args.hooks.now c.args.turns.now c.args.steps.now) in
-    let inside = within {e = parts_as c.args.root g.R.ResolverSet g.L.Plan g.H.Rounds g.P.Turns} first c.pick_task-picked.result.place c.pick_task-picked.result.number c.requires.sound c.pick_task-picked.ensures.stands in
+    let inside = within {e = parts_as g.R.ResolverSet c.args.root g.L.Plan g.H.Rounds g.P.Turns} first c.pick_task-picked.result.place c.pick_task-picked.result.number c.requires.sound c.pick_task-picked.ensures.stands in
     subst (λ ts. c.pick_task-picked.result.number < length ts) (sym c.aim.ensures.stays) inside.1
 
 pub index_mut-requires : goal.index_mut-requires
 index_mut-requires g c =
     let first = at c.args.plan.now c.args.arena.now (outside c.args.resolvers.now c.args.hooks.now c.args.turns.now c.args.steps.now) in
-    let inside = within {e = parts_as c.args.root g.R.ResolverSet g.L.Plan g.H.Rounds g.P.Turns} first c.pick_task-picked.result.place c.pick_task-picked.result.number c.requires.sound c.pick_task-picked.ensures.stands in
+    let inside = within {e = parts_as g.R.ResolverSet c.args.root g.L.Plan g.H.Rounds g.P.Turns} first c.pick_task-picked.result.place c.pick_task-picked.result.number c.requires.sound c.pick_task-picked.ensures.stands in
     let bound = inside.0 in
     let ok = c.args.arena.now.states.ok.0 in
     omega arith
@@ -52,7 +52,7 @@ index_mut-requires g c =
 pub take_turn-requires-clause-open : goal.take_turn-requires-clause-open
 take_turn-requires-clause-open g c =
     let first = at c.args.plan.now c.args.arena.now (outside c.args.resolvers.now c.args.hooks.now c.args.turns.now c.args.steps.now) in
-    let u = upon {e = parts_as c.args.root g.R.ResolverSet g.L.Plan g.H.Rounds g.P.Turns} first c.aim.new.self c.pick_task-picked.new.turns c.pick_task-picked.result.place c.pick_task-picked.result.number c.index_mut.result.now
+    let u = upon {e = parts_as g.R.ResolverSet c.args.root g.L.Plan g.H.Rounds g.P.Turns} first c.aim.new.self c.pick_task-picked.new.turns c.pick_task-picked.result.place c.pick_task-picked.result.number c.index_mut.result.now
     c.context-context.result c.info-info.result c.aim.ensures.stays c.aim.ensures.keeps c.requires.sound c.pick_task-picked.ensures.stands c.index_mut.ensures.value
     c.context-context.ensures c.info-info.ensures c.pick_task-picked.ensures.choice c.pick_task-picked.ensures.after in
     subst (λ call. IsOpen g.R.ResolverSet.is_for call c.index_mut.result.now) (sym u.taken.context_is.call_is) u.taken.pick.open_is
@@ -60,7 +60,7 @@ take_turn-requires-clause-open g c =
 pub take_turn-requires-clause-root : goal.take_turn-requires-clause-root
 take_turn-requires-clause-root g c =
     let first = at c.args.plan.now c.args.arena.now (outside c.args.resolvers.now c.args.hooks.now c.args.turns.now c.args.steps.now) in
-    let u = upon {e = parts_as c.args.root g.R.ResolverSet g.L.Plan g.H.Rounds g.P.Turns} first c.aim.new.self c.pick_task-picked.new.turns c.pick_task-picked.result.place c.pick_task-picked.result.number c.index_mut.result.now
+    let u = upon {e = parts_as g.R.ResolverSet c.args.root g.L.Plan g.H.Rounds g.P.Turns} first c.aim.new.self c.pick_task-picked.new.turns c.pick_task-picked.result.place c.pick_task-picked.result.number c.index_mut.result.now
     c.context-context.result c.info-info.result c.aim.ensures.stays c.aim.ensures.keeps c.requires.sound c.pick_task-picked.ensures.stands c.index_mut.ensures.value
     c.context-context.ensures c.info-info.ensures c.pick_task-picked.ensures.choice c.pick_task-picked.ensures.after in
     ap (λ (call : Call g.row.R-Own.Denot). call.is_root) u.taken.context_is.call_is ∙ u.taken.pick.not_root
@@ -68,25 +68,25 @@ take_turn-requires-clause-root g c =
 pub returns-in_err-turn-clause-turned : goal.returns-in_err-turn-clause-turned
 returns-in_err-turn-clause-turned g c =
     let first = at c.args.plan.now c.args.arena.now (outside c.args.resolvers.now c.args.hooks.now c.args.turns.now c.args.steps.now) in
-    let u = upon {e = parts_as c.args.root g.R.ResolverSet g.L.Plan g.H.Rounds g.P.Turns} first c.aim.new.self c.pick_task-picked.new.turns c.pick_task-picked.result.place c.pick_task-picked.result.number c.index_mut.result.now
+    let u = upon {e = parts_as g.R.ResolverSet c.args.root g.L.Plan g.H.Rounds g.P.Turns} first c.aim.new.self c.pick_task-picked.new.turns c.pick_task-picked.result.place c.pick_task-picked.result.number c.index_mut.result.now
     c.context-context.result c.info-info.result c.aim.ensures.stays c.aim.ensures.keeps c.requires.sound c.pick_task-picked.ensures.stands c.index_mut.ensures.value
     c.context-context.ensures c.info-info.ensures c.pick_task-picked.ensures.choice c.pick_task-picked.ensures.after in
     advanced_err _ c.from_residual-in_err-turn.result c.from_residual-in_err-turn.ensures.1 (λ want none. record {
       steady = record { rules_is = c.in_err-turn.ensures.rules; lawful_is = c.in_err-turn.ensures.lawful; paced_is = c.in_err-turn.ensures.pace; quiet_is = c.in_err-turn.ensures.quiet; counted = c.in_err-turn.ensures.counted };
       ended = ended_trans u.kept u.aimed.passed (ended_before u.taken _ c.in_err-turn.ensures.unentered (λ calm. c.in_err-turn.ensures.told calm) (λ calm. c.in_err-turn.ensures.unbegun calm));
-      world = λ law. no_world_left c.args.root _ _ want none (c.in_err-turn.ensures.world law);
+      world = λ law. no_world_left (parts_as g.R.ResolverSet c.args.root g.L.Plan g.H.Rounds g.P.Turns) c.args.root _ _ want none (c.in_err-turn.ensures.world law);
     })
 
 pub keep_given-requires-clause-number : goal.keep_given-requires-clause-number
 keep_given-requires-clause-number g c =
     let first = at c.args.plan.now c.args.arena.now (outside c.args.resolvers.now c.args.hooks.now c.args.turns.now c.args.steps.now) in
-    let inside = within {e = parts_as c.args.root g.R.ResolverSet g.L.Plan g.H.Rounds g.P.Turns} first c.pick_task-picked.result.place c.pick_task-picked.result.number c.requires.sound c.pick_task-picked.ensures.stands in
+    let inside = within {e = parts_as g.R.ResolverSet c.args.root g.L.Plan g.H.Rounds g.P.Turns} first c.pick_task-picked.result.place c.pick_task-picked.result.number c.requires.sound c.pick_task-picked.ensures.stands in
     subst (λ ts. c.pick_task-picked.result.number < length ts) (sym c.aim.ensures.stays) inside.1
 
 pub keep_given-requires-clause-waits : goal.keep_given-requires-clause-waits
 keep_given-requires-clause-waits g c =
     let first = at c.args.plan.now c.args.arena.now (outside c.args.resolvers.now c.args.hooks.now c.args.turns.now c.args.steps.now) in
-    let u = upon {e = parts_as c.args.root g.R.ResolverSet g.L.Plan g.H.Rounds g.P.Turns} first c.aim.new.self c.pick_task-picked.new.turns c.pick_task-picked.result.place c.pick_task-picked.result.number c.index_mut.result.now
+    let u = upon {e = parts_as g.R.ResolverSet c.args.root g.L.Plan g.H.Rounds g.P.Turns} first c.aim.new.self c.pick_task-picked.new.turns c.pick_task-picked.result.place c.pick_task-picked.result.number c.index_mut.result.now
     c.context-context.result c.info-info.result c.aim.ensures.stays c.aim.ensures.keeps c.requires.sound c.pick_task-picked.ensures.stands c.index_mut.ensures.value
     c.context-context.ensures c.info-info.ensures c.pick_task-picked.ensures.choice c.pick_task-picked.ensures.after in
     still_waits g.row.R-Future.Denot c.args.arena.now.waiting c.args.arena.now.states.items c.pick_task-picked.result.number c.index_mut.result.now c.take_turn.new.state u.aimed.sound.waits u.taken.pick.old_is
@@ -99,7 +99,7 @@ keep_given-requires-clause-stands g c =
 pub keep_given-requires-clause-within : goal.keep_given-requires-clause-within
 keep_given-requires-clause-within g c =
     let first = at c.args.plan.now c.args.arena.now (outside c.args.resolvers.now c.args.hooks.now c.args.turns.now c.args.steps.now) in
-    let inside = within {e = parts_as c.args.root g.R.ResolverSet g.L.Plan g.H.Rounds g.P.Turns} first c.pick_task-picked.result.place c.pick_task-picked.result.number c.requires.sound c.pick_task-picked.ensures.stands in
+    let inside = within {e = parts_as g.R.ResolverSet c.args.root g.L.Plan g.H.Rounds g.P.Turns} first c.pick_task-picked.result.place c.pick_task-picked.result.number c.requires.sound c.pick_task-picked.ensures.stands in
     let bound = inside.0 in
     let l = length_set c.args.arena.now.states.items c.pick_task-picked.result.number c.take_turn.new.state in
     omega arith
@@ -107,7 +107,7 @@ keep_given-requires-clause-within g c =
 pub returns-in-Begun-clause-turned : goal.returns-in-Begun-clause-turned
 returns-in-Begun-clause-turned g c =
     let first = at c.args.plan.now c.args.arena.now (outside c.args.resolvers.now c.args.hooks.now c.args.turns.now c.args.steps.now) in
-    let u = upon {e = parts_as c.args.root g.R.ResolverSet g.L.Plan g.H.Rounds g.P.Turns} first c.aim.new.self c.pick_task-picked.new.turns c.pick_task-picked.result.place c.pick_task-picked.result.number c.index_mut.result.now
+    let u = upon {e = parts_as g.R.ResolverSet c.args.root g.L.Plan g.H.Rounds g.P.Turns} first c.aim.new.self c.pick_task-picked.new.turns c.pick_task-picked.result.place c.pick_task-picked.result.number c.index_mut.result.now
     c.context-context.result c.info-info.result c.aim.ensures.stays c.aim.ensures.keeps c.requires.sound c.pick_task-picked.ensures.stands c.index_mut.ensures.value
     c.context-context.ensures c.info-info.ensures c.pick_task-picked.ensures.choice c.pick_task-picked.ensures.after in
     let world : g.R.ResolverSet.is_lawful c.args.resolvers.now → g.R.ResolverSet.world c.take_turn.new.resolvers ≡ g.R.ResolverSet.world c.args.resolvers.now
@@ -123,7 +123,7 @@ returns-in-Begun-clause-turned g c =
 pub returns-in-Begun-clause-nearer : goal.returns-in-Begun-clause-nearer
 returns-in-Begun-clause-nearer g c =
     let first = at c.args.plan.now c.args.arena.now (outside c.args.resolvers.now c.args.hooks.now c.args.turns.now c.args.steps.now) in
-    let u = upon {e = parts_as c.args.root g.R.ResolverSet g.L.Plan g.H.Rounds g.P.Turns} first c.aim.new.self c.pick_task-picked.new.turns c.pick_task-picked.result.place c.pick_task-picked.result.number c.index_mut.result.now
+    let u = upon {e = parts_as g.R.ResolverSet c.args.root g.L.Plan g.H.Rounds g.P.Turns} first c.aim.new.self c.pick_task-picked.new.turns c.pick_task-picked.result.place c.pick_task-picked.result.number c.index_mut.result.now
     c.context-context.result c.info-info.result c.aim.ensures.stays c.aim.ensures.keeps c.requires.sound c.pick_task-picked.ensures.stands c.index_mut.ensures.value
     c.context-context.ensures c.info-info.ensures c.pick_task-picked.ensures.choice c.pick_task-picked.ensures.after in
     nearer_begun g.row.R-Future.Denot (Call g.row.R-Own.Denot) g.R.ResolverSet.is_for (call_of c.context-context.result) g.R.ResolverSet.number c.args.arena.now.states.items c.pick_task-picked.result.number c.index_mut.result.now c.take_turn.new.state u.taken.pick.old_is
@@ -132,7 +132,7 @@ returns-in-Begun-clause-nearer g c =
 pub returns-in-Pending-clause-turned : goal.returns-in-Pending-clause-turned
 returns-in-Pending-clause-turned g c =
     let first = at c.args.plan.now c.args.arena.now (outside c.args.resolvers.now c.args.hooks.now c.args.turns.now c.args.steps.now) in
-    let u = upon {e = parts_as c.args.root g.R.ResolverSet g.L.Plan g.H.Rounds g.P.Turns} first c.aim.new.self c.pick_task-picked.new.turns c.pick_task-picked.result.place c.pick_task-picked.result.number c.index_mut.result.now
+    let u = upon {e = parts_as g.R.ResolverSet c.args.root g.L.Plan g.H.Rounds g.P.Turns} first c.aim.new.self c.pick_task-picked.new.turns c.pick_task-picked.result.place c.pick_task-picked.result.number c.index_mut.result.now
     c.context-context.result c.info-info.result c.aim.ensures.stays c.aim.ensures.keeps c.requires.sound c.pick_task-picked.ensures.stands c.index_mut.ensures.value
     c.context-context.ensures c.info-info.ensures c.pick_task-picked.ensures.choice c.pick_task-picked.ensures.after in
     let world : g.R.ResolverSet.is_lawful c.args.resolvers.now → g.R.ResolverSet.world c.take_turn.new.resolvers ≡ g.R.ResolverSet.world c.args.resolvers.now
@@ -148,7 +148,7 @@ returns-in-Pending-clause-turned g c =
 pub returns-in-Pending-clause-nearer : goal.returns-in-Pending-clause-nearer
 returns-in-Pending-clause-nearer g c =
     let first = at c.args.plan.now c.args.arena.now (outside c.args.resolvers.now c.args.hooks.now c.args.turns.now c.args.steps.now) in
-    let u = upon {e = parts_as c.args.root g.R.ResolverSet g.L.Plan g.H.Rounds g.P.Turns} first c.aim.new.self c.pick_task-picked.new.turns c.pick_task-picked.result.place c.pick_task-picked.result.number c.index_mut.result.now
+    let u = upon {e = parts_as g.R.ResolverSet c.args.root g.L.Plan g.H.Rounds g.P.Turns} first c.aim.new.self c.pick_task-picked.new.turns c.pick_task-picked.result.place c.pick_task-picked.result.number c.index_mut.result.now
     c.context-context.result c.info-info.result c.aim.ensures.stays c.aim.ensures.keeps c.requires.sound c.pick_task-picked.ensures.stands c.index_mut.ensures.value
     c.context-context.ensures c.info-info.ensures c.pick_task-picked.ensures.choice c.pick_task-picked.ensures.after in
     nearer_pending g.row.R-Future.Denot (Call g.row.R-Own.Denot) g.R.ResolverSet.is_for (call_of c.context-context.result) g.R.ResolverSet.number c.args.arena.now.states.items c.pick_task-picked.result.number c.index_mut.result.now c.take_turn.new.state u.taken.pick.old_is
@@ -157,7 +157,7 @@ returns-in-Pending-clause-nearer g c =
 pub returns-in-Ok-clause-turned : goal.returns-in-Ok-clause-turned
 returns-in-Ok-clause-turned g c =
     let first = at c.args.plan.now c.args.arena.now (outside c.args.resolvers.now c.args.hooks.now c.args.turns.now c.args.steps.now) in
-    let u = upon {e = parts_as c.args.root g.R.ResolverSet g.L.Plan g.H.Rounds g.P.Turns} first c.aim.new.self c.pick_task-picked.new.turns c.pick_task-picked.result.place c.pick_task-picked.result.number c.index_mut.result.now
+    let u = upon {e = parts_as g.R.ResolverSet c.args.root g.L.Plan g.H.Rounds g.P.Turns} first c.aim.new.self c.pick_task-picked.new.turns c.pick_task-picked.result.place c.pick_task-picked.result.number c.index_mut.result.now
     c.context-context.result c.info-info.result c.aim.ensures.stays c.aim.ensures.keeps c.requires.sound c.pick_task-picked.ensures.stands c.index_mut.ensures.value
     c.context-context.ensures c.info-info.ensures c.pick_task-picked.ensures.choice c.pick_task-picked.ensures.after in
     let made = completed_with u.taken c.keep_given.new.plan c.in-Answered.given (λ task is. c.in-Ok.ensures.tasks task is) c.in-Ok.ensures.holds c.in-Ok.ensures.keeps in
@@ -178,7 +178,7 @@ returns-in-Ok-clause-turned g c =
 pub returns-in-Ok-clause-nearer : goal.returns-in-Ok-clause-nearer
 returns-in-Ok-clause-nearer g c =
     let first = at c.args.plan.now c.args.arena.now (outside c.args.resolvers.now c.args.hooks.now c.args.turns.now c.args.steps.now) in
-    let u = upon {e = parts_as c.args.root g.R.ResolverSet g.L.Plan g.H.Rounds g.P.Turns} first c.aim.new.self c.pick_task-picked.new.turns c.pick_task-picked.result.place c.pick_task-picked.result.number c.index_mut.result.now
+    let u = upon {e = parts_as g.R.ResolverSet c.args.root g.L.Plan g.H.Rounds g.P.Turns} first c.aim.new.self c.pick_task-picked.new.turns c.pick_task-picked.result.place c.pick_task-picked.result.number c.index_mut.result.now
     c.context-context.result c.info-info.result c.aim.ensures.stays c.aim.ensures.keeps c.requires.sound c.pick_task-picked.ensures.stands c.index_mut.ensures.value
     c.context-context.ensures c.info-info.ensures c.pick_task-picked.ensures.choice c.pick_task-picked.ensures.after in
     let states = c.in-Ok.ensures.states u.taken.pick.task u.taken.pick.task_is in
@@ -189,10 +189,10 @@ returns-in-Ok-clause-nearer g c =
 pub returns-in-Err-clause-turned : goal.returns-in-Err-clause-turned
 returns-in-Err-clause-turned g c =
     let first = at c.args.plan.now c.args.arena.now (outside c.args.resolvers.now c.args.hooks.now c.args.turns.now c.args.steps.now) in
-    let u = upon {e = parts_as c.args.root g.R.ResolverSet g.L.Plan g.H.Rounds g.P.Turns} first c.aim.new.self c.pick_task-picked.new.turns c.pick_task-picked.result.place c.pick_task-picked.result.number c.index_mut.result.now
+    let u = upon {e = parts_as g.R.ResolverSet c.args.root g.L.Plan g.H.Rounds g.P.Turns} first c.aim.new.self c.pick_task-picked.new.turns c.pick_task-picked.result.place c.pick_task-picked.result.number c.index_mut.result.now
     c.context-context.result c.info-info.result c.aim.ensures.stays c.aim.ensures.keeps c.requires.sound c.pick_task-picked.ensures.stands c.index_mut.ensures.value
     c.context-context.ensures c.info-info.ensures c.pick_task-picked.ensures.choice c.pick_task-picked.ensures.after in
-    let new = at c.aim.new.self c.args.arena.now (outside c.take_turn.new.resolvers c.take_turn.new.hooks c.pick_task-picked.new.turns c.take_turn.new.steps) in
+    let new = at c.keep_given.new.plan c.keep_given.new.arena (outside c.take_turn.new.resolvers c.take_turn.new.hooks c.pick_task-picked.new.turns c.take_turn.new.steps) in
     record {
       steady = record { rules_is = c.in_ok-turn.ensures.rules; lawful_is = c.in_ok-turn.ensures.lawful; paced_is = c.in_ok-turn.ensures.pace; quiet_is = c.in_ok-turn.ensures.quiet; counted = c.in_ok-turn.ensures.counted };
       ended = ended_trans u.kept u.aimed.passed (ended_after u.taken _ c.in_ok-turn.ensures.entered
