@@ -8,7 +8,7 @@ use crate::summary::set_summary;
 use gql_admit::{
     Chosen, Site, check_depth, check_directives, check_rules, choose_operation, keep, prepare,
 };
-use gql_base::{Copied, Items, Made, Pairs, ServerError, Variables};
+use gql_base::{Copied, Items, Made, Pairs, ServerError, Text, Variables};
 use gql_doc::{
     ExecutableDocument, FragmentDefinition, OperationDefinition, Positioned, SelectionSet,
 };
@@ -129,13 +129,19 @@ const CHOICES: [Asked; 4] = [
     ("query A { a }", Some("A"), "A 1:1"),
 ];
 
+/// The name of an operation.
+fn name_text(alloc: Global, name: &Option<Text>) -> Made<String> {
+    match name {
+        Some(name) => String::from_str(alloc, name.as_str()),
+        None => String::from_str(alloc, "anonymous"),
+    }
+}
+
 fn chosen_text(alloc: Global, chosen: &Chosen) -> Made<String> {
-    let name = match &chosen.operation_name {
-        Some(name) => name.as_str(),
-        None => "anonymous",
-    };
+    let mut out = name_text(alloc, &chosen.operation_name)?;
     let (line, column) = (chosen.operation.pos.line, chosen.operation.pos.column);
-    format!(in alloc; "{name} {line}:{column}")
+    write!(out, " {line}:{column}")?;
+    Ok(out)
 }
 
 fn choice_answer(alloc: Global, text: &str, name: Option<&str>) -> Made<String> {
@@ -272,11 +278,7 @@ fn site<'a>(types: &'a Types) -> Site<'a>
 
 /// The operation and the fragments in short, and the levels that suffice for them.
 fn env_text(alloc: Global, env: &QueryEnv) -> Made<String> {
-    let name = match &env.operation_name {
-        Some(name) => name.as_str(),
-        None => "anonymous",
-    };
-    let mut out = String::from_str(alloc, name)?;
+    let mut out = name_text(alloc, &env.operation_name)?;
     push_set(alloc, &mut out, &env.operation.node.selection_set)?;
     push_fragments(alloc, &mut out, &env.fragments)?;
     let levels = env.levels();

@@ -55,9 +55,9 @@ fn is_answered(
     json: &str,
     polls: usize,
 ) -> Result<bool, NoMemory> {
+    let request = DynamicRequest::from(Request::new(alloc, query)?);
     let mut set = Ballot::new(alloc, 1);
     set.last_vote = 7;
-    let request = DynamicRequest::from(Request::new(alloc, query)?);
     let text = response_json(alloc, schema, &request, &mut set)?;
     Ok(text.as_str() == json && set.entries.len() == polls)
 }

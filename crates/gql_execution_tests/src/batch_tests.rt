@@ -62,9 +62,9 @@ fn is_answered(
     json: &str,
     polls: usize,
 ) -> Result<bool, BatchNoMemory> {
+    let requests = requests_of(alloc, queries)?;
     let mut set = Ballot::new(alloc, 1);
     set.last_vote = 7;
-    let requests = requests_of(alloc, queries)?;
     let text = responses_json(alloc, schema, requests.as_slice(), &mut set)?;
     Ok(text.as_str() == json && set.entries.len() == polls)
 }

@@ -35,14 +35,19 @@ fn copied(alloc: Global) -> Made<SchemaBuilder> {
 }
 
 /// A builder that is tried.
-#[derive(Clone, Copy, PartialEq, Debug)]
+#[derive(Clone, Copy)]
 enum Case {
     Sound,
     Full,
     Copied,
 }
 
-const CASES: [Case; 3] = [Case::Sound, Case::Full, Case::Copied];
+/// The cases and their names.
+const CASES: [(&str, Case); 3] = [
+    ("sound", Case::Sound),
+    ("full", Case::Full),
+    ("copied", Case::Copied),
+];
 
 fn build(alloc: Global, case: Case) -> Made<SchemaBuilder> {
     match case {
@@ -117,11 +122,11 @@ fn gives(alloc: Global, builder: SchemaBuilder, case: Case) -> Made<bool> {
     is_copied_of(alloc, case, &finished(alloc, builder)?)
 }
 
-/// The first case whose builder gives another schema.
-fn first_wrong(alloc: Global, cases: &[Case]) -> Made<Option<Case>> {
-    for case in cases {
+/// The name of the first case whose builder gives another schema.
+fn first_wrong(alloc: Global, table: &[(&'static str, Case)]) -> Made<Option<&'static str>> {
+    for (name, case) in table {
         if !gives(alloc, build(alloc, *case)?, *case)? {
-            return Ok(Some(*case));
+            return Ok(Some(*name));
         }
     }
     Ok(None)

@@ -67,12 +67,16 @@ fn is_ready(ready: &Ready) -> bool {
         && ready.entities.is_none()
 }
 
-/// Whether a request for a text is made ready so.
+/// Whether the request for a text is made ready so.
 fn is_made_ready(alloc: Global, text: &str) -> Made<bool> {
-    let schema = schema(alloc, Roots::QueryAlone)?;
     let request = Request::new(alloc, text)?;
+    let schema = schema(alloc, Roots::QueryAlone)?;
+    makes_ready(alloc, &schema, &request)
+}
+
+fn makes_ready(alloc: Global, schema: &Schema, request: &Request) -> Made<bool> {
     let mut hooks = Hooks::none(alloc);
-    match schema.ready(alloc, &mut hooks, &request, &Data::new(alloc))? {
+    match schema.ready(alloc, &mut hooks, request, &Data::new(alloc))? {
         Ok(ready) => Ok(is_ready(&ready)),
         Err(_) => Ok(false),
     }

@@ -106,13 +106,22 @@ fn counted_text(
 fn both_come_to(
     alloc: Global,
     schema: &Schema,
+    request: &DynamicRequest<u64>,
+    text: &str,
+) -> Result<bool, HeaderFault> {
+    let plain = executed_text(alloc, schema, request)?;
+    let in_steps = counted_text(alloc, schema, request)?;
+    Ok(plain.as_str() == text && in_steps.as_str() == text)
+}
+
+fn query_comes_to(
+    alloc: Global,
+    schema: &Schema,
     query: &str,
     text: &str,
 ) -> Result<bool, HeaderFault> {
     let request = DynamicRequest::from(Request::new(alloc, query)?);
-    let plain = executed_text(alloc, schema, &request)?;
-    let in_steps = counted_text(alloc, schema, &request)?;
-    Ok(plain.as_str() == text && in_steps.as_str() == text)
+    both_come_to(alloc, schema, &request, text)
 }
 
 /// A query, and what both calls come to: its headers, how many tasks are begun, and the response.
@@ -152,7 +161,7 @@ fn first_wrong(
 ) -> Result<Option<&'static str>, HeaderFault> {
     let schema = schema(alloc, Roots::QueryAlone)?;
     for (query, text) in table {
-        if !both_come_to(alloc, &schema, *query, *text)? {
+        if !query_comes_to(alloc, &schema, *query, *text)? {
             return Ok(Some(*query));
         }
     }

@@ -142,7 +142,9 @@ fn told_list(alloc: Global) -> Made<Place> {
 
 /// Whether a place has these errors, and a header.
 fn tells(alloc: Global, place: &Place, wanted: &str) -> Made<bool> {
-    Ok(errors(alloc, place)?.as_str() == wanted && header_count(alloc, place)? == 1)
+    let count = header_count(alloc, place)?;
+    let told = errors(alloc, place)?;
+    Ok(count == 1 && told.as_str() == wanted)
 }
 
 #[test]
