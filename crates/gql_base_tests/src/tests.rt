@@ -53,7 +53,9 @@ fn numbers(alloc: Global) -> Made<Items<i64>> {
     let mut items = Items::new(alloc);
     items.push(5)?;
     items.append(Items::from_slice(alloc, &[6, 7])?)?;
-    items.set(1, 8);
+    if items.len() == 3 {
+        items.set(1, 8);
+    }
     Ok(items)
 }
 
