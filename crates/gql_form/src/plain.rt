@@ -1,5 +1,4 @@
 //! Texts, names, numbers and truth values.
-ghost use Rattle.std.specs.Prelude.{◌≤◌, OnOk};
 ghost use Rattle.serde_json.specs.View.{view};
 ghost use Rattle.gql_form.specs.Faults.{IsRead};
 ghost use Rattle.gql_form.specs.Plain.{count_within};
@@ -79,8 +78,7 @@ impl Form for bool {
 
 /// A whole number from 0 to a limit.
 pub(crate) fn read_count_within(reader: Reader, json: &Json, limit: u64) -> Result<u64, Fault>
-    ensures read { IsRead result (count_within limit (view json.now)) }
-    ensures within { OnOk result (λ count. count ≤ limit) }
+    ensures { IsRead result (count_within limit (view json.now)) }
 {
     let count = u64::read(reader, json)?;
     if count <= limit {

@@ -33,7 +33,7 @@ pub struct Settings {
 /// How many levels of sets a request may have.
 #[derive(Clone, Copy, PartialEq, Eq)]
 pub struct Depth {
-    pub levels: u16,
+    pub levels: u64,
 }
 
 impl Depth {
@@ -48,9 +48,7 @@ impl Form for Depth {
 
     fn read(reader: Reader, json: &Json) -> Result<Depth, Fault> {
         let levels = read_count_within(reader, json, Depth::DEEPEST)?;
-        Ok(Depth {
-            levels: levels as u16,
-        })
+        Ok(Depth { levels })
     }
 }
 
