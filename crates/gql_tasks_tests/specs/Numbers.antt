@@ -23,8 +23,8 @@ asking_of task = record {
     is_root = is_mutation task.ground.now.env.operation.node.ty && is_single (path_of task);
     resolver = task.value;
     parent = task.ground.now.root;
-    arguments = [];
-    layers = task.ground.now.data ∷ task.ground.now.data ∷ task.ground.now.data ∷ [];
+    arguments = task.ground.now.arguments;
+    layers = task.ground.now.layer ∷ task.ground.now.layer ∷ task.ground.now.layer ∷ [];
   };
   segments = path_of task;
   item = task.ground.now.field;

@@ -3,7 +3,7 @@ ghost use Rattle.std.specs.Prelude.{◌≡◌, [], None, IfOk};
 ghost use Rattle.std.proofs.Props.{props};
 ghost use Rattle.gql_doc.specs.Depth.{deep_from, field_set, selections_of};
 ghost use Rattle.gql_doc.specs.declared.document.Field.{out-Field};
-ghost use Rattle.gql_request.specs.QueryEnv.{NestsIn};
+ghost use Rattle.gql_request.specs.QueryEnv.{levels_of, NestsIn};
 
 use gql_base::{Items, Made, Name, Pairs, Pos, Text, TypeRef, Value, Variables};
 use gql_doc::{Field, OperationDefinition, OperationType, Positioned, Selection, SelectionSet};
@@ -19,13 +19,15 @@ pub struct Ground {
     pub object: Text,
     pub ty: TypeRef,
     pub arguments: Pairs<Value>,
-    pub data: Data,
+    pub layer: Data,
     pub root: FieldValue<u32>,
     pub ghost nests: { NestsIn env (out-Field field).selection_set } by { Prim.hlevel props },
-    pub ghost bare: { arguments ≡ [] },
 }
 
 impl Ground {
+    ghost use Rattle.std.specs.Prelude.{◌≡◌, ◌∷◌, [], IfOk};
+    ghost use Rattle.gql_resolve.specs.Layers.{layers_of};
+
     /// An operation of this type.
     pub fn new(alloc: Global, ty: OperationType) -> Made<Ground>
         ensures { IfOk result (λ ground. ground.env.operation.node.ty ≡ ty) }
@@ -37,23 +39,21 @@ impl Ground {
             object: Text::new(alloc, "Query")?,
             ty: TypeRef::named(alloc, TypeRef::INT)?,
             arguments: Pairs::new(alloc),
-            data: Data::new(alloc),
+            layer: Data::new(alloc),
             root: FieldValue::NULL,
         })
     }
 
     /// The data of its layers.
     pub fn layers(&self) -> Layers<'_>
-        ensures execute { result.execute ≡ None }
-        ensures query { result.query.now ≡ self.now.data }
-        ensures session { result.session.now ≡ self.now.data }
-        ensures schema { result.schema.now ≡ self.now.data }
+        ensures { layers_of result
+            ≡ self.now.layer ∷ self.now.layer ∷ self.now.layer ∷ [] }
     {
         Layers {
             execute: None,
-            query: &self.data,
-            session: &self.data,
-            schema: &self.data,
+            query: &self.layer,
+            session: &self.layer,
+            schema: &self.layer,
         }
     }
 }
@@ -93,7 +93,8 @@ fn aliased_field(alloc: Global, alias: &str, name: &str) -> Made<Positioned<Fiel
 /// A request of a set.
 fn environment(alloc: Global, ty: OperationType, set: Positioned<SelectionSet>) -> QueryEnv
     requires { deep_from [] 1 set ≡ None }
-    ensures { result.operation.node.ty ≡ ty }
+    ensures ty { result.operation.node.ty ≡ ty }
+    ensures levels { levels_of result ≡ 1 }
 {
     let operation = at(OperationDefinition {
         ty,

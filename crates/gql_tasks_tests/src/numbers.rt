@@ -1,7 +1,8 @@
 //! A plan of numbers: each is a task, and beneath each first one there are 0 and 1.
-ghost use Rattle.std.specs.Prelude.{◌≡◌};
+ghost use Rattle.std.specs.Prelude.{◌≡◌, OnOk};
 ghost use Rattle.std.specs.Option.{option_copied};
 ghost use Rattle.gql_tasks.specs.Plan.{alias_in};
+ghost use Rattle.gql_tasks_tests.specs.Numbers.{path_of};
 
 use crate::ground::Ground;
 use gql_base::{Made, PathSegment, Value};
@@ -15,8 +16,8 @@ use std::alloc::Global;
 /// A number, and the one above it, if there is one.
 #[derive(Clone, Copy)]
 pub struct Number<'a> {
-    pub value: u32,
-    pub above: Option<u32>,
+    pub value: u16,
+    pub above: Option<u16>,
     pub ground: &'a Ground,
 }
 
@@ -24,8 +25,8 @@ impl<'a> Number<'a> {
     ghost use Rattle.gql_tasks_tests.specs.Numbers.{number_below};
 
     /// A number beneath it.
-    fn below(self, value: u32) -> Number<'a>
-        ensures { result ≡ number_below self value }
+    fn below(self, value: u16) -> Number<'a>
+        ensures { result ≡ number_below self.entry value }
     {
         Number {
             value,
@@ -60,9 +61,9 @@ impl<'a> Numbers<'a> {
     }
 
     /// One more first number.
-    pub fn push(&mut self, ground: &'a Ground, value: u32) -> Made<()>
+    pub fn push(&mut self, ground: &'a Ground, value: u16) -> Made<()>
         ensures { OnOk result (self.new.tasks.items ≡ self.old.tasks.items
-            ++ record { value = value; above = None; ground = ground } ∷ []) }
+            ++ record { value = value; above = None; ground = ground.entry } ∷ []) }
     {
         self.tasks.push(Number {
             value,
@@ -85,7 +86,7 @@ impl<'a> Numbers<'a> {
     /// The numbers beneath one, of which a first one has some. Tells how many these are.
     fn push_below(&mut self, task: Number<'a>) -> Made<usize>
         ensures { IfOk result
-            (HasMade self.old.tasks.items self.new.tasks.items (below task.above task)) }
+            (HasMade self.old.tasks.items self.new.tasks.items (below task.entry.above task.entry)) }
     {
         match task.above {
             Some(_) => Ok(0),
@@ -99,9 +100,10 @@ impl<'a> Numbers<'a> {
 }
 
 impl<'a> Plan<u32> for Numbers<'a> {
-    ghost use Rattle.std.specs.Prelude.{ℕ, ◌≡◌, ◌<◌, Some, length, slice_get, IfOk};
+    ghost use Rattle.std.specs.Prelude.{ℕ, ◌≡◌, ◌<◌, Some, length, slice_get, IfOk, OnOk};
     ghost use Rattle.gql_tasks.specs.Given.{beneath_given};
     ghost use Rattle.gql_tasks.specs.Plan.{HasMade};
+    ghost use Rattle.gql_tasks.specs.declared.given.Given.{Given as GivenTo};
     ghost use Rattle.gql_tasks_tests.specs.Numbers.{asking_of, none_is_root, numbers_below};
     ghost use Rattle.gql_tasks_tests.specs.Numbers.{IsAimed};
     ghost use Rattle.gql_tasks_tests.specs.declared.numbers.Number.{Number as Task_};
@@ -121,19 +123,13 @@ impl<'a> Plan<u32> for Numbers<'a> {
     ghost never_roots = { λ task answer place below is. none_is_root task answer place below is };
 
     fn aim(&mut self, _alloc: Global, number: usize) -> Made<()> {
-        let task = self.tasks[number];
-        self.path.clear();
-        if let Some(above) = task.above {
-            self.path.push(PathSegment::Index(above as usize))?;
-        }
-        self.path.push(PathSegment::Index(task.value as usize))?;
-        Ok(())
+        write_path(&mut self.path, self.tasks[number])
     }
 
     fn context<'c>(&'c self, number: usize) -> ResolverContext<'c, u32> {
         let task = &self.tasks[number];
         ResolverContext {
-            resolver: task.value,
+            resolver: u32::from(task.value),
             task: number as u64,
             args: ObjectAccessor::new(&task.ground.arguments),
             parent_value: &task.ground.root,
@@ -165,12 +161,33 @@ impl<'a> Plan<u32> for Numbers<'a> {
         ensures made { (task : Task_) → slice_get self.old.tasks.items number ≡ Some task
             → IfOk result (HasMade self.old.tasks.items self.new.tasks.items
             (beneath_given numbers_below task given)) }
+        ensures holds { OnOk result (Unit {0}) }
+        ensures keeps { OnOk result
+            ((other : ℕ) (g : GivenTo ℕ) → (other ≡ number → ⊥) → Unit {0} → Unit {0}) }
     {
         let task = self.tasks[number];
         push_given(&mut self.given, number, &given)?;
         match given {
             Given::Answered(_) => self.push_below(task),
             Given::Put(_) => Ok(0),
+        }
+    }
+}
+
+/// Writes the path to a number over another one.
+fn write_path(path: &mut Vec<PathSegment>, task: Number<'_>) -> Made<()>
+    ensures { OnOk result (path.new.items ≡ path_of task.entry) }
+{
+    path.clear();
+    match task.above {
+        None => {
+            path.push(PathSegment::Index(usize::from(task.value)))?;
+            Ok(())
+        }
+        Some(above) => {
+            path.push(PathSegment::Index(usize::from(above)))?;
+            path.push(PathSegment::Index(usize::from(task.value)))?;
+            Ok(())
         }
     }
 }
