@@ -1,0 +1,9 @@
+mod AcceptRows
+mod BestLemmas
+mod FrontLemmas
+mod OfferLemmas
+mod QualityLemmas
+mod GrammarLemmas
+mod ReadingLemmas
+mod SpelledLemmas
+mod TellingLemmas

@@ -1,0 +1,12 @@
+pub mod Accept
+pub mod Grammar
+pub mod MediaRange
+pub mod MultipartMixed
+pub mod Offer
+pub mod Parameter
+pub mod Quality
+pub mod Quoted
+pub mod Read
+pub mod Step
+pub mod Token
+pub mod Told
