@@ -1,0 +1,9 @@
+pub mod Found
+pub mod Frames
+pub mod Kinds
+pub mod Lives
+pub mod MessageFault
+pub mod Reading
+pub mod Safe
+pub mod Session
+pub mod WsMessage
