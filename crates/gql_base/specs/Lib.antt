@@ -8,6 +8,7 @@ pub mod Same
 pub mod Separated
 pub mod TypeRef
 pub mod Variables
+pub mod Inner
 pub mod formers
 pub mod PathSegment
 pub mod Kinds

@@ -8,7 +8,6 @@ use crate::name::Name;
 use crate::number::Number;
 use crate::pairs::Pairs;
 use crate::pos::Pos;
-use crate::text::Text;
 use crate::type_ref::TypeRef;
 use crate::value::Value;
 use std::alloc::Global;
@@ -47,18 +46,6 @@ impl Copied for Number {
 impl Copied for Pos {
     fn try_clone(&self, _alloc: Global) -> Made<Pos> {
         Ok(*self)
-    }
-}
-
-impl Copied for Text {
-    fn try_clone(&self, alloc: Global) -> Made<Text> {
-        Text::new(alloc, self.as_str())
-    }
-}
-
-impl Copied for Name {
-    fn try_clone(&self, alloc: Global) -> Made<Name> {
-        Name::new(alloc, self.as_str())
     }
 }
 

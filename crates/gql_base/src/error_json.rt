@@ -22,7 +22,7 @@ impl ServerError {
     {
         let mut out = String::new(alloc);
         push_error(&mut out, self)?;
-        Ok(Text::from_string(out))
+        Text::from_string(out)
     }
 }
 

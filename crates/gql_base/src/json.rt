@@ -27,7 +27,7 @@ pub fn json_of(alloc: Global, value: &Value) -> Made<Text>
 {
     let mut out = String::new(alloc);
     push_json(&mut out, value)?;
-    Ok(Text::from_string(out))
+    Text::from_string(out)
 }
 
 /// The text of a value as it is written in a document: enums and keys bare, strings with JSON's
@@ -37,7 +37,7 @@ pub fn literal_of(alloc: Global, value: &Value) -> Made<Text>
 {
     let mut out = String::new(alloc);
     push_value(&mut out, Style::Literal, value)?;
-    Ok(Text::from_string(out))
+    Text::from_string(out)
 }
 
 /// Appends the JSON text of a value.
@@ -45,6 +45,16 @@ pub fn push_json(out: &mut String, value: &Value) -> Made<()>
     ensures { OnOk result (string_bytes out.new ≡ string_bytes out.old ++ json value.now) }
 {
     push_value(out, Style::Json, value)
+}
+
+/// Appends the JSON text of an object with these members.
+pub fn push_object(out: &mut String, members: &Pairs<Value>) -> Made<()>
+    ensures { OnOk result (string_bytes out.new ≡ string_bytes out.old
+        ++ json (Value.Object members.now)) }
+{
+    out.push('{')?;
+    push_members(out, Style::Json, members)?;
+    out.push('}')
 }
 
 #[cycle(json)]

@@ -1,5 +1,6 @@
 ghost use Rattle.std.specs.Prelude.{◌≡◌, ◌↔◌, IsTrue, IfOk};
 
+use crate::copied::Copied;
 use crate::made::Made;
 use crate::text::Text;
 use std::alloc::Global;
@@ -9,18 +10,18 @@ use std::marker::Model;
 /// A name, as of a field, a type or an argument. Contracts see it as the list of its bytes.
 #[derive(Debug, Drop)]
 pub struct Name {
-    inner: String,
+    text: Text,
 }
 
 impl Model for Name {
-    ghost use Rattle.std.specs.Prelude.{List, ℕ, string_bytes};
+    ghost use Rattle.std.specs.Prelude.{List, ℕ};
     ghost use Rattle.std.specs.Coded.{coded_list, coded_ℕ};
 
     ghost Value = { List ℕ };
 
     ghost coded = { coded_list coded_ℕ };
 
-    ghost view = { λ name. string_bytes name.inner };
+    ghost view = { λ name. name.text };
 }
 
 impl Name {
@@ -28,24 +29,36 @@ impl Name {
     pub fn new(alloc: Global, text: &str) -> Made<Name>
         ensures { IfOk result (λ made. made ≡ text.now) }
     {
-        let inner = String::from_str(alloc, text)?;
-        Ok(Name { inner })
+        let text = Text::new(alloc, text)?;
+        Ok(Name { text })
     }
 
     /// The name that a text is, moved.
     pub fn from_text(text: Text) -> Name
         ensures { result ≡ text }
     {
-        Name {
-            inner: text.into_string(),
-        }
+        Name { text }
+    }
+
+    /// The name as a text, borrowed. A copy of it shares a long name's bytes.
+    pub fn text(&self) -> &Text
+        ensures { result.now ≡ self.now }
+    {
+        &self.text
     }
 
     /// The name, borrowed.
     pub fn as_str(&self) -> &str
         ensures { result.now ≡ self.now }
     {
-        self.inner.as_str()
+        self.text.as_str()
+    }
+}
+
+impl Copied for Name {
+    fn try_clone(&self, alloc: Global) -> Made<Name> {
+        let text = self.text.try_clone(alloc)?;
+        Ok(Name { text })
     }
 }
 

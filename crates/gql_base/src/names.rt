@@ -153,7 +153,15 @@ impl Names {
         requires { place < length self.now }
         ensures { slice_get self.now place ≡ Some result.now }
     {
-        self.as_slice()[place].as_str()
+        self.name_at(place).as_str()
+    }
+
+    /// The same as it is kept: a copy of a long name shares its bytes.
+    pub fn name_at(&self, place: usize) -> &Name
+        requires { place < length self.now }
+        ensures { slice_get self.now place ≡ Some result.now }
+    {
+        &self.as_slice()[place]
     }
 
     /// Adds a name that isn't there, at the end, and looks no name up. Where memory is wanting the

@@ -92,7 +92,16 @@ impl<T> Pairs<T> {
         requires { place < length self.now }
         ensures { slice_get self.now place ≡ Some (result.0.now, result.1.now) }
     {
-        (self.names.at(place), &self.values[place])
+        let (name, value) = self.pair_at(place);
+        (name.as_str(), value)
+    }
+
+    /// The same with the name as it is kept: a copy of a long name shares its bytes.
+    pub fn pair_at(&self, place: usize) -> (&Name, &T)
+        requires { place < length self.now }
+        ensures { slice_get self.now place ≡ Some (result.0.now, result.1.now) }
+    {
+        (self.names.name_at(place), &self.values[place])
     }
 
     /// The value at a place, counted from 0, to be changed.
@@ -195,7 +204,12 @@ impl<T: Drop> Pairs<T> {
         ensures err { OnErr result (self.new ≡ self.old) }
     {
         match self.names.place_of(name.as_str()) {
-            Some(place) => Ok(Some(replaced(&mut self.values, place, value))),
+            Some(place) => {
+                // (dropped here: the drop of a text branches on its kind, and at the end of the
+                // arm it would stand between the result and what is known of it)
+                drop(name);
+                Ok(Some(replaced(&mut self.values, place, value)))
+            }
             None => {
                 self.add_fresh(name, value)?;
                 Ok(None)

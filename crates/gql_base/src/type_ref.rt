@@ -117,7 +117,7 @@ impl TypeRef {
     {
         let mut out = String::new(alloc);
         push_type(&mut out, self)?;
-        Ok(Text::from_string(out))
+        Text::from_string(out)
     }
 }
 

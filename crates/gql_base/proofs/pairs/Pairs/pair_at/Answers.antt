@@ -1,9 +1,9 @@
 use Rattle.std.proofs.Common.{arith}
 use Rattle.gql_base.proofs.PairLemmas.{pair_at, pairs_long}
-use Rattle.gql_base.proofs.pairs.Pairs.at.Goals as goal
+use Rattle.gql_base.proofs.pairs.Pairs.pair_at.Goals as goal
 
-pub at-requires : goal.at-requires
-at-requires g c =
+pub name_at-requires : goal.name_at-requires
+name_at-requires g c =
     let long = pairs_long c.self.inside.names c.self.inside.values.items c.args.self.now c.self.invariant c.self.view_is in
     omega arith
 
@@ -16,4 +16,4 @@ index-requires g c =
 pub returns : goal.returns
 returns g c =
     pair_at c.self.inside.names c.self.inside.values.items c.args.self.now c.self.invariant c.self.view_is c.args.place
-    c.at.result.now c.index.result.now c.requires c.at.ensures c.index.ensures
+    c.name_at.result.now c.index.result.now c.requires c.name_at.ensures c.index.ensures
