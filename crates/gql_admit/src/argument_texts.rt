@@ -66,7 +66,7 @@ pub fn expected_type(alloc: Global, ty: &str) -> Made<Text>
     ensures { IfOk result (λ text. text ≡ expected_text ty.now) }
 {
     let text = expected_message(alloc, ty)?;
-    Ok(Text::from_string(text))
+    Text::from_string(text)
 }
 
 fn unknown_argument_message(alloc: Global, owner: &Owner<'_>, name: &str) -> Made<String>

@@ -74,7 +74,7 @@ pub fn breach_of(
     ensures { IfOk result (λ made. made ≡ breach pos kind name.now (string_bytes text)) }
 {
     let name = Text::new(alloc, name)?;
-    let text = Text::from_string(text);
+    let text = Text::from_string(text)?;
     Ok(Breach {
         pos,
         kind,

@@ -6,6 +6,7 @@ use gql_base::{
 };
 use std::alloc::Global;
 use std::cmp::Ordering;
+use std::hash::{DefaultHasher, Hash, Hasher};
 use std::test::Fail;
 
 /// Adds a number under a name, unless the name is there.
@@ -56,11 +57,17 @@ fn name_with_room(alloc: Global) -> Made<Names> {
     Ok(names)
 }
 
+/// Whether names begin with this one, by both readers.
+fn begin_with(names: &Names, name: &str) -> bool {
+    names.len() > 0 && names.at(0) == name && names.name_at(0).as_str() == name
+}
+
 #[test]
 fn names_have_room(rt: HostRuntime) -> Result<(), Fail> {
     let names = name_with_room(rt.alloc())?;
     assert_eq!(rt; names.len(), 1);
     assert_eq!(rt; names.place_of("a"), Some(0));
+    assert!(rt; begin_with(&names, "a"));
     Ok(())
 }
 
@@ -68,6 +75,7 @@ fn names_have_room(rt: HostRuntime) -> Result<(), Fail> {
 fn a_text_is_a_name(rt: HostRuntime) -> Result<(), Fail> {
     let name = Name::from_text(Text::new(rt.alloc(), "hero")?);
     assert_eq!(rt; name.as_str(), "hero");
+    assert_eq!(rt; name.text().as_str(), "hero");
     Ok(())
 }
 
@@ -143,7 +151,7 @@ fn steps_text(alloc: Global) -> Made<Text> {
     push_step(&mut out, place.next_step())?;
     push_step(&mut out, place.next_step())?;
     push_step(&mut out, place.next_step())?;
-    Ok(Text::from_string(out))
+    Text::from_string(out)
 }
 
 #[test]
@@ -161,7 +169,7 @@ fn places_text(alloc: Global) -> Made<Text> {
     push_list(&mut out, none.as_slice())?;
     let two = [Pos { line: 1, column: 2 }, Pos { line: 3, column: 4 }];
     push_list(&mut out, &two)?;
-    Ok(Text::from_string(out))
+    Text::from_string(out)
 }
 
 /// The texts of a member, of a place in a list and of a place in a document.
@@ -174,20 +182,53 @@ fn texts_of_parts(alloc: Global) -> Made<Text> {
     item.push_text(&mut out)?;
     out.push(' ')?;
     Pos { line: 5, column: 6 }.push_text(&mut out)?;
-    Ok(Text::from_string(out))
+    Text::from_string(out)
 }
 
-/// A text over which a shorter one and then a longer one were written.
-fn rewritten(alloc: Global) -> Made<Text> {
-    let mut text = Text::new(alloc, "hero")?;
-    text.set("id")?;
-    text.set("friends")?;
-    Ok(text)
+/// The hash of a text.
+fn hash_of(text: &Text) -> u64 {
+    let mut state = DefaultHasher::new();
+    text.hash(&mut state);
+    state.finish()
+}
+
+/// Whether two texts have one hash and these bytes.
+fn have_bytes(one: &Text, other: &Text, text: &str) -> bool {
+    one == other
+        && one.as_str() == text
+        && one.len() == text.len()
+        && hash_of(one) == hash_of(other)
+}
+
+/// Whether a text of a string, and a copy whose source is gone, have these bytes.
+fn is_kept(alloc: Global, text: &str) -> Made<bool> {
+    let moved = Text::from_string(String::from_str(alloc, text)?)?;
+    let copy = Text::new(alloc, text)?.try_clone(alloc)?;
+    Ok(have_bytes(&copy, &moved, text))
+}
+
+/// Texts of no byte and of 22, which lie in the value, and longer ones, which copies share.
+const KEPT: [&str; 4] = [
+    "",
+    "abcdefghijklmnopqrstuv",
+    "abcdefghijklmnopqrstuvw",
+    "éééééééééééééééééééé",
+];
+
+/// The first text of a table that has other bytes.
+fn first_wrong_text(alloc: Global, table: &[&'static str]) -> Made<Option<&'static str>> {
+    for text in table {
+        if !is_kept(alloc, text)? {
+            return Ok(Some(*text));
+        }
+    }
+    Ok(None)
 }
 
 #[test]
-fn a_text_is_written_over(rt: HostRuntime) -> Result<(), Fail> {
-    assert_eq!(rt; rewritten(rt.alloc())?.as_str(), "friends");
+fn texts_lie_in_place_or_are_shared(rt: HostRuntime) -> Result<(), Fail> {
+    assert_eq!(rt; first_wrong_text(rt.alloc(), &KEPT)?, None);
+    assert_eq!(rt; Text::empty().as_str(), "");
     Ok(())
 }
 
@@ -220,7 +261,7 @@ fn error_text(alloc: Global, error: &Error) -> Made<Text> {
     if let Some(values) = &error.extensions {
         push_extension_values(&mut out, values)?;
     }
-    Ok(Text::from_string(out))
+    Text::from_string(out)
 }
 
 fn text_of_copy(alloc: Global) -> Made<Text> {

@@ -21,7 +21,7 @@ fn extensions_text(alloc: Global) -> Made<Text> {
     let values = extensions(alloc)?;
     let mut out = String::new(alloc);
     push_extension_values(&mut out, &values)?;
-    Ok(Text::from_string(out))
+    Text::from_string(out)
 }
 
 /// Whether the extension b alone is left.

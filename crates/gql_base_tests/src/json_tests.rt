@@ -12,7 +12,7 @@ fn number_text(alloc: Global, number: Number) -> Made<Text> {
     let signed = number.as_i64();
     let unsigned = number.as_u64();
     let text = format!(in alloc; "{number} {signed:?} {unsigned:?}")?;
-    Ok(Text::from_string(text))
+    Text::from_string(text)
 }
 
 /// Whether a number has these readings and this text.
@@ -60,7 +60,7 @@ fn place_text(alloc: Global, place: JsonPlace) -> Made<Text> {
     while let Some(step) = place.next_step() {
         write!(out, " {step}")?;
     }
-    Ok(Text::from_string(out))
+    Text::from_string(out)
 }
 
 /// The literal of what is read from a JSON text, or the bad place.
@@ -175,7 +175,7 @@ fn type_parts(alloc: Global, ty: TypeRef) -> Made<Text> {
     let same = copies(alloc, &ty)?;
     let text = ty.text(alloc)?;
     let name = ty.type_name();
-    Ok(Text::from_string(format!(in alloc; "{name} {text} {nullable} {same}")?))
+    Text::from_string(format!(in alloc; "{name} {text} {nullable} {same}")?)
 }
 
 #[test]

@@ -2,7 +2,7 @@
 //! is made by small functions beside it, since a test is proved too.
 use gql_base::{
     Boxed, Common, Copied, Items, Made, Name, NoMemory, Number, Pairs, Text, Value, Variables,
-    json_of,
+    json_of, push_object,
 };
 use std::alloc::{AllocError, Global};
 use std::test::Fail;
@@ -34,7 +34,7 @@ fn texts(rt: HostRuntime) -> Result<(), Fail> {
     assert!(rt; text.len() == 3);
     assert!(rt; format!(in alloc; "<{text}>")?.as_str() == "<né>");
     assert!(rt; copies(alloc, &text)?);
-    assert!(rt; text == Text::from_string(String::from_str(alloc, "né")?));
+    assert!(rt; text == Text::from_string(String::from_str(alloc, "né")?)?);
     Ok(())
 }
 
@@ -105,7 +105,7 @@ fn inserted(alloc: Global, pairs: &mut Pairs<i64>, name: &str, value: i64) -> Ma
 
 /// Whether pairs begin with the number 3 under the name b, and one more stands behind it.
 fn begin_with_three(pairs: &Pairs<i64>) -> bool {
-    pairs.len() == 2 && pairs.at(0).0 == "b" && *pairs.at(0).1 == 3
+    pairs.len() == 2 && pairs.pair_at(0).0.as_str() == "b" && *pairs.at(0).1 == 3
 }
 
 /// Whether a number takes the place of another under its name.
@@ -148,10 +148,20 @@ fn variables_of(alloc: Global, value: Value) -> Made<Text> {
     json_of(alloc, &object)
 }
 
+/// The JSON text of the same variables, which stay as they are.
+fn variables_by_reference(alloc: Global, value: Value) -> Made<Text> {
+    let variables = Variables::from_value(alloc, value);
+    let mut out = String::new(alloc);
+    push_object(&mut out, variables.as_pairs())?;
+    Text::from_string(out)
+}
+
 #[test]
 fn variables_as_objects(rt: HostRuntime) -> Result<(), Fail> {
+    let alloc = rt.alloc();
+    assert_eq!(rt; variables_of(alloc, sample(alloc)?)?.as_str(), SAMPLE);
     assert_eq!(rt;
-        variables_of(rt.alloc(), sample(rt.alloc())?)?.as_str(),
+        variables_by_reference(alloc, sample(alloc)?)?.as_str(),
         SAMPLE
     );
     Ok(())

@@ -13,5 +13,5 @@ pub fn text_behind(alloc: Global, entries: &Entries<'_>, text: &Text) -> Made<Te
     let mut out = String::new(alloc);
     entries.push_lines(&mut out)?;
     out.push_str(text.as_str())?;
-    Ok(Text::from_string(out))
+    Text::from_string(out)
 }

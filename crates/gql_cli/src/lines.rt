@@ -17,7 +17,7 @@ pub(crate) fn line_after(alloc: Global, words: &str, text: &str) -> Made<Text>
     let mut out = String::from_str(alloc, words)?;
     out.push_str(text)?;
     out.push_str("\n")?;
-    Ok(Text::from_string(out))
+    Text::from_string(out)
 }
 
 /// The line of a response, or of those to a batch.
@@ -27,7 +27,7 @@ pub(crate) fn line_of(alloc: Global, response: &BatchResponse) -> Made<Text>
     let mut out = String::new(alloc);
     response.push_text(&mut out)?;
     out.push_str("\n")?;
-    Ok(Text::from_string(out))
+    Text::from_string(out)
 }
 
 /// The line of a load: how many rows there are, how many entries its record has, and how many bytes
@@ -42,7 +42,7 @@ pub(crate) fn load_line(
 {
     let polls = entries.len();
     let bytes = json_len(alloc, response)?;
-    Ok(Text::from_string(format!(in alloc; "rows {rows} polls {polls} bytes {bytes}\n")?))
+    Text::from_string(format!(in alloc; "rows {rows} polls {polls} bytes {bytes}\n")?)
 }
 
 /// The number of bytes of the JSON of a response, or of those to a batch.

@@ -10,7 +10,7 @@ ghost use Rattle.gql_conflicts.specs.declared.conflict.Conflict.{Conflict as Tol
 
 use crate::alike::alike;
 use crate::group::Group;
-use gql_base::{Made, Name, Pairs};
+use gql_base::{Copied, Made, Pairs};
 use gql_doc::{Field, Positioned};
 use std::alloc::Global;
 
@@ -44,11 +44,12 @@ fn add_occurrence<'a>(
         → AreGroups setting keys.old groups.old.items before
         → AreGroups setting keys.new groups.new.items (before ++ field.entry.now ∷ [])) }
 {
-    let key = field.node.response_key().node.as_str();
+    let name = &field.node.response_key().node;
+    let key = name.as_str();
     match keys.place_of(key) {
         Some(place) => add_to(alloc, &mut groups[place], field),
         None => {
-            keys.add_fresh(Name::new(alloc, key)?, ())?;
+            keys.add_fresh(name.try_clone(alloc)?, ())?;
             groups.push(Group {
                 first: field,
                 more: Vec::new(alloc),

@@ -17,7 +17,7 @@ use crate::group::Group;
 use crate::grouping::group_fields;
 use crate::reader::Reader;
 use crate::walked::Walked;
-use gql_base::{Items, Made, Text};
+use gql_base::{Copied, Items, Made};
 use gql_doc::{Field, Positioned, Selection};
 use gql_schema::NameSet;
 use std::alloc::Global;
@@ -208,9 +208,9 @@ fn add_unlike(
 fn conflict_of(alloc: Global, field: &Positioned<Field>) -> Made<Conflict>
     ensures { IfOk result (λ conflict. conflict ≡ told field.now) }
 {
-    let key = Text::new(alloc, field.node.response_key().node.as_str())?;
+    let key = field.node.response_key().node.text();
     Ok(Conflict {
         pos: field.pos,
-        key,
+        key: key.try_clone(alloc)?,
     })
 }

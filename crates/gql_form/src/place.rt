@@ -18,7 +18,7 @@ pub(crate) fn place_text(alloc: Global, place: JsonPlace) -> Made<Text>
         }
         None => out.push_str("bench")?,
     }
-    Ok(Text::from_string(out))
+    Text::from_string(out)
 }
 
 /// Appends the first step.

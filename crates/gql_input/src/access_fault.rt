@@ -38,7 +38,7 @@ impl<'k> AccessFault<'k> {
         let mut out = String::new(alloc);
         write!(out, "{self}")?;
         Ok(Error {
-            message: Text::from_string(out),
+            message: Text::from_string(out)?,
             extensions: None,
         })
     }

@@ -127,5 +127,5 @@ fn no_item(alloc: Global, name: &str) -> Made<Text>
 {
     let mut out = String::new(alloc);
     write!(out, "Enumeration type does not contain value \"{name}\".")?;
-    Ok(Text::from_string(out))
+    Text::from_string(out)
 }

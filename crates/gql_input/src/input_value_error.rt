@@ -111,7 +111,7 @@ impl<T> InputValueError<T> {
         let found = literal_of(alloc, &actual)?;
         let mut out = String::new(alloc);
         write!(out, "Expected input type \"{name}\", found {found}.")?;
-        Ok(InputValueError::of_text(out))
+        Ok(InputValueError::of_text(Text::from_string(out)?))
     }
 
     /// That a value is refused for a reason, for the reading of an `InputType` of this name itself.
@@ -121,7 +121,7 @@ impl<T> InputValueError<T> {
     {
         let mut out = String::new(alloc);
         write!(out, "Failed to parse \"{name}\": {msg}")?;
-        Ok(InputValueError::of_text(out))
+        Ok(InputValueError::of_text(Text::from_string(out)?))
     }
 
     /// The same error as one of another type.
@@ -142,12 +142,12 @@ impl<T> InputValueError<T> {
     }
 
     /// An error with this message alone.
-    fn of_text(message: String) -> InputValueError<T>
-        ensures message { message_of result ≡ string_bytes message }
+    fn of_text(message: Text) -> InputValueError<T>
+        ensures message { message_of result ≡ message }
         ensures extensions { extensions_of result ≡ None }
     {
         InputValueError {
-            message: Text::from_string(message),
+            message,
             extensions: None,
             of: PhantomData,
         }
@@ -162,7 +162,7 @@ fn propagated_text(alloc: Global, message: Text, name: &str, other: &str) -> Mad
     }
     let mut out = String::new(alloc);
     write!(out, "{message} (occurred while parsing \"{other}\")")?;
-    Ok(Text::from_string(out))
+    Text::from_string(out)
 }
 
 /// Extensions with a value under a name; none are like empty ones.

@@ -45,5 +45,5 @@ fn load_tag(alloc: Global, place: usize) -> Made<Text>
     ensures { IfOk result (λ tag. tag ≡ load_tag place) }
 {
     let number = place % 7;
-    Ok(Text::from_string(format!(in alloc; "t{number}")?))
+    Text::from_string(format!(in alloc; "t{number}")?)
 }

@@ -29,7 +29,7 @@ pub(crate) fn fault_of_three<V: Drop>(
     message.push_str(name)?;
     message.push_str(last)?;
     Ok(Shape::Fault(Error {
-        message: Text::from_string(message),
+        message: Text::from_string(message)?,
         extensions: None,
     }))
 }
@@ -52,7 +52,7 @@ pub(crate) fn fault_of_five<V: Drop>(
     message.push_str(other)?;
     message.push_str("\"")?;
     Ok(Shape::Fault(Error {
-        message: Text::from_string(message),
+        message: Text::from_string(message)?,
         extensions: None,
     }))
 }

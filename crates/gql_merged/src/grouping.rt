@@ -13,7 +13,7 @@ ghost use Rattle.gql_merged.specs.KeyNames.{key_text, names_in};
 use crate::basis::Grouping;
 use crate::group::{Group, Groups};
 use crate::key_names::Keys;
-use gql_base::{Made, Name, Pairs};
+use gql_base::{Copied, Made, Name, Pairs};
 use gql_doc::{Field, Positioned};
 use std::alloc::Global;
 
@@ -64,14 +64,15 @@ fn add_occurrence<'a>(
         ≡ unite both (under_keys keys.old groups.old.items) (key_text field.entry.now)
         field.entry.now) }
 {
-    let key = field.node.response_key().node.as_str();
+    let name = &field.node.response_key().node;
+    let key = name.as_str();
     match keys.place_of(key) {
         Some(place) => {
             groups[place].more.push(field)?;
             Ok(())
         }
         None => {
-            keys.add_fresh(Name::new(alloc, key)?, ())?;
+            keys.add_fresh(name.try_clone(alloc)?, ())?;
             groups.push(Group {
                 first: field,
                 more: Vec::new(alloc),
@@ -113,8 +114,8 @@ fn add_alone<'a>(
         ≡ under_names names.old.items groups.old.items
         ++ (key_text field.entry.now, field.entry.now) ∷ []) }
 {
-    let key = field.node.response_key().node.as_str();
-    names.push(Name::new(alloc, key)?)?;
+    let name = &field.node.response_key().node;
+    names.push(name.try_clone(alloc)?)?;
     groups.push(Group {
         first: field,
         more: Vec::new(alloc),

@@ -8,7 +8,7 @@ ghost use Rattle.gql_merged.specs.Assembled.{united_members};
 ghost use Rattle.gql_merged.specs.KeyNames.{names_in};
 
 use crate::key_names::Keys;
-use gql_base::{Made, Name, Pairs};
+use gql_base::{Copied, Made, Name, Pairs};
 use gql_place::{MemberPieces, Pieces, Place, join_onto};
 use std::alloc::Global;
 use std::collections::VecDeque;
@@ -50,7 +50,7 @@ fn members_joined(alloc: Global, names: &[Name], own: VecDeque<Place>) -> Made<P
     let mut members = Pairs::new(alloc);
     for name in names {
         if let Some(place) = own.pop_front() {
-            unite_place(alloc, &mut members, name.as_str(), place)?;
+            unite_place(alloc, &mut members, name, place)?;
         }
     }
     Ok(members)
@@ -58,11 +58,11 @@ fn members_joined(alloc: Global, names: &[Name], own: VecDeque<Place>) -> Made<P
 
 /// Adds a place under its key, joined to the one that stands there, if any does.
 #[tactic(auto, using(gql_place::proofs::JoinStepLemmas::joined_alone))]
-fn unite_place(alloc: Global, members: &mut Pairs<Place>, key: &str, place: Place) -> Made<()>
+fn unite_place(alloc: Global, members: &mut Pairs<Place>, key: &Name, place: Place) -> Made<()>
     ensures { OnOk result (members.new ≡ unite joined members.old key.now place) }
 {
-    match members.get_mut(key) {
+    match members.get_mut(key.as_str()) {
         Some(member) => join_onto(alloc, place, member),
-        None => members.add_fresh(Name::new(alloc, key)?, place),
+        None => members.add_fresh(key.try_clone(alloc)?, place),
     }
 }

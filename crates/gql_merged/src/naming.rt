@@ -100,7 +100,7 @@ fn show_number(alloc: Global, name: &str, number: Number) -> Made<Value>
 {
     if name == "ID" {
         let text = format!(in alloc; "{number}")?;
-        return Ok(Value::String(Text::from_string(text)));
+        return Ok(Value::String(Text::from_string(text)?));
     }
     Ok(Value::Number(number))
 }

@@ -1,6 +1,5 @@
 //! The paths of tasks.
 ghost use Rattle.std.specs.Prelude.{◌≡◌, ◌<◌, ◌≤◌, [], ◌∷◌, ◌++◌, drop, length, take, IfOk, OnOk};
-ghost use Rattle.gql_base.specs.declared.path_segment.PathSegment.TheVariants.{Field};
 ghost use Rattle.gql_merged.specs.Groups.{united};
 ghost use Rattle.gql_merged.specs.Parents.{index_of, steps_before, value_of};
 ghost use Rattle.gql_merged.specs.Steps.{index_step, path_of, segment_of, written};
@@ -11,7 +10,7 @@ use crate::level::Node;
 use crate::parent::Held;
 use crate::step::Step;
 use crate::storing::copy_steps;
-use gql_base::{Made, PathSegment, Text};
+use gql_base::{Copied, Made, Name, PathSegment};
 use gql_resolve::FieldValue;
 use std::alloc::Global;
 
@@ -47,10 +46,10 @@ fn index_in<V>(held: &Held<'_, V>) -> Option<usize>
 
 /// The key of a field.
 #[tactic(auto, using(crate::proofs::UnitingLemmas::key_with_others))]
-fn key_at<'a>(node: &Node<'a>) -> &'a str
+fn key_at<'a>(node: &Node<'a>) -> &'a Name
     ensures { result.now ≡ key_text (united node.entry.now.group) }
 {
-    node.group.first.node.response_key().node.as_str()
+    &node.group.first.node.response_key().node
 }
 
 /// The steps to a field of an object.
@@ -82,8 +81,7 @@ fn push_index(steps: &mut Vec<Step<'_>>, index: Option<usize>) -> Made<()>
     }
 }
 
-/// Writes the path of a field of an object over what stands in the buffer, segment by segment, so
-/// that each text is written in the memory of the one that stood there.
+/// Writes the path of a field of an object over what stands in the buffer, segment by segment.
 pub(crate) fn write_path<V>(
     alloc: Global,
     held: &Held<'_, V>,
@@ -145,34 +143,16 @@ fn write_step(alloc: Global, path: &mut Vec<PathSegment>, place: usize, step: St
 fn write_over(alloc: Global, segment: &mut PathSegment, step: Step<'_>) -> Made<()>
     ensures { OnOk result (segment.new ≡ segment_of step.entry) }
 {
-    match step {
-        Step::Key(key) => write_key(alloc, segment, key),
-        Step::Index(index) => {
-            *segment = PathSegment::Index(index);
-            Ok(())
-        }
-    }
+    *segment = segment_at(alloc, step)?;
+    Ok(())
 }
 
-/// Writes a key over a segment, in the memory of the text that stands there.
-fn write_key(alloc: Global, segment: &mut PathSegment, key: &str) -> Made<()>
-    ensures { OnOk result (segment.new ≡ Field key.now) }
-{
-    match segment {
-        PathSegment::Field(text) => text.set(key),
-        PathSegment::Index(_) => {
-            *segment = PathSegment::Field(Text::new(alloc, key)?);
-            Ok(())
-        }
-    }
-}
-
-/// A step of a path, as it is told.
+/// A step of a path, as it is told. A long key is shared.
 fn segment_at(alloc: Global, step: Step<'_>) -> Made<PathSegment>
     ensures { IfOk result (λ made. made ≡ segment_of step.entry) }
 {
     match step {
-        Step::Key(key) => Ok(PathSegment::Field(Text::new(alloc, key)?)),
+        Step::Key(key) => Ok(PathSegment::Field(key.text().try_clone(alloc)?)),
         Step::Index(index) => Ok(PathSegment::Index(index)),
     }
 }

@@ -1,6 +1,8 @@
+use gql_base::Name;
+
 /// One step of a path: the key of a field, or the place of an item in its list, counted from 0.
 #[derive(Clone, Copy)]
 pub enum Step<'a> {
-    Key(&'a str),
+    Key(&'a Name),
     Index(usize),
 }

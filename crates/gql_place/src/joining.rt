@@ -3,7 +3,7 @@ ghost use Rattle.gql_base.specs.Pairs.{unite_all};
 ghost use Rattle.gql_place.specs.Join.{join as joined, join_trees, join_items};
 
 use crate::place::{Place, Tree};
-use gql_base::{Items, Made, Name, Pairs};
+use gql_base::{Copied, Items, Made, Pairs};
 use std::alloc::Global;
 
 /// Two places of one key as one: the first's position, added errors and header operations stay.
@@ -69,10 +69,11 @@ fn join_members(alloc: Global, others: Pairs<Place>, members: &mut Pairs<Place>)
         let Some(other) = places.next() else {
             return Ok(());
         };
-        let key = names.at(index);
+        let name = names.name_at(index);
+        let key = name.as_str();
         match members.get_mut(key) {
             Some(member) => join_onto(alloc, other, member)?,
-            None => members.add_fresh(Name::new(alloc, key)?, other)?,
+            None => members.add_fresh(name.try_clone(alloc)?, other)?,
         }
     }
     Ok(())

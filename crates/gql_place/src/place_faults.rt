@@ -4,14 +4,14 @@ ghost use Rattle.gql_place.specs.Faults.{item_faults, located};
 ghost use Rattle.gql_place.specs.Steps.{path_of, segment_of};
 
 use crate::place::{Place, Tree};
-use gql_base::{Copied, Error, Items, Made, Pairs, PathSegment, Pos, ServerError, Text};
+use gql_base::{Copied, Error, Items, Made, Name, Pairs, PathSegment, Pos, ServerError};
 use std::alloc::Global;
 
 /// A step on the way to a place of a response. Its key is the response's own, and is copied where an
 /// error is told.
 #[derive(Clone, Copy, Debug)]
 pub enum Step<'a> {
-    Field(&'a str),
+    Field(&'a Name),
     Index(usize),
 }
 
@@ -76,7 +76,7 @@ fn segment_of(alloc: Global, step: Step<'_>) -> Made<PathSegment>
     ensures { IfOk result (λ segment. segment ≡ segment_of step.entry) }
 {
     match step {
-        Step::Field(key) => Ok(PathSegment::Field(Text::new(alloc, key)?)),
+        Step::Field(key) => Ok(PathSegment::Field(key.text().try_clone(alloc)?)),
         Step::Index(index) => Ok(PathSegment::Index(index)),
     }
 }
@@ -129,7 +129,7 @@ fn push_members<'a>(
     ensures path { OnOk result (path_of path.new ≡ path_of path.old) }
 {
     for index in 0..members.len() {
-        let (key, member) = members.at(index);
+        let (key, member) = members.pair_at(index);
         path.push(Step::Field(key))?;
         push_place(alloc, errors, path, member)?;
         path.pop();

@@ -60,7 +60,7 @@ impl BatchResponse {
     {
         let mut out = String::new(alloc);
         self.push_text(&mut out)?;
-        Ok(Text::from_string(out))
+        Text::from_string(out)
     }
 }
 

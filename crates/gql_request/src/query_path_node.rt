@@ -61,7 +61,7 @@ impl<'a> QueryPathNode<'a> {
     {
         let mut out = String::with_capacity(alloc, ROOM)?;
         self.push_text(&mut out)?;
-        Ok(Text::from_string(out))
+        Text::from_string(out)
     }
 
     /// Appends the texts of the segments, joined by dots. Where memory is wanting, some of that may
@@ -85,7 +85,7 @@ fn text_of(alloc: Global, segment: &PathSegment) -> Made<Text>
 {
     let mut out = String::new(alloc);
     write!(out, "{segment}")?;
-    Ok(Text::from_string(out))
+    Text::from_string(out)
 }
 
 /// Appends the text of a segment.

@@ -113,7 +113,7 @@ impl Response {
     {
         let mut out = String::new(alloc);
         push_response(&mut out, self)?;
-        Ok(Text::from_string(out))
+        Text::from_string(out)
     }
 }
 

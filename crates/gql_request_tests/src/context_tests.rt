@@ -62,7 +62,7 @@ fn name_in(found: Option<&Value>) -> &str {
 /// A key without a value, and how that is told.
 fn no_text(alloc: Global, no: NoData) -> Made<Text> {
     let key = no.0;
-    Ok(Text::from_string(format!(in alloc; "{}: {no}", key.0)?))
+    Text::from_string(format!(in alloc; "{}: {no}", key.0)?)
 }
 
 fn answer_text(alloc: Global, answer: Result<&Value, NoData>) -> Made<Text> {
@@ -86,7 +86,7 @@ fn answer_texts<'a, C: DataContext<'a>>(alloc: Global, context: &C, key: DataKey
     let optional = name_in(context.data_opt(key));
     let answer = answer_text(alloc, context.data(key))?;
     let unchecked = unchecked_name(context, key);
-    Ok(Text::from_string(format!(in alloc; "{optional}, {answer}, {unchecked}")?))
+    Text::from_string(format!(in alloc; "{optional}, {answer}, {unchecked}")?)
 }
 
 /// The same for a key of the layers that hooks see.

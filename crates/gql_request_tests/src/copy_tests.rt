@@ -94,7 +94,7 @@ fn environment_text(alloc: Global, env: &QueryEnv) -> Made<Text> {
     if let Some(Value::Number(number)) = env.variables.get("a") {
         write!(out, " a {number}")?;
     }
-    Ok(Text::from_string(out))
+    Text::from_string(out)
 }
 
 fn copy_text(alloc: Global) -> Made<Text> {

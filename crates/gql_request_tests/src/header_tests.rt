@@ -54,7 +54,7 @@ fn pairs_text(alloc: Global, mut pairs: HeaderPairs) -> Result<Text, HeaderFault
         let value = value.to_str().unwrap_or("");
         write!(out, "{} {value}; ", name.as_str())?;
     }
-    Ok(Text::from_string(out))
+    Ok(Text::from_string(out)?)
 }
 
 /// A batch of as many responses.
@@ -86,7 +86,7 @@ fn values_text(alloc: Global, map: &HeaderMap, name: &str) -> Result<Text, Heade
         let value = value.to_str().unwrap_or("");
         write!(out, " {value}")?;
     }
-    Ok(Text::from_string(out))
+    Ok(Text::from_string(out)?)
 }
 
 /// The number of a map's values, and those under each of three names.
@@ -94,7 +94,7 @@ fn map_text(alloc: Global, map: &HeaderMap) -> Result<Text, HeaderFault> {
     let a = values_text(alloc, map, "a")?;
     let b = values_text(alloc, map, "B")?;
     let c = values_text(alloc, map, "c")?;
-    Ok(Text::from_string(format!(in alloc; "{}; a{a}; b{b}; c{c}", map.len())?))
+    Ok(Text::from_string(format!(in alloc; "{}; a{a}; b{b}; c{c}", map.len())?)?)
 }
 
 fn made_text(alloc: Global, headers: Result<HeaderMap, HeaderFault>) -> Result<Text, HeaderFault> {

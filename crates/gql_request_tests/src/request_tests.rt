@@ -32,7 +32,7 @@ fn summary(alloc: Global, request: &Request) -> Made<Text> {
         write!(out, " 1 {number}")?;
     }
     out.push_str(mode_text(request.introspection_mode))?;
-    Ok(Text::from_string(out))
+    Text::from_string(out)
 }
 
 fn mode_text(mode: IntrospectionMode) -> &'static str {
@@ -114,11 +114,11 @@ fn extensions_text(alloc: Global, extensions: Pairs<Value>) -> Made<Text> {
 fn whole_text(alloc: Global, request: &Request) -> Made<Text> {
     let words = summary(alloc, request)?;
     let extensions = extensions_text(alloc, request.extensions.try_clone(alloc)?)?;
-    Ok(Text::from_string(format!(in alloc; "{words}|{extensions}")?))
+    Text::from_string(format!(in alloc; "{words}|{extensions}")?)
 }
 
 fn error_text(alloc: Global, error: ParseRequestError) -> Made<Text> {
-    Ok(Text::from_string(format!(in alloc; "{error}")?))
+    Text::from_string(format!(in alloc; "{error}")?)
 }
 
 /// What reading a value as a request gives: the request in words and its extensions, or the error
@@ -218,7 +218,7 @@ fn read_batch_text(alloc: Global, value: &Value) -> Made<Text> {
 }
 
 fn counted_text(alloc: Global, count: usize, single: &str) -> Made<Text> {
-    Ok(Text::from_string(format!(in alloc; "{count} {single}")?))
+    Text::from_string(format!(in alloc; "{count} {single}")?)
 }
 
 /// Whether a batch is a single request, or why not.

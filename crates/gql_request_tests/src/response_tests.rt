@@ -57,7 +57,7 @@ fn two_text(alloc: Global) -> Made<Text> {
 
 fn batch_text(alloc: Global, batch: BatchResponse) -> Made<Text> {
     let json = batch.json(alloc)?;
-    Ok(Text::from_string(format!(in alloc; "{json} {}", batch.is_ok())?))
+    Text::from_string(format!(in alloc; "{json} {}", batch.is_ok())?)
 }
 
 const TWO: &str =

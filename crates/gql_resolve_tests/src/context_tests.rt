@@ -22,7 +22,7 @@ fn context_text(alloc: Global, context: &ResolverContext<'_, u64>) -> Made<Text>
     let number = number(context).unwrap_or(0);
     let mut out = String::new(alloc);
     write!(out, "{resolver} {task} {path} {field} {parent} {number}")?;
-    Ok(Text::from_string(out))
+    Text::from_string(out)
 }
 
 /// The same of its clone.

@@ -72,7 +72,7 @@ fn compositions_told(alloc: Global, parts: &Parts) -> Made<Text> {
     let third = composed_told(alloc, &context, 3)?;
     let fourth = composed_told(alloc, &context, 4)?;
     write!(out, "{third};{fourth}")?;
-    Ok(Text::from_string(out))
+    Text::from_string(out)
 }
 
 #[test]

@@ -64,7 +64,7 @@ fn names_beneath(alloc: Global, field: &SelectionField<'_>) -> Made<Text> {
         let alias = inner.alias().unwrap_or("");
         write!(out, "{alias}:{} ", inner.name())?;
     }
-    Ok(Text::from_string(out))
+    Text::from_string(out)
 }
 
 #[test]

@@ -16,7 +16,7 @@ fn told(alloc: Global, given: ServerResult<(Pos, i32)>) -> Made<Text> {
 fn found(alloc: Global, number: i32, pos: Pos) -> Made<Text> {
     let mut out = String::new(alloc);
     write!(out, "{number} {}:{}", pos.line, pos.column)?;
-    Ok(Text::from_string(out))
+    Text::from_string(out)
 }
 
 fn asked(alloc: Global, context: &ResolverContext<'_, u64>, default: Option<i32>) -> Made<Text> {

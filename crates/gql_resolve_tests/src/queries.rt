@@ -153,5 +153,5 @@ pub fn error_text(alloc: Global, error: &ServerError) -> Made<Text> {
     if !error.path.is_empty() {
         out.push_str(" with a path")?;
     }
-    Ok(Text::from_string(out))
+    Text::from_string(out)
 }

@@ -37,7 +37,7 @@ fn values_text(alloc: Global, arguments: &[(Name, Value)]) -> Made<Text> {
     for (name, value) in arguments {
         push_value(alloc, &mut out, name.as_str(), value)?;
     }
-    Ok(Text::from_string(out))
+    Text::from_string(out)
 }
 
 /// The arguments of the first field of a query, or their refusal.
@@ -75,7 +75,7 @@ fn directive_text(alloc: Global, directive: &ConstDirective) -> Made<Text> {
         write!(out, "{}:{} ", name.pos.column, value.pos.column)?;
         push_value(alloc, &mut out, name.node.as_str(), &value.node)?;
     }
-    Ok(Text::from_string(out))
+    Text::from_string(out)
 }
 
 /// Directives, each copied before it is told.
@@ -86,7 +86,7 @@ fn copies_text(alloc: Global, directives: &[ConstDirective]) -> Made<Text> {
         let text = directive_text(alloc, &copy)?;
         out.push_str(text.as_str())?;
     }
-    Ok(Text::from_string(out))
+    Text::from_string(out)
 }
 
 fn directives_text(alloc: Global, field: &SelectionField<'_>) -> Made<Text> {

@@ -14,7 +14,7 @@ pub fn text_around(alloc: Global, front: &str, name: &str, back: &str) -> Made<T
     out.push_str(front)?;
     out.push_str(name)?;
     out.push_str(back)?;
-    Ok(Text::from_string(out))
+    Text::from_string(out)
 }
 
 /// Two names joined by a dot.

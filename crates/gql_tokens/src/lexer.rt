@@ -100,7 +100,7 @@ fn empty_string(alloc: Global) -> Reading
         → StandsIn result.lexeme result.length text }
 {
     Reading {
-        lexeme: Lexeme::String(Text::from_string(String::new(alloc))),
+        lexeme: Lexeme::String(Text::empty()),
         length: 2,
     }
 }

@@ -171,5 +171,6 @@ pub fn block_value(alloc: Global, raw: &str) -> Made<Text>
 {
     let mut kept = kept_lines(alloc, raw)?;
     kept.text.truncate(kept.length);
-    Ok(Text::from_string(kept.text))
+    let text = Text::from_string(kept.text)?;
+    Ok(text)
 }

@@ -117,7 +117,7 @@ pub fn string_at(alloc: Global, text: &str) -> Made<Option<Quoted>>
         at += plain;
         if begins_with_quote(&bytes[at..]) {
             return Ok(Some(Quoted {
-                text: Text::from_string(value),
+                text: Text::from_string(value)?,
                 length: at + 1,
             }));
         }

@@ -22,7 +22,7 @@ returns-in-Some c =
 
 pub add_fresh-requires : goal.add_fresh-requires
 add_fresh-requires c =
-    subst (λ k. under k c.args.keys.now ≡ None) (sym c.in_ok-new-in-None.ensures)
+    subst (λ k. under k c.args.keys.now ≡ None) (c.as_str-key.ensures ∙ sym c.in_ok-try_clone-in-None.ensures)
     (sym (under_no_place c.as_str-key.result.now c.args.keys.now c.in-None.ensures.place))
 
 pub returns-in_ok-push-in-None : goal.returns-in_ok-push-in-None
@@ -32,7 +32,7 @@ returns-in_ok-push-in-None c =
     let field = c.args.field in
     let key : c.as_str-key.result.now ≡ key_at field.now = c.as_str-key.ensures ∙ ap (λ k. k.node) c.response_key.ensures in
     let none = sym (c.in-None.ensures.place ∙ ap (λ k. place_of k (names_of keys)) key) in
-    let keys_are = c.in_ok-add_fresh-in-None.ensures.added ∙ ap (λ k. keys ++ (k, tt) ∷ []) (c.in_ok-new-in-None.ensures ∙ key) in
+    let keys_are = c.in_ok-add_fresh-in-None.ensures.added ∙ ap (λ k. keys ++ (k, tt) ∷ []) (c.in_ok-try_clone-in-None.ensures ∙ ap (λ k. k.node) c.response_key.ensures) in
     let group : Group = record { first = field; more = c.new-in-None.result; unlike = None } in
     λ setting before are.
     rw (keys_are, c.in_ok-push-in-None.ensures.items) (groups_fresh setting keys groups before are field group none refl c.new-in-None.ensures.items refl)

@@ -26,7 +26,7 @@ returns-in_ok-push-in-Some-clause-united c =
 
 pub add_fresh-requires : goal.add_fresh-requires
 add_fresh-requires c =
-    subst (λ k. under k c.args.keys.now ≡ None) (sym c.in_ok-new-in-None.ensures)
+    subst (λ k. under k c.args.keys.now ≡ None) (c.as_str-key.ensures ∙ sym c.in_ok-try_clone-in-None.ensures)
     (sym (under_no_place c.as_str-key.result.now c.args.keys.now c.in-None.ensures.place))
 
 pub returns-in_ok-push-in-None-clause-united : goal.returns-in_ok-push-in-None-clause-united
@@ -36,7 +36,7 @@ returns-in_ok-push-in-None-clause-united c =
     let field = c.args.field.now in
     let key : c.as_str-key.result.now ≡ key_text field = c.as_str-key.ensures ∙ ap (λ k. k.node) c.response_key.ensures in
     let none = sym (c.in-None.ensures.place ∙ ap (λ k. place_of k (names_of keys)) key) in
-    let keys_are = c.in_ok-add_fresh-in-None.ensures.added ∙ ap (λ k. keys ++ (k, tt) ∷ []) (c.in_ok-new-in-None.ensures ∙ key) in
+    let keys_are = c.in_ok-add_fresh-in-None.ensures.added ∙ ap (λ k. keys ++ (k, tt) ∷ []) (c.in_ok-try_clone-in-None.ensures ∙ ap (λ k. k.node) c.response_key.ensures) in
     let group : Group = record { first = c.args.field; more = c.new-in-None.result } in
     let alone : united group ≡ field = ap (λ others. with_others field (all_behind others)) c.new-in-None.ensures.items in
     (λ i. under_keys (keys_are i) (c.in_ok-push-in-None.ensures.items i))

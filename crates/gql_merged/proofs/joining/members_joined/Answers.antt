@@ -1,7 +1,7 @@
 -- One more place comes under its key.
 use Rattle.std.proofs.Common.{drop, sym, ap, ◌∙◌}
 use Rattle.std.specs.List.{zip}
-use Rattle.gql_base.specs.Pairs.{unite, unite_all}
+use Rattle.gql_base.specs.Pairs.{unite_all}
 use Rattle.gql_place.specs.Join.{join}
 use Rattle.gql_merged.proofs.GroupingLemmas.{joined_more, joined_none}
 use Rattle.gql_merged.proofs.JoiningLemmas.{nil_from_rest}
@@ -13,7 +13,7 @@ loop-name-preserved c = elim c.match-pop_front.branch [
   | in-Some+in_ok-unite_place w ↦
       joined_more c.args.names.now c.loop-name.name-index c.name-item.result c.loop-name.own.items c.pop_front.new.self.items w.in-Some.place
       c.loop-name.members c.match-pop_front.members _ c.loop-name-test.true c.name-item.is w.in-Some.ensures.items
-      (w.members-is ∙ w.in_ok-unite_place.ensures ∙ ap (λ n. unite join c.loop-name.members n w.in-Some.place) w.as_str.ensures) c.loop-name.invariant
+      (w.members-is ∙ w.in_ok-unite_place.ensures) c.loop-name.invariant
   | in_default w ↦
       joined_none c.args.names.now c.loop-name.name-index c.loop-name.own.items c.pop_front.new.self.items c.match-pop_front.members _
       (nil_from_rest c.loop-name.own.items (w.in_default.ensures.items ∙ c.pop_front.ensures.rest)) (sym w.in_default.ensures.items)

@@ -6,7 +6,7 @@ use Rattle.gql_place.specs.Join.{join, join_items}
 use Rattle.gql_place.proofs.JoinStepLemmas.{joining_ended, joining_step, joined_alone, joined_there, next_left, no_length, nothing_left, uniting_begun, uniting_ended, uniting_over, uniting_step}
 use Rattle.gql_place.proofs.WeightLemmas.{items_weight, next_weighs, object_weighs, tree_weight, weight}
 use Rattle.gql_place.proofs.joining.+join.Goals as goal
-use Rattle.gql_place.proofs.joining.+join.Goals.{join_members-in-Some-get_mut+in_ok-join_onto-in-Some-get_mut, join_members-in-None+in_ok-new-in-None+in_ok-add_fresh-in-None}
+use Rattle.gql_place.proofs.joining.+join.Goals.{join_members-in-Some-get_mut+in_ok-join_onto-in-Some-get_mut, join_members-in-None+in_ok-try_clone-in-None+in_ok-add_fresh-in-None}
 
 pub join_each-join_onto-requires : goal.join_each-join_onto-requires
 join_each-join_onto-requires t c =
@@ -58,21 +58,21 @@ join_members-join_onto-requires t c =
 
 pub join_members-loop-index-preserved : goal.join_members-loop-index-preserved
 join_members-loop-index-preserved t c =
-    let named : slice_get (names_of c.args.others) c.loop-index.index ≡ Some c.at-key.result.now
-    = ap (λ names. slice_get names c.loop-index.index) (sym c.into_parts-names.ensures.names) ∙ c.at-key.ensures in
-    let united : c.match-get_mut.members ≡ unite join c.loop-index.members c.at-key.result.now c.in-Some.other
+    let named : slice_get (names_of c.args.others) c.loop-index.index ≡ Some c.as_str-key.result.now
+    = ap (λ names. slice_get names c.loop-index.index) (sym c.into_parts-names.ensures.names) ∙ c.name_at-name.ensures ∙ ap Some (sym c.as_str-key.ensures) in
+    let united : c.match-get_mut.members ≡ unite join c.loop-index.members c.as_str-key.result.now c.in-Some.other
     = elim c.match-get_mut.branch [
       | join_members-in-Some-get_mut+in_ok-join_onto-in-Some-get_mut w ↦
-          joined_there c.loop-index.members c.match-get_mut.members c.at-key.result.now w.in-Some-get_mut.member.now w.join_onto.new.first c.in-Some.other
+          joined_there c.loop-index.members c.match-get_mut.members c.as_str-key.result.now w.in-Some-get_mut.member.now w.join_onto.new.first c.in-Some.other
           (sym w.in-Some-get_mut.ensures.value) w.in_ok-join_onto-in-Some-get_mut.ensures w.members-is
-      | join_members-in-None+in_ok-new-in-None+in_ok-add_fresh-in-None w ↦
-          joined_alone c.loop-index.members c.match-get_mut.members c.at-key.result.now c.in-Some.other (sym w.in-None.ensures.value)
+      | join_members-in-None+in_ok-try_clone-in-None+in_ok-add_fresh-in-None w ↦
+          joined_alone c.loop-index.members c.match-get_mut.members c.as_str-key.result.now c.in-Some.other (sym w.in-None.ensures.value)
           (w.members-is ∙ w.in_ok-add_fresh-in-None.ensures.added
-          ∙ ap (λ key. c.loop-index.members ++ (key, c.in-Some.other) ∷ []) w.in_ok-new-in-None.ensures)
+          ∙ ap (λ key. c.loop-index.members ++ (key, c.in-Some.other) ∷ []) (w.in_ok-try_clone-in-None.ensures ∙ sym c.as_str-key.ensures))
     ] in record {
       uniting =
           uniting_step (unite_all join c.args.members.now c.args.others) c.loop-index.members c.match-get_mut.members (names_of c.args.others) c.loop-index.index (into_iter_items c.loop-index.places)
-          (into_iter_items c.next.new.self) c.at-key.result.now c.in-Some.other c.loop-index.invariant.uniting named c.in-Some.ensures.items united;
+          (into_iter_items c.next.new.self) c.as_str-key.result.now c.in-Some.other c.loop-index.invariant.uniting named c.in-Some.ensures.items united;
       left =
           next_left (values_of c.args.others) (into_iter_items c.loop-index.places) (into_iter_items c.next.new.self) c.loop-index.index c.in-Some.other
           c.loop-index.invariant.left c.in-Some.ensures.items;

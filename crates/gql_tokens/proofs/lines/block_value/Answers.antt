@@ -8,5 +8,5 @@ use Rattle.gql_tokens.proofs.lines.block_value.Goals as goal
 pub returns : goal.returns
 returns c =
     let raw = c.args.raw.now in
-    c.from_string.ensures ∙ c.truncate.ensures.bytes ∙ c.in_ok-kept.ensures.front_is
+    c.in_ok-text.ensures ∙ c.truncate.ensures.bytes ∙ c.in_ok-kept.ensures.front_is
     ∙ sym (ap block_value (encodes-chars raw c.utf8.raw)) ∙ value_encoded (chars raw)

@@ -45,7 +45,7 @@ returns-then-begins_with_quote c =
     let so_far = behind_plain text bytes value longer at k same c.utf8.text c.loop-value.invariant
     c.plain_length-plain.ensures.exact (c.in_ok-push_str.ensures.bytes ∙ ap (λ l. value ++ l) c.range.ensures.value) in
     let ends = ap (begins (λ d. d == quote)) (sym (rest_is text bytes (at + k) same)) ∙ sym c.begins_with_quote.ensures ∙ c.if-begins_with_quote.true in
-    subst (λ l. IsStringIn text l (at + k + 1)) (sym c.from_string.ensures) (read_end text c.utf8.text longer (at + k) so_far c.requires ends)
+    subst (λ l. IsStringIn text l (at + k + 1)) (sym c.in_ok-from_string.ensures) (read_end text c.utf8.text longer (at + k) so_far c.requires ends)
 
 pub loop-value-preserved : goal.loop-value-preserved
 loop-value-preserved c =
