@@ -1,9 +1,9 @@
 ghost use Rattle.std.specs.Prelude.{◌≡◌, [], ◌∷◌, ◌++◌, ◌<◌, length, slice_get, OnOk, OnErr, Some};
-ghost use Rattle.std.specs.Prelude.{false};
-ghost use Rattle.gql_schema.specs.NameSet.{is_among, with_name};
+ghost use Rattle.std.specs.Prelude.{false, IfOk};
+ghost use Rattle.gql_schema.specs.NameSet.{is_among, with_name, with_names};
 
 use crate::same::Same;
-use gql_base::{Copied, Made, Name, Names};
+use gql_base::{Copied, Items, Made, Name, Names, Text};
 use std::alloc::Global;
 use std::marker::Model;
 
@@ -35,6 +35,17 @@ impl NameSet {
         NameSet {
             names: Names::new(alloc),
         }
+    }
+
+    /// The names that some texts are, in order. One that comes again changes nothing.
+    pub fn of_texts(alloc: Global, texts: Items<Text>) -> Made<NameSet>
+        ensures { IfOk result (λ set. set ≡ with_names [] texts) }
+    {
+        let mut set = NameSet::new(alloc);
+        for text in texts.into_vec() {
+            set.add(Name::from_text(text))?;
+        }
+        Ok(set)
     }
 
     /// The number of names, which differ.

@@ -3,8 +3,9 @@ ghost use Rattle.gql_schema.specs.NameSet.{is_among};
 ghost use Rattle.gql_schema.specs.ScalarRule.{always, bare_of, is_boolean, is_number, is_string};
 ghost use Rattle.gql_schema.specs.ScalarRule.{is_between};
 
+use crate::name_set::NameSet;
 use crate::same::Same;
-use gql_base::{Copied, Items, Made, Text, Value};
+use gql_base::{Copied, Made, Value};
 use std::alloc::Global;
 
 /// Which values a scalar takes (GraphQL, October 2021, section 3.5).
@@ -23,7 +24,7 @@ pub enum ScalarRule {
     /// The whole numbers from the first to the second.
     IntBetween(i64, i64),
     /// These strings.
-    OneOf(Items<Text>),
+    OneOf(NameSet),
 }
 
 impl ScalarRule {
@@ -40,7 +41,7 @@ impl ScalarRule {
             ScalarRule::Text => is_any_string(value),
             ScalarRule::Id => is_any_string(value) || is_any_number(value),
             ScalarRule::IntBetween(least, most) => is_within(value, *least, *most),
-            ScalarRule::OneOf(texts) => is_listed(value, texts.as_slice()),
+            ScalarRule::OneOf(texts) => is_listed(value, texts),
         }
     }
 }
@@ -77,20 +78,13 @@ fn is_within(value: &Value, least: i64, most: i64) -> bool
 }
 
 /// True exactly where the value is one of these strings.
-fn is_listed(value: &Value, texts: &[Text]) -> bool
+fn is_listed(value: &Value, texts: &NameSet) -> bool
     ensures { result ≡ is_string (λ text. is_among text texts.now) (bare_of value.now) }
 {
     match value {
-        Value::String(text) => has_text(texts, text.as_str()),
+        Value::String(text) => texts.has(text.as_str()),
         _ => false,
     }
-}
-
-/// True exactly where a text is among these.
-fn has_text(texts: &[Text], text: &str) -> bool
-    ensures { result ≡ is_among text.now texts.now }
-{
-    texts.iter().any(|other| other.as_str() == text)
 }
 
 impl Copied for ScalarRule {

@@ -1,8 +1,8 @@
 //! A type of each kind, and a table of them.
 use gql_base::{Items, Made, Number, Text, TypeRef, Value};
 use gql_schema::{
-    Enum, Field, InputObject, InputValue, Interface, InterfaceField, Object, Scalar, ScalarRule,
-    SchemaType, Subscription, SubscriptionField, Types, Union,
+    Enum, Field, InputObject, InputValue, Interface, InterfaceField, NameSet, Object, Scalar,
+    ScalarRule, SchemaType, Subscription, SubscriptionField, Types, Union,
 };
 use std::alloc::Global;
 
@@ -77,6 +77,7 @@ fn union_type(alloc: Global) -> Made<Union> {
 fn scalar(alloc: Global) -> Made<Scalar> {
     let mut texts = Items::new(alloc);
     texts.push(Text::new(alloc, "x")?)?;
+    let texts = NameSet::of_texts(alloc, texts)?;
     Ok(Scalar::new(alloc, "D")?.rule(ScalarRule::OneOf(texts)))
 }
 
