@@ -4,6 +4,7 @@ use Rattle.std.specs.Str.{bytes_eq}
 use Rattle.serde_json.specs.Data.{Data}
 use Rattle.serde_json.specs.Find.{as_str}
 use Rattle.gql_base.specs.ReadJson.{Reading}
+use Rattle.gql_schema.specs.NameSet.{with_names}
 use Rattle.gql_schema.specs.declared.scalar_rule.ScalarRule.{ScalarRule}
 use Rattle.gql_schema.specs.declared.scalar_rule.ScalarRule.TheVariants as rule
 use Rattle.gql_form.specs.declared.scalar_rule.Between.{Between}
@@ -30,6 +31,12 @@ between_of json = do
 abbrev pub range_words : List (List ℕ)
 range_words = codes "between" ∷ codes "oneOf" ∷ []
 
+-- the texts that a scalar takes, each once
+abbrev pub listed_texts : Data → Reading (List (List ℕ))
+listed_texts json = do
+  texts ← member (codes "oneOf") (each text_of) json
+  Ok (with_names [] texts)
+
 -- a rule that is an object of one member
 abbrev pub object_rule_of : Data → Reading ScalarRule
 object_rule_of json = do
@@ -39,7 +46,7 @@ object_rule_of json = do
     _ ← only range_words json
     Ok (rule.IntBetween ends.low ends.high))
       else (do
-        texts ← member (codes "oneOf") (each text_of) json
+        texts ← listed_texts json
         _ ← only range_words json
         Ok (rule.OneOf texts))
 

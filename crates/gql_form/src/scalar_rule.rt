@@ -1,12 +1,13 @@
 //! The rules of scalars.
 ghost use Rattle.serde_json.specs.View.{view};
 ghost use Rattle.gql_form.specs.Faults.{IsRead};
-ghost use Rattle.gql_form.specs.ScalarRule.{word_rule_of, object_rule_of};
+ghost use Rattle.gql_form.specs.ScalarRule.{listed_texts, object_rule_of, word_rule_of};
 
 use crate::fault::Fault;
 use crate::form::{Form, Reader};
 use crate::kit::{bad, long, member, nth, only, sole};
-use gql_schema::ScalarRule;
+use gql_base::{Items, Text};
+use gql_schema::{NameSet, ScalarRule};
 use serde_json::Value as Json;
 
 /// The two ends of a range.
@@ -65,8 +66,17 @@ fn read_object(reader: Reader, json: &Json) -> Result<ScalarRule, Fault>
             let ends: Between = member(reader, json, "between")?;
             ScalarRule::IntBetween(ends.low, ends.high)
         }
-        _ => ScalarRule::OneOf(member(reader, json, "oneOf")?),
+        _ => ScalarRule::OneOf(read_texts(reader, json)?),
     };
     only(reader, json, &["between", "oneOf"])?;
     Ok(rule)
+}
+
+/// The texts that a scalar takes, each once.
+fn read_texts(reader: Reader, json: &Json) -> Result<NameSet, Fault>
+    ensures { IsRead result (listed_texts (view json.now)) }
+{
+    let texts: Items<Text> = member(reader, json, "oneOf")?;
+    let set = NameSet::of_texts(reader.alloc, texts)?;
+    Ok(set)
 }
