@@ -2,6 +2,7 @@ pub mod AgreeLemmas
 pub mod AlikeLemmas
 pub mod ConflictLemmas
 pub mod DocumentLemmas
+pub mod GivenLemmas
 pub mod GroupLemmas
 pub mod KeptLemmas
 pub mod LawProofs

@@ -5,6 +5,7 @@ pub mod Conflicts
 pub mod Constants
 pub mod Crowded
 pub mod Documents
+pub mod Given
 pub mod Grouped
 pub mod Kept
 pub mod Laws
