@@ -42,11 +42,11 @@ set_elsewhere (x ∷ xs) (suc i) (suc k) y z differs at = set_elsewhere xs i k y
 
 -- the group with one more occurrence
 pub united_more : (group : Group) (g : Bor (Positioned Field)) (new : Group)
-    → new.first.now ≡ group.first.now → new.more.items ≡ group.more.items ++ g ∷ [] → united new ≡ both (united group) g.now
+    → new.first ≡ group.first → new.more.items ≡ group.more.items ++ g ∷ [] → united new ≡ both (united group) g.now
 united_more group g new same added =
     (λ i. with_others (same i) (all_behind (added i)))
-    ∙ ap (with_others group.first.now) (behind_append group.more.items (g ∷ []))
-    ∙ with_one_more group.first.now (all_behind group.more.items) g.now
+    ∙ ap (with_others group.first) (behind_append group.more.items (g ∷ []))
+    ∙ with_one_more group.first (all_behind group.more.items) g.now
 
 -- an occurrence of a new key is a group of its own
 pub occurrence_fresh : (j : Positioned Field → Positioned Field → Positioned Field) (keys : List (List ℕ × Unit {0})) (groups : List Group) (key : List ℕ) (group : Group) (f : Positioned Field) → length groups ≡ length keys
@@ -150,8 +150,8 @@ module _ (setting : Setting) where
   alike_others f [] x = refl
   alike_others f (g ∷ gs) x = alike_others (both f g) gs x ∙ (is_reading setting).alike_both f g x
 
-  alike_united : (g : Group) (x : Positioned Field) → alike (united g) x ≡ alike g.first.now x
-  alike_united g x = alike_others g.first.now (all_behind g.more.items) x
+  alike_united : (g : Group) (x : Positioned Field) → alike (united g) x ≡ alike g.first x
+  alike_united g x = alike_others g.first (all_behind g.more.items) x
 
   -- an occurrence of another key, and one that asks the same, tell nothing
   other_key : (m : List ℕ × Positioned Field) (f : Positioned Field) → bytes_eq (key_at f) m.0 ≡ false → differs m (f ∷ []) ≡ []
@@ -186,7 +186,7 @@ module _ (setting : Setting) where
 
   module _ (keys : List (List ℕ × Unit {0})) (groups : List Group) (fields : List (Positioned Field)) (are : AreGroups setting keys groups fields) (f : Bor (Positioned Field)) where
     module _ (p : ℕ) (old new : Group) (same : Bool) (found : place_of (key_at f.now) (names_of keys) ≡ Some p) (stands : slice_get groups p ≡ Some old)
-        (told_same : same ≡ alike old.first.now f.now) (grown : Grown same f old new) where
+        (told_same : same ≡ alike old.first f.now) (grown : Grown same f old new) where
       joins : (b : Bool) → same ≡ b → united new ≡ both_alike (reading setting) (united old) f.now
       joins true e =
           let like : alike (united old) f.now ≡ true = alike_united old f.now ∙ sym told_same ∙ e in
@@ -242,7 +242,7 @@ module _ (setting : Setting) where
         ];
       }
 
-    module _ (new : Group) (fresh : place_of (key_at f.now) (names_of keys) ≡ None) (first : new.first.now ≡ f.now) (alone : new.more.items ≡ []) (nothing : new.unlike ≡ None) where
+    module _ (new : Group) (fresh : place_of (key_at f.now) (names_of keys) ≡ None) (first : new.first ≡ f.now) (alone : new.more.items ≡ []) (nothing : new.unlike ≡ None) where
       itself : united new ≡ f.now
       itself = λ i. with_others (first i) (all_behind (alone i))
 

@@ -1,4 +1,3 @@
-mod AskingLemmas
 mod BelowLemmas
 pub mod ClassLemmas
 pub mod EachLemmas

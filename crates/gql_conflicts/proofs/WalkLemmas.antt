@@ -41,8 +41,8 @@ module _ {A B : Type 0} (f : A → List B) where
   flat_more (y ∷ ys) (suc i) x at = ap (λ bs. f y ++ bs) (flat_more ys i x at) ∙ sym (append_assoc (f y) (flat_map f (take i ys)) (f x))
 
 -- a group is named as its first occurrence
-pub name_of_united : (group : Group) → name_of (united group) ≡ name_of group.first.now
-name_of_united group = name_with_others group.first.now (all_behind group.more.items)
+pub name_of_united : (group : Group) → name_of (united group) ≡ name_of group.first
+name_of_united group = name_with_others group.first (all_behind group.more.items)
 
 no_place : {T : Type 0} (name : List ℕ) (ps : List (List ℕ × T)) → under name ps ≡ None → place_of name (names_of ps) ≡ None
 no_place name [] none = refl
@@ -78,11 +78,11 @@ module _ (setting : Setting) (fields : List (Positioned Field)) (beneath : Posit
 
 -- another occurrence joins the group of its key
 pub grown_found : {X E : Type 0} (r : Result X E) (keys : List (List ℕ × Unit {0})) (groups : List Group) (field : Bor (Positioned Field)) (p : ℕ) (old new : Group)
-    → place_of (key_at field.now) (names_of keys) ≡ Some p → slice_get groups p ≡ Some old → OnOk r (Grown (alike old.first.now field.now) field old new)
+    → place_of (key_at field.now) (names_of keys) ≡ Some p → slice_get groups p ≡ Some old → OnOk r (Grown (alike old.first field.now) field old new)
     → OnOk r ((setting : Setting) (before : List (Positioned Field)) → AreGroups setting keys groups before
     → AreGroups setting keys (slice_set groups p new) (before ++ field.now ∷ []))
 grown_found (Ok x) keys groups field p old new found stands grown =
-    λ setting before are. groups_found setting keys groups before are field p old new (alike old.first.now field.now) found stands refl grown
+    λ setting before are. groups_found setting keys groups before are field p old new (alike old.first field.now) found stands refl grown
 grown_found (Err e) keys groups field p old new found stands grown = tt
 
 -- a setting without anything, for what holds of any

@@ -18,7 +18,7 @@ use Rattle.gql_conflicts.specs.declared.group.Group.{Group}
 
 -- the one field that stands for a group
 abbrev pub united : Group → Positioned Field
-united group = with_others group.first.now (all_behind group.more.items)
+united group = with_others group.first (all_behind group.more.items)
 
 -- the fields of groups under their keys
 abbrev pub under_keys : List (List ℕ × Unit {0}) → List Group → List (List ℕ × Positioned Field)
@@ -37,7 +37,7 @@ first_of (Some first) field = Some first
 
 -- a group with one more occurrence, which asks the same or doesn't
 pub record Grown (same : Bool) (field : Bor (Positioned Field)) (old new : Group) : Type 0 where
-  pub first : new.first.now ≡ old.first.now
+  pub first : new.first ≡ old.first
   pub like : same ≡ true → (new.more.items ≡ old.more.items ++ field ∷ []) × (new.unlike ≡ old.unlike)
   pub unlike : same ≡ false → (new.more.items ≡ old.more.items) × (new.unlike ≡ first_of old.unlike field)
 

@@ -1,4 +1,3 @@
-pub mod Asking
 pub mod Classes
 pub mod ConflictOrder
 pub mod DocumentConflicts

@@ -66,7 +66,13 @@ pub(crate) fn fields_beneath<'a>(
         ≡ collected reader.entry.now object.now (own_selections (united group.entry.now))) }
 {
     let more = group.more.as_slice();
-    collect_merged_fields(alloc, &reader.collector(), object, group.first, more)
+    collect_merged_fields(
+        alloc,
+        &reader.collector(),
+        object,
+        group.first.field(),
+        more,
+    )
 }
 
 /// True only where no occurrence of a group has a set.
@@ -74,7 +80,7 @@ pub(crate) fn fields_beneath<'a>(
 pub(crate) fn has_no_set(group: &Group<'_>) -> bool
     ensures { IsTrue result → own_selections (united group.now) ≡ [] }
 {
-    if !is_leaf(group.first) {
+    if !is_leaf(group.first.field()) {
         return false;
     }
     for occurrence in group.more.as_slice() {

@@ -1,9 +1,10 @@
+use crate::asked::Asked;
 use gql_doc::{Field, Positioned};
 
 /// The occurrences of one key that ask what the first one asks, and the first that doesn't, if any.
 #[derive(Drop)]
 pub(crate) struct Group<'a> {
-    pub first: &'a Positioned<Field>,
+    pub first: Asked<'a>,
     pub more: Vec<&'a Positioned<Field>>,
     pub unlike: Option<&'a Positioned<Field>>,
 }

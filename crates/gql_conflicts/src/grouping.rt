@@ -8,7 +8,7 @@ ghost use Rattle.gql_select.specs.Behind.{all_behind};
 ghost use Rattle.gql_conflicts.specs.Groups.{AreGroups, Grown, fields_tell, groups_tell};
 ghost use Rattle.gql_conflicts.specs.declared.conflict.Conflict.{Conflict as Told};
 
-use crate::alike::alike;
+use crate::asked::Asked;
 use crate::group::Group;
 use gql_base::{Copied, Made, Pairs};
 use gql_doc::{Field, Positioned};
@@ -50,8 +50,9 @@ fn add_occurrence<'a>(
         Some(place) => add_to(alloc, &mut groups[place], field),
         None => {
             keys.add_fresh(name.try_clone(alloc)?, ())?;
+            let first = Asked::new(alloc, field)?;
             groups.push(Group {
-                first: field,
+                first,
                 more: Vec::new(alloc),
                 unlike: None,
             })?;
@@ -62,10 +63,10 @@ fn add_occurrence<'a>(
 
 /// Adds an occurrence to a group: to those that ask the same, or as the first that doesn't.
 fn add_to<'a>(alloc: Global, group: &mut Group<'a>, field: &'a Positioned<Field>) -> Made<()>
-    ensures { OnOk result (Grown (alike group.old.first.now field.entry.now) field.entry group.old
+    ensures { OnOk result (Grown (alike group.old.first field.entry.now) field.entry group.old
         group.new) }
 {
-    if alike(alloc, group.first, field)? {
+    if group.first.is_alike(alloc, field)? {
         group.more.push(field)?;
         return Ok(());
     }

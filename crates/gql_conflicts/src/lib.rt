@@ -7,6 +7,7 @@
 #![tactic(auto)]
 
 mod alike;
+mod asked;
 mod beneath;
 mod coarse;
 mod conflict;
@@ -24,7 +25,6 @@ mod reader;
 mod rooted_types;
 mod roots;
 mod same_field;
-mod same_written;
 mod seen;
 mod survey;
 mod visit;

@@ -15,8 +15,10 @@ use std::alloc::Global;
 /// How many rounds are made at most.
 const ROUNDS: usize = 100;
 
-/// A field by the mark of its class and key, and its place among the fields.
-type Marked = (u64, usize);
+/// A field by the mark of its class and key, its number of arguments, and its place among the fields.
+/// So the field that stands for those of a mark has the fewest arguments, and a comparison with it
+/// costs no more than the other field has.
+type Marked = (u64, usize, usize);
 
 /// What a round finds.
 #[derive(Clone, Copy, PartialEq, Eq)]
@@ -53,7 +55,7 @@ pub(crate) fn propose<'a>(
 fn in_order(alloc: Global, survey: &mut Survey<'_>) -> Made<Vec<Marked>> {
     let mut order = Vec::with_capacity(alloc, survey.spots.len())?;
     for place in 0..survey.spots.len() {
-        order.push((mark_at(survey, place), place))?;
+        order.push((mark_at(survey, place), arguments_at(survey, place), place))?;
     }
     order.sort_unstable();
     Ok(order)
@@ -77,12 +79,20 @@ fn mark_at(survey: &mut Survey<'_>, place: usize) -> u64 {
     }
 }
 
+/// How many arguments a field has.
+fn arguments_at(survey: &Survey<'_>, place: usize) -> usize {
+    match spot_at(survey, place) {
+        None => 0,
+        Some(spot) => spot.field.node.arguments.len(),
+    }
+}
+
 /// Compares neighbours of one mark, and makes their sets one.
 fn make_round(alloc: Global, survey: &mut Survey<'_>, order: &[Marked]) -> Made<Round> {
     let mut found = Round::Still;
     for next in 1..order.len() {
-        let (mark, place) = order[next - 1];
-        let (other_mark, other_place) = order[next];
+        let (mark, _, place) = order[next - 1];
+        let (other_mark, _, other_place) = order[next];
         if mark == other_mark {
             match compared(alloc, survey, place, other_place)? {
                 Round::Unlike => return Ok(Round::Unlike),
@@ -175,7 +185,7 @@ fn add_entries<'a>(
 ) -> Made<()> {
     let mut last = None;
     for marked in order {
-        let (mark, place) = *marked;
+        let (mark, _, place) = *marked;
         if last != Some(mark) {
             add_entry(survey, place, proposal)?;
         }

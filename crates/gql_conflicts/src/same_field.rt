@@ -3,11 +3,11 @@
 ghost use Rattle.std.specs.Prelude.{◌≡◌, IsTrue};
 ghost use Rattle.gql_select.specs.Behind.{all_behind};
 
-use crate::same_written::same_value;
 use gql_base::{Items, Name, Pos};
 use gql_doc::{
     Argument, Directive, Field, FragmentSpread, InlineFragment, Positioned, Selection, SelectionSet,
 };
+use gql_select::same_value;
 
 /// True only where both lists hold the same fields.
 pub(crate) fn same_fields(one: &[&Positioned<Field>], other: &[&Positioned<Field>]) -> bool

@@ -139,7 +139,7 @@ fn add_beneath<'a>(
     if has_no_set(group) {
         return Ok(());
     }
-    let name = group.first.node.name.node.as_str();
+    let name = group.first.field().node.name.node.as_str();
     let objects = objects_beneath(alloc, reader.rooted, object, name)?;
     add_on_each(alloc, reader, left, &objects, group, walked)?;
     Ok(())

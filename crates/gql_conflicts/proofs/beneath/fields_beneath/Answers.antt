@@ -11,8 +11,8 @@ use Rattle.gql_conflicts.proofs.beneath.fields_beneath.Goals as goal
 
 pub returns : goal.returns
 returns c =
-    let first : Positioned Field = c.args.group.now.first.now in
-    let gives : List (Bor (Positioned Field)) → Type 0 = λ more.
+    let gives : Positioned Field → List (Bor (Positioned Field)) → Type 0 = λ first more.
     IfOk c.collect_merged_fields.result (λ fields. all_behind fields.items
     ≡ collected c.args.reader.now c.args.object.now (own_selections (with_others first (all_behind more)))) in
-    subst gives c.as_slice-more.ensures.value (c.collect_merged_fields.ensures (setting_by c.args.reader.now) c.collector.ensures)
+    subst (λ first. gives first c.args.group.now.more.items) c.field.ensures
+    (subst (gives c.field.result.now) c.as_slice-more.ensures.value (c.collect_merged_fields.ensures (setting_by c.args.reader.now) c.collector.ensures))

@@ -33,6 +33,6 @@ returns-in_ok-push-in-None c =
     let key : c.as_str-key.result.now ≡ key_at field.now = c.as_str-key.ensures ∙ ap (λ k. k.node) c.response_key.ensures in
     let none = sym (c.in-None.ensures.place ∙ ap (λ k. place_of k (names_of keys)) key) in
     let keys_are = c.in_ok-add_fresh-in-None.ensures.added ∙ ap (λ k. keys ++ (k, tt) ∷ []) (c.in_ok-try_clone-in-None.ensures ∙ ap (λ k. k.node) c.response_key.ensures) in
-    let group : Group = record { first = field; more = c.new-in-None.result; unlike = None } in
+    let group : Group = record { first = c.in_ok-first-in-None.first; more = c.new-in-None.result; unlike = None } in
     λ setting before are.
-    rw (keys_are, c.in_ok-push-in-None.ensures.items) (groups_fresh setting keys groups before are field group none refl c.new-in-None.ensures.items refl)
+    rw (keys_are, c.in_ok-push-in-None.ensures.items) (groups_fresh setting keys groups before are field group none c.in_ok-first-in-None.ensures c.new-in-None.ensures.items refl)

@@ -1,5 +1,6 @@
-use Rattle.std.proofs.Common.{◌≡◌, ◌-◌, ◌<◌, IsTrue, [], suc, length, refl, rules, sym, ◌∙◌, arith}
+use Rattle.std.proofs.Common.{◌≡◌, ◌-◌, ◌<◌, IsTrue, [], suc, length, ap, refl, rules, sym, ◌∙◌, arith}
 use Rattle.std.proofs.lemmas.Option.{slice_get_read}
+use Rattle.gql_select.specs.Alike.{name_of}
 use Rattle.gql_select.specs.Collected.{own_selections}
 use Rattle.gql_select.specs.Behind.{all_behind}
 use Rattle.gql_conflicts.specs.Groups.{group_tells, told_of, united}
@@ -47,7 +48,7 @@ add_beneath-returns-then-has_no_set t c =
 pub add_beneath-returns : goal.add_beneath-returns
 add_beneath-returns t c =
     walks_beneath c.args.reader.now c.args.left c.args.object.now (united c.args.group.now) _ _ c.args.walked.now c.add_on_each.new.walked
-    (c.as_str-name.ensures ∙ sym (name_of_united c.args.group.now)) c.in_ok-objects.ensures c.in_ok-add_on_each.ensures
+    (c.as_str-name.ensures ∙ ap name_of c.field.ensures ∙ sym (name_of_united c.args.group.now)) c.in_ok-objects.ensures c.in_ok-add_on_each.ensures
 
 pub add_on_each-loop-place-preserved : goal.add_on_each-loop-place-preserved
 add_on_each-loop-place-preserved t c =

@@ -1,7 +1,0 @@
-use Rattle.std.proofs.Common.{◌≡◌, true, take}
-use Rattle.std.specs.List.{list_all}
-use Rattle.gql_conflicts.specs.Asking.{argument_same}
-use Rattle.gql_conflicts.proofs.alike.all_same.Given as goal
-
-abbrev pub invariant-loop-argument : goal.invariant-loop-argument
-invariant-loop-argument l = list_all (argument_same l.one l.other) (take l.argument-index l.some) ≡ true
