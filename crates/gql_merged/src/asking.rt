@@ -16,6 +16,7 @@ use gql_base::{Copied, Made, Pairs, TypeRef};
 use gql_doc::{Argument, Field, Positioned};
 use gql_request::{IntrospectionMode, QueryEnv};
 use gql_schema::DeclaredField;
+use gql_select::value_in;
 use std::alloc::Global;
 
 /// What a field asks on an object (GraphQL, October 2021, sections 6.4.1 and 6.4.2).
@@ -153,7 +154,15 @@ fn ask_entities(alloc: Global, env: &QueryEnv, resolver: u32, written: &[Argumen
         (Some (entities_by resolver)) written.now) }
 {
     let mut arguments = Pairs::new(alloc);
-    add_argument(alloc, env, &mut arguments, "representations", None, written)?;
+    let name = "representations";
+    add_argument(
+        alloc,
+        env,
+        &mut arguments,
+        name,
+        value_in(written, name),
+        None,
+    )?;
     let ty = TypeRef::named_list_nn(alloc, "_Entity")?;
     Ok(Asks::Call {
         resolver,
