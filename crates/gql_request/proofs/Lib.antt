@@ -1,6 +1,7 @@
 pub mod PathLemmas
 pub mod KeyTreeLemmas
 pub mod DataLemmas
+pub mod DefinedLemmas
 pub mod NestLemmas
 pub mod BatchLemmas
 pub mod ResponseLemmas

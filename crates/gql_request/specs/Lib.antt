@@ -1,4 +1,5 @@
 pub mod Data
+pub mod Defined
 pub mod ExtensionContext
 pub mod HookEvent
 pub mod KeyTree

@@ -1,9 +1,12 @@
-ghost use Rattle.std.specs.Prelude.{◌≡◌, None};
+ghost use Rattle.std.specs.Prelude.{◌≡◌, IfOk, None};
+ghost use Rattle.std.specs.Option.{option_copied};
 ghost use Rattle.std.proofs.Props.{props};
 ghost use Rattle.gql_doc.specs.Depth.{deep_from};
+ghost use Rattle.gql_request.specs.Defined.{first_definition, definition_places};
 
+use crate::defined::{Defined, definition_places};
 use gql_base::{Copied, Made, Pairs, Text, Variables};
-use gql_doc::{FragmentDefinition, OperationDefinition, Positioned};
+use gql_doc::{FragmentDefinition, OperationDefinition, Positioned, VariableDefinition};
 use std::alloc::Global;
 
 /// How far a request may ask for the schema itself.
@@ -28,8 +31,8 @@ impl Default for IntrospectionMode {
     }
 }
 
-/// What an execution knows of its request: the chosen operation, the fragments that it may spread,
-/// and its variables.
+/// What an execution knows of its request: the chosen operation, whose definitions of variables are
+/// found by name, the fragments that it may spread, and its variables.
 #[derive(Debug, Drop)]
 pub struct QueryEnv {
     pub variables: Variables,
@@ -39,7 +42,10 @@ pub struct QueryEnv {
     pub introspection_mode: IntrospectionMode,
     /// So many levels of sets suffice for the operation and what it spreads.
     levels: usize,
+    /// The place of the first definition of each variable.
+    defined: Pairs<usize>,
     pub ghost nests: { deep_from fragments levels operation.node.selection_set ≡ None } by { Prim.hlevel props },
+    pub ghost indexed: { defined ≡ definition_places operation.node.variable_definitions } by { Prim.hlevel props },
 }
 
 impl QueryEnv {
@@ -48,29 +54,43 @@ impl QueryEnv {
     /// What an execution knows, where the sets of the operation and of what it spreads nest within
     /// these levels.
     pub fn new(
+        alloc: Global,
         variables: Variables,
         operation_name: Option<Text>,
         operation: Positioned<OperationDefinition>,
         fragments: Pairs<Positioned<FragmentDefinition>>,
         introspection_mode: IntrospectionMode,
         levels: usize,
-    ) -> QueryEnv
+    ) -> Made<QueryEnv>
         requires { deep_from fragments levels operation.node.selection_set ≡ None }
-        ensures variables { result.variables ≡ variables }
-        ensures operation_name { result.operation_name ≡ operation_name }
-        ensures operation { result.operation ≡ operation }
-        ensures fragments { result.fragments ≡ fragments }
-        ensures introspection_mode { result.introspection_mode ≡ introspection_mode }
-        ensures levels { levels_of result ≡ levels }
+        ensures variables { IfOk result (λ env. env.variables ≡ variables) }
+        ensures operation_name { IfOk result (λ env. env.operation_name ≡ operation_name) }
+        ensures operation { IfOk result (λ env. env.operation ≡ operation) }
+        ensures fragments { IfOk result (λ env. env.fragments ≡ fragments) }
+        ensures introspection_mode { IfOk result
+            (λ env. env.introspection_mode ≡ introspection_mode) }
+        ensures levels { IfOk result (λ env. levels_of env ≡ levels) }
     {
-        QueryEnv {
+        let defined = definition_places(alloc, operation.node.variable_definitions.as_slice())?;
+        Ok(QueryEnv {
             variables,
             operation_name,
             operation,
             fragments,
             introspection_mode,
             levels,
-        }
+            defined,
+        })
+    }
+
+    /// The first definition of a variable.
+    pub fn definition(&self, name: &str) -> Option<&Positioned<VariableDefinition>>
+        ensures { option_copied result
+            ≡ first_definition name.now self.now.operation.node.variable_definitions }
+    {
+        let definitions = self.operation.node.variable_definitions.as_slice();
+        let defined = Defined::new(definitions, &self.defined);
+        defined.get(name)
     }
 
     /// How many levels of sets suffice for the operation and what it spreads.
@@ -91,6 +111,7 @@ impl Copied for QueryEnv {
             fragments: self.fragments.try_clone(alloc)?,
             introspection_mode: self.introspection_mode,
             levels: self.levels,
+            defined: self.defined.try_clone(alloc)?,
         })
     }
 }

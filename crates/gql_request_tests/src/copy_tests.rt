@@ -66,8 +66,9 @@ fn environment_of(
     variables: Variables,
     name: Text,
     fragments: Pairs<Positioned<FragmentDefinition>>,
-) -> QueryEnv {
+) -> Made<QueryEnv> {
     QueryEnv::new(
+        alloc,
         variables,
         Some(name),
         mutation(alloc),
@@ -82,7 +83,7 @@ fn environment(alloc: Global) -> Made<QueryEnv> {
     let name = Text::new(alloc, "M")?;
     let variables = variables(alloc)?;
     let fragments = fragments(alloc)?;
-    Ok(environment_of(alloc, variables, name, fragments))
+    environment_of(alloc, variables, name, fragments)
 }
 
 /// The name of the operation and the variable a.
