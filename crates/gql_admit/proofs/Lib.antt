@@ -7,7 +7,6 @@ pub mod CircularLemmas
 pub mod ConflictingLemmas
 pub mod ConstantLemmas
 pub mod CrowdedLemmas
-pub mod DefinedLemmas
 pub mod DefinitionLemmas
 pub mod DepthLemmas
 pub mod FragmentLemmas

@@ -8,6 +8,9 @@ use Rattle.gql_doc.proofs.ParseLaws.{never_both, one_document, one_document_faul
 use Rattle.gql_doc.specs.Depth.{deep_from}
 use Rattle.gql_doc.specs.declared.document.ExecutableDocument.{ExecutableDocument}
 use Rattle.gql_doc.specs.declared.fault.ParseFault.{ParseFault}
+use Rattle.gql_doc.specs.declared.document.OperationDefinition.{OperationDefinition}
+use Rattle.gql_doc.specs.declared.document.Positioned.{Positioned}
+use Rattle.gql_request.specs.Defined.{definition_places}
 use Rattle.gql_request.specs.QueryEnv.{levels_of}
 use Rattle.gql_request.specs.Request.{GivesParsed, set_document}
 use Rattle.gql_request.specs.declared.query_env.QueryEnv.{QueryEnv}
@@ -33,6 +36,8 @@ one_read None query (Err f) (Err g) a b = ap Err (one_document_fault (chars quer
 same_env : (one other : QueryEnv) → one.variables ≡ other.variables → one.operation_name ≡ other.operation_name → one.operation ≡ other.operation
     → one.fragments ≡ other.fragments → one.introspection_mode ≡ other.introspection_mode → levels_of one ≡ levels_of other → one ≡ other
 same_env one other variables name operation fragments mode levels =
+    let defined : one.defined ≡ other.defined
+    = one.indexed ∙ ap (λ (o : Positioned OperationDefinition). definition_places o.node.variable_definitions) operation ∙ sym other.indexed in
     λ i. record {
       variables = variables i;
       operation_name = name i;
@@ -40,8 +45,11 @@ same_env one other variables name operation fragments mode levels =
       fragments = fragments i;
       introspection_mode = mode i;
       levels = levels i;
+      defined = defined i;
       nests =
           is_prop→PathP (λ j. deep_from (fragments j) (levels j) (operation j).node.selection_set ≡ None) (λ j. hlevel props) one.nests other.nests i;
+      indexed =
+          is_prop→PathP (λ j. defined j ≡ definition_places (operation j).node.variable_definitions) (λ j. hlevel props) one.indexed other.indexed i;
     }
 
 module _ (terms : Terms) where

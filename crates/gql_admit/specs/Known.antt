@@ -5,4 +5,4 @@ use Rattle.gql_select.specs.Constants.{variable_value}
 use Rattle.gql_admit.specs.declared.conditions.Known.{Known}
 
 abbrev pub known_by : Known → List ℕ → Value
-known_by known = variable_value known.variables.now known.definitions.now
+known_by known = variable_value known.variables.now known.defined

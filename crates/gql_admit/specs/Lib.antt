@@ -9,7 +9,6 @@ pub mod BuiltIn
 pub mod Choice
 pub mod Circular
 pub mod Conflicting
-pub mod Defined
 pub mod Definitions
 pub mod FieldTypeViews
 pub mod FieldTypes

@@ -2,7 +2,7 @@
 -- (GraphQL, October 2021, sections 5.8.3 and 5.8.5).
 use Rattle.std.specs.Prelude.{ℕ, Bool, true, false, ◌&&◌, ◌||◌, not, List, [], ◌∷◌, Option}
 use Rattle.std.specs.Prelude.{Some, None, map}
-use Rattle.std.specs.Prelude.{find, is_some, if◌then◌else◌}
+use Rattle.std.specs.Prelude.{is_some, if◌then◌else◌}
 use Rattle.std.specs.List.{flat_map}
 use Rattle.std.specs.Option.{option_map}
 use Rattle.std.specs.Str.{bytes_eq}
@@ -19,6 +19,7 @@ use Rattle.gql_doc.specs.declared.document.DocValue.TheOpen.{DocValue-F}
 use Rattle.gql_doc.specs.declared.document.DocValue.TheFolds.{fold-DocValue}
 use Rattle.gql_doc.specs.declared.document.Positioned.{Positioned}
 use Rattle.gql_doc.specs.declared.document.VariableDefinition.{VariableDefinition}
+use Rattle.gql_request.specs.Defined.{first_definition}
 use Rattle.gql_schema.specs.Fits.{is_input_type, item_type, nullable_of}
 use Rattle.gql_schema.specs.InputObject.{input_fields}
 use Rattle.gql_schema.specs.InputValue.{default_of, input_type}
@@ -113,12 +114,6 @@ abbrev pub misplaced_variable : Argument → List ℕ → Breach
 misplaced_variable argument name =
     breach argument.name.pos kinds.Variable name (misplaced_text name (argument_name argument))
 
--- the first definition of a variable
-abbrev pub definition_of : List ℕ → List (Positioned VariableDefinition)
-    → Option (Positioned VariableDefinition)
-definition_of name definitions =
-    find (λ definition. bytes_eq name definition.node.name.node) definitions
-
 -- what is told of a value by the place at which it stands
 abbrev pub TellsIn : Type 0
 TellsIn = Option ValuePlace → List Breach
@@ -135,7 +130,7 @@ module _ (table : TypeTable) where
     -- one level of a value in an argument
     abbrev pub value_step : Argument → DocValue-F TellsIn → TellsIn
     value_step argument (DocValue-F.Variable name) place =
-        told_of_variable argument name (definition_of name definitions) place
+        told_of_variable argument name (first_definition name definitions) place
     value_step argument (DocValue-F.List items) place =
         flat_map (λ tells. tells (items_place place)) items
     value_step argument (DocValue-F.Object members) place =

@@ -1,23 +1,37 @@
 //! What `@skip` and `@include` say of a selection (sections 3.13.1 and 3.13.2).
-ghost use Rattle.std.specs.Prelude.{◌≡◌, ◌||◌, find};
+ghost use Rattle.std.specs.Prelude.{◌≡◌, ◌||◌};
 ghost use Rattle.std.specs.Option.{option_copied};
-ghost use Rattle.std.specs.Str.{bytes_eq};
-ghost use Rattle.gql_select.specs.Constants.{default_of, resolved};
+ghost use Rattle.gql_request.specs.Defined.{definition_places};
+ghost use Rattle.gql_select.specs.Constants.{default_of, resolved, variable_value};
 ghost use Rattle.gql_select.specs.Kept.{allows, condition, is_include, is_kept, is_skip, is_truth};
 ghost use Rattle.gql_select.specs.Kept.{others};
 ghost use Rattle.gql_admit.specs.Known.{known_by};
 
-use gql_base::{Items, Name, Value, Variables};
+use gql_base::{Items, Name, Pairs, Value, Variables};
 use gql_doc::{Directive, DocValue, Positioned, VariableDefinition};
+use gql_request::Defined;
 
 /// What the variables of an operation stand for.
-#[derive(Clone, Copy)]
+#[derive(Drop)]
 pub struct Known<'a> {
-    pub definitions: &'a [Positioned<VariableDefinition>],
-    pub variables: &'a Variables,
+    defined: Defined<'a>,
+    variables: &'a Variables,
 }
 
-impl Known<'_> {
+impl<'a> Known<'a> {
+    /// What they stand for by the operation's definitions and the request's values.
+    pub fn new(
+        definitions: &'a [Positioned<VariableDefinition>],
+        places: &'a Pairs<usize>,
+        variables: &'a Variables,
+    ) -> Known<'a>
+        requires { places.now ≡ definition_places definitions.now }
+        ensures { known_by result ≡ variable_value variables.now definitions.now }
+    {
+        let defined = Defined::new(definitions, places);
+        Known { defined, variables }
+    }
+
     /// True exactly where all directives of a selection leave it in the document.
     pub fn keeps(&self, directives: &[Positioned<Directive>]) -> bool
         ensures { result ≡ is_kept (known_by self.now) directives.now }
@@ -89,9 +103,9 @@ impl Known<'_> {
 
     /// The default of a variable, by the first definition of its name.
     fn default_value(&self, name: &str) -> Option<&Value>
-        ensures { option_copied result ≡ default_of name.now self.now.definitions.now }
+        ensures { option_copied result ≡ default_of name.now self.now.defined }
     {
-        match definition_of(self.definitions, name) {
+        match self.defined.get(name) {
             Some(definition) => match &definition.node.default {
                 Some(default) => Some(&default.node),
                 None => None,
@@ -99,20 +113,6 @@ impl Known<'_> {
             None => None,
         }
     }
-}
-
-/// The first definition of a variable.
-fn definition_of<'a>(
-    definitions: &'a [Positioned<VariableDefinition>],
-    name: &str,
-) -> Option<&'a Positioned<VariableDefinition>>
-    ensures { option_copied result
-        ≡ find (λ definition. bytes_eq definition.node.name.node name.now)
-        definitions.now }
-{
-    definitions
-        .iter()
-        .find(|definition| definition.node.name.node.as_str() == name)
 }
 
 /// True exactly where the value is the truth value true.

@@ -22,7 +22,6 @@ mod conditions;
 mod conflicting;
 mod constants;
 mod copied;
-mod defined;
 mod definition_fault;
 mod definition_texts;
 mod definitions;

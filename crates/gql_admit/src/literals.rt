@@ -12,7 +12,7 @@ ghost use Rattle.gql_admit.specs.Literals.{fits_field, fits_members, fittings};
 ghost use Rattle.gql_admit.specs.Literals.{has_other_number, is_oneof_type, is_single};
 ghost use Rattle.gql_admit.specs.Literals.{literal_fits as fits, wants_one as asks_for_one};
 
-use gql_base::{Pairs, Text, TypeRef};
+use gql_base::{Pairs, TypeRef};
 use gql_doc::DocValue;
 use gql_schema::{
     InputObject, InputValue, NameSet, ScalarRule, SchemaType, Types, nullable, stands_at_inputs,
@@ -184,7 +184,7 @@ fn takes(rule: &ScalarRule, value: &DocValue) -> bool
         ScalarRule::Text => is_any_string(value),
         ScalarRule::Id => is_any_string(value) || is_any_number(value),
         ScalarRule::IntBetween(least, most) => is_within(value, *least, *most),
-        ScalarRule::OneOf(texts) => is_listed(value, texts.as_slice()),
+        ScalarRule::OneOf(texts) => is_listed(value, texts),
     }
 }
 
@@ -220,20 +220,13 @@ fn is_within(value: &DocValue, least: i64, most: i64) -> bool
 }
 
 /// True exactly where the value is one of these strings.
-fn is_listed(value: &DocValue, texts: &[Text]) -> bool
+fn is_listed(value: &DocValue, texts: &NameSet) -> bool
     ensures { result ≡ is_string (λ text. is_among text texts.now) (bare_literal value.now) }
 {
     match value {
-        DocValue::String(text) => has_text(texts, text.as_str()),
+        DocValue::String(text) => texts.has(text.as_str()),
         _ => false,
     }
-}
-
-/// True exactly where a text is among these.
-fn has_text(texts: &[Text], text: &str) -> bool
-    ensures { result ≡ is_among text.now texts.now }
-{
-    texts.iter().any(|other| other.as_str() == text)
 }
 
 /// True exactly where a type is a oneof input object, non-null or not.

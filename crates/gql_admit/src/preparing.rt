@@ -3,9 +3,12 @@
 ghost use Rattle.std.specs.Prelude.{◌≡◌, ◌<◌, ◌+◌, [], ◌∷◌, suc, map, take, IfOk, OnOk, None};
 ghost use Rattle.std.specs.Option.{option_copied};
 ghost use Rattle.gql_doc.specs.Depth.{deep, deep_from};
+ghost use Rattle.gql_request.specs.Defined.{definition_places};
 ghost use Rattle.gql_request.specs.Request.{GivesParsed, set_document};
 ghost use Rattle.gql_select.specs.Constants.{variable_value};
 ghost use Rattle.gql_select.specs.Kept.{kept_fragment, kept_fragments};
+ghost use Rattle.gql_admit.specs.Known.{known_by};
+ghost use Rattle.gql_admit.specs.Left.{left_set};
 ghost use Rattle.gql_admit.specs.Limits.{IsWithinDepth};
 ghost use Rattle.gql_admit.specs.Prepared.{Admits, IsLimited, IsLooked, IsPrepared, IsSettled};
 ghost use Rattle.gql_admit.specs.Prepared.{directives_limited};
@@ -15,6 +18,7 @@ ghost use Rattle.gql_admit.specs.Choice.{choice};
 ghost use Rattle.gql_admit.specs.Terms.{terms_of};
 
 use crate::chosen::Chosen;
+use crate::conditions::Known;
 use crate::depth::check_depth;
 use crate::directives::check_directives;
 use crate::keeping::keep;
@@ -25,9 +29,9 @@ use crate::site::Site;
 use gql_base::{Copied, Items, Made, Pairs, ServerError, Variables};
 use gql_doc::{
     ExecutableDocument, FragmentDefinition, OperationDefinition, ParseFault, Positioned,
-    VariableDefinition, parse_query,
+    SelectionSet, VariableDefinition, parse_query,
 };
-use gql_request::{QueryEnv, Request};
+use gql_request::{QueryEnv, Request, definition_places};
 use std::alloc::Global;
 
 /// What an execution knows of a request, or the errors of the first stage that the request breaks:
@@ -204,24 +208,29 @@ fn prepare_chosen(
     } = chosen;
     let variables = request.variables.try_clone(alloc)?;
     let definitions = operation.node.variable_definitions.as_slice();
-    let fragments = keep_fragments(alloc, fragments, definitions, &variables)?;
-    let operation = keep_operation(alloc, operation, &variables)?;
-    Ok(Ok(QueryEnv::new(
+    let places = definition_places(alloc, definitions)?;
+    let fragments = keep_fragments(alloc, fragments, definitions, &places, &variables)?;
+    let operation = keep_operation(alloc, operation, &places, &variables)?;
+    let env = QueryEnv::new(
+        alloc,
         variables,
         operation_name,
         operation,
         fragments,
         request.introspection_mode,
         site.depth + 1,
-    )))
+    )?;
+    Ok(Ok(env))
 }
 
 /// An operation of which the set is kept.
 fn keep_operation(
     alloc: Global,
     operation: Positioned<OperationDefinition>,
+    places: &Pairs<usize>,
     variables: &Variables,
 ) -> Made<Positioned<OperationDefinition>>
+    requires { places.now ≡ definition_places operation.node.variable_definitions }
     ensures { IfOk result (λ kept. kept ≡ kept_operation
         (variable_value variables.now operation.node.variable_definitions) operation) }
 {
@@ -233,10 +242,7 @@ fn keep_operation(
         selection_set,
     } = node;
     let definitions = variable_definitions.as_slice();
-    let selection_set = Positioned {
-        pos: selection_set.pos,
-        node: keep(alloc, selection_set.node, definitions, variables)?,
-    };
+    let selection_set = keep_own_set(alloc, selection_set, definitions, places, variables)?;
     Ok(Positioned {
         pos,
         node: OperationDefinition {
@@ -248,34 +254,54 @@ fn keep_operation(
     })
 }
 
+/// The set of an operation with these definitions, which is kept.
+fn keep_own_set(
+    alloc: Global,
+    set: Positioned<SelectionSet>,
+    definitions: &[Positioned<VariableDefinition>],
+    places: &Pairs<usize>,
+    variables: &Variables,
+) -> Made<Positioned<SelectionSet>>
+    requires { places.now ≡ definition_places definitions.now }
+    ensures { IfOk result
+        (λ kept. kept ≡ left_set (variable_value variables.now definitions.now) set) }
+{
+    let known = Known::new(definitions, places, variables);
+    let Positioned { pos, node } = set;
+    let node = keep(alloc, node, &known)?;
+    Ok(Positioned { pos, node })
+}
+
 /// The fragments of which the sets are kept.
 #[tactic(auto, using(crate::proofs::FragmentLemmas::kept_whole, crate::proofs::FragmentLemmas::kept_long))]
 fn keep_fragments(
     alloc: Global,
     fragments: Pairs<Positioned<FragmentDefinition>>,
     definitions: &[Positioned<VariableDefinition>],
+    places: &Pairs<usize>,
     variables: &Variables,
 ) -> Made<Pairs<Positioned<FragmentDefinition>>>
+    requires { places.now ≡ definition_places definitions.now }
     ensures { IfOk result (λ kept. kept
         ≡ kept_fragments (variable_value variables.now definitions.now) fragments) }
 {
+    let known = Known::new(definitions, places, variables);
     let (names, fragments) = fragments.into_parts();
-    let kept = keep_each(alloc, fragments, definitions, variables)?;
+    let kept = keep_each(alloc, fragments, &known)?;
     Ok(Pairs::from_parts(names, kept))
 }
 
 fn keep_each(
     alloc: Global,
     fragments: Vec<Positioned<FragmentDefinition>>,
-    definitions: &[Positioned<VariableDefinition>],
-    variables: &Variables,
+    known: &Known<'_>,
 ) -> Made<Vec<Positioned<FragmentDefinition>>>
-    ensures { IfOk result (λ kept. kept.items
-        ≡ map (kept_fragment (variable_value variables.now definitions.now)) fragments.items) }
+    ensures { IfOk result
+        (λ kept. kept.items ≡ map (kept_fragment (known_by known.now)) fragments.items) }
 {
     let mut kept = Vec::with_capacity(alloc, fragments.len())?;
     for fragment in fragments {
-        kept.push(keep_fragment(alloc, fragment, definitions, variables)?)?;
+        kept.push(keep_fragment(alloc, fragment, known)?)?;
     }
     Ok(kept)
 }
@@ -284,11 +310,9 @@ fn keep_each(
 fn keep_fragment(
     alloc: Global,
     fragment: Positioned<FragmentDefinition>,
-    definitions: &[Positioned<VariableDefinition>],
-    variables: &Variables,
+    known: &Known<'_>,
 ) -> Made<Positioned<FragmentDefinition>>
-    ensures { IfOk result (λ kept. kept
-        ≡ kept_fragment (variable_value variables.now definitions.now) fragment) }
+    ensures { IfOk result (λ kept. kept ≡ kept_fragment (known_by known.now) fragment) }
 {
     let Positioned { pos, node } = fragment;
     let FragmentDefinition {
@@ -298,7 +322,7 @@ fn keep_fragment(
     } = node;
     let selection_set = Positioned {
         pos: selection_set.pos,
-        node: keep(alloc, selection_set.node, definitions, variables)?,
+        node: keep(alloc, selection_set.node, known)?,
     };
     Ok(Positioned {
         pos,

@@ -5,14 +5,12 @@ ghost use Rattle.gql_base.specs.Pairs.{names_of, values_of};
 ghost use Rattle.gql_doc.specs.Depth.{operations_in};
 ghost use Rattle.gql_admit.specs.BuiltIn.{built_in as the_built_in};
 ghost use Rattle.gql_admit.specs.Circular.{Adds, AreBelow};
-ghost use Rattle.gql_admit.specs.Defined.{IsIndexed};
 ghost use Rattle.gql_admit.specs.PlaceViews.{IsSpread, place_behind, shown};
 ghost use Rattle.gql_admit.specs.Uses.{WrongUseIn, WrongUseOf, spread_at, spreads_at};
 ghost use Rattle.gql_admit.specs.Uses.{uses_told_in};
 ghost use Rattle.gql_admit.specs.Walking.{terms_in};
 
 use crate::breach::Breach;
-use crate::defined::Defined;
 use crate::listing::{places_of_fragments, places_of_operation};
 use crate::reaching::reached_from;
 use crate::spread::Spread;
@@ -21,6 +19,7 @@ use crate::variables::tell_uses;
 use crate::walk::Against;
 use gql_base::{Items, Made, Pairs};
 use gql_doc::{DocumentOperations, FragmentDefinition, OperationDefinition, Positioned};
+use gql_request::{Defined, definition_places};
 use std::alloc::Global;
 
 /// Tells of the variables that are used wrongly at a place that an operation reaches.
@@ -115,7 +114,8 @@ fn tell_operation(
         operation.now) found.old found.new) }
 {
     let definitions = operation.node.variable_definitions.as_slice();
-    let defined = Defined::new(alloc, definitions)?;
+    let index = definition_places(alloc, definitions)?;
+    let defined = Defined::new(definitions, &index);
     let places = places_of_operation(alloc, operation, against.site)?;
     let own = places.as_slice();
     tell_uses(alloc, own, &defined, against.site, against.built, found)?;
@@ -140,11 +140,10 @@ fn tell_reached(
     against: &Against<'_>,
     found: &mut Items<Breach>,
 ) -> Made<()>
-    requires indexed { IsIndexed defined.now }
-    requires within { AreBelow (length places.now) reached.now }
+    requires { AreBelow (length places.now) reached.now }
     ensures { OnOk result (found.new ≡ found.old
         ++ flat_map (uses_told_in against.now.built.now (terms_in against.now)
-        defined.now.definitions.now (map shown places.now)) reached.now) }
+        defined.now (map shown places.now)) reached.now) }
 {
     for at in reached {
         let places = places[*at].as_slice();

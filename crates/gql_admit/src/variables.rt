@@ -5,14 +5,14 @@ ghost use Rattle.std.specs.List.{flat_map};
 ghost use Rattle.std.specs.Option.{option_copied, option_map};
 ghost use Rattle.gql_schema.specs.Fits.{item_type};
 ghost use Rattle.gql_schema.specs.Table.{types_of};
-ghost use Rattle.gql_admit.specs.Defined.{IsIndexed};
 ghost use Rattle.gql_admit.specs.PlaceViews.{place_behind, shown, value_place_behind};
 ghost use Rattle.gql_admit.specs.Variables.{declared_place as place_declared};
 ghost use Rattle.gql_admit.specs.Variables.{items_place as place_of_items};
 ghost use Rattle.gql_admit.specs.Variables.{member_of, member_place as place_of_member};
 ghost use Rattle.gql_admit.specs.Variables.{told_in_argument, told_in_arguments, told_in_items};
 ghost use Rattle.gql_admit.specs.Variables.{told_in_members, told_in_value, told_of_variable};
-ghost use Rattle.gql_admit.specs.Variables.{definition_of, told_in_field, uses_told};
+ghost use Rattle.gql_admit.specs.Variables.{told_in_field, uses_told};
+ghost use Rattle.gql_request.specs.Defined.{first_definition};
 ghost use Rattle.gql_admit.specs.Variables.{uses_told_at};
 ghost use Rattle.gql_admit.specs.FieldTypes.{known_field};
 ghost use Rattle.gql_admit.specs.Walking.{field_place};
@@ -21,7 +21,6 @@ ghost use Rattle.gql_admit.specs.Terms.{terms_of};
 use crate::breach::Breach;
 use crate::built_in::BuiltIn;
 use crate::conditions::is_condition;
-use crate::defined::Defined;
 use crate::site::Site;
 use crate::use_place::UsePlace;
 use crate::value_place::ValuePlace;
@@ -29,6 +28,7 @@ use crate::variable_fits::fits_place;
 use crate::variable_texts::{misplaced_variable, undefined_variable};
 use gql_base::{Items, Made, Name, Pairs, TypeRef};
 use gql_doc::{Argument, Directive, DocValue, Field, Positioned};
+use gql_request::Defined;
 use gql_schema::{ByName, InputValue, SchemaType, Types, type_of_items};
 use std::alloc::Global;
 
@@ -41,9 +41,8 @@ pub fn tell_uses(
     built: &BuiltIn,
     found: &mut Items<Breach>,
 ) -> Made<()>
-    requires { IsIndexed defined.now }
     ensures { OnOk result (found.new ≡ found.old
-        ++ uses_told built.now (terms_of site.now) defined.now.definitions.now
+        ++ uses_told built.now (terms_of site.now) defined.now
         (shown places.now)) }
 {
     for place in places {
@@ -60,9 +59,8 @@ fn tell_uses_at(
     built: &BuiltIn,
     found: &mut Items<Breach>,
 ) -> Made<()>
-    requires { IsIndexed defined.now }
     ensures { OnOk result (found.new ≡ found.old
-        ++ uses_told_at built.now (terms_of site.now) defined.now.definitions.now
+        ++ uses_told_at built.now (terms_of site.now) defined.now
         (place_behind place.now)) }
 {
     match place {
@@ -96,9 +94,8 @@ fn tell_in_field(
     built: &BuiltIn,
     found: &mut Items<Breach>,
 ) -> Made<()>
-    requires { IsIndexed defined.now }
     ensures { OnOk result (found.new ≡ found.old
-        ++ told_in_field (types_of site.now.types.now) defined.now.definitions.now
+        ++ told_in_field (types_of site.now.types.now) defined.now
         (field_place ty.now field.now).arguments
         (known_field built.now (terms_of site.now) ty.now (field_place ty.now field.now).name)) }
 {
@@ -120,9 +117,8 @@ fn tell_in_arguments(
     types: &Types,
     found: &mut Items<Breach>,
 ) -> Made<()>
-    requires { IsIndexed defined.now }
     ensures { OnOk result (found.new ≡ found.old
-        ++ told_in_arguments (types_of types.now) defined.now.definitions.now declared.now
+        ++ told_in_arguments (types_of types.now) defined.now declared.now
         arguments.now) }
 {
     for argument in arguments {
@@ -139,9 +135,8 @@ fn tell_in_argument(
     types: &Types,
     found: &mut Items<Breach>,
 ) -> Made<()>
-    requires { IsIndexed defined.now }
     ensures { OnOk result (found.new ≡ found.old
-        ++ told_in_argument (types_of types.now) defined.now.definitions.now declared.now
+        ++ told_in_argument (types_of types.now) defined.now declared.now
         argument.now) }
 {
     let place = declared_place(declared.get(argument.name.node.as_str()));
@@ -167,9 +162,8 @@ fn tell_in_value(
     types: &Types,
     found: &mut Items<Breach>,
 ) -> Made<()>
-    requires { IsIndexed defined.now }
     ensures { OnOk result (found.new ≡ found.old
-        ++ told_in_value (types_of types.now) defined.now.definitions.now argument.now value.now
+        ++ told_in_value (types_of types.now) defined.now argument.now value.now
         (option_map value_place_behind place.entry)) }
 {
     match value {
@@ -209,9 +203,8 @@ fn tell_in_items(
     types: &Types,
     found: &mut Items<Breach>,
 ) -> Made<()>
-    requires { IsIndexed defined.now }
     ensures { OnOk result (found.new ≡ found.old
-        ++ told_in_items (types_of types.now) defined.now.definitions.now argument.now items.now
+        ++ told_in_items (types_of types.now) defined.now argument.now items.now
         (option_map value_place_behind place.entry)) }
 {
     for value in items {
@@ -230,9 +223,8 @@ fn tell_in_members(
     types: &Types,
     found: &mut Items<Breach>,
 ) -> Made<()>
-    requires { IsIndexed defined.now }
     ensures { OnOk result (found.new ≡ found.old
-        ++ told_in_members (types_of types.now) defined.now.definitions.now argument.now
+        ++ told_in_members (types_of types.now) defined.now argument.now
         members.now (option_map value_place_behind place.entry)) }
 {
     for at in 0..members.len() {
@@ -253,10 +245,9 @@ fn tell_variable(
     types: &Types,
     found: &mut Items<Breach>,
 ) -> Made<()>
-    requires { IsIndexed defined.now }
     ensures { OnOk result (found.new ≡ found.old
         ++ told_of_variable (types_of types.now) argument.now name.now
-        (definition_of name.now defined.now.definitions.now)
+        (first_definition name.now defined.now)
         (option_map value_place_behind place.entry)) }
 {
     match defined.get(name.as_str()) {

@@ -5,8 +5,8 @@ use Rattle.gql_admit.specs.Prepared.{kept_operation}
 use Rattle.gql_admit.proofs.NestingLemmas.{nests_prepared}
 use Rattle.gql_admit.proofs.preparing.prepare_chosen.Goals as goal
 
-pub new-requires : goal.new-requires
-new-requires c =
+pub new-env-requires : goal.new-env-requires
+new-env-requires c =
     let chosen = c.args.chosen in
     let variables = c.in_ok-variables.variables in
     let definitions = chosen.operation.node.variable_definitions in
@@ -25,18 +25,18 @@ returns c =
     let variables = c.in_ok-variables.variables in
     let definitions = chosen.operation.node.variable_definitions in
     record {
-      variables = c.new.ensures.variables ∙ c.in_ok-variables.ensures;
-      operation_name = c.new.ensures.operation_name;
+      variables = c.in_ok-env.ensures.variables ∙ c.in_ok-variables.ensures;
+      operation_name = c.in_ok-env.ensures.operation_name;
       operation =
-          c.new.ensures.operation ∙ c.in_ok-operation.ensures
+          c.in_ok-env.ensures.operation ∙ c.in_ok-operation.ensures
           ∙ ap (λ vs. kept_operation (variable_value vs definitions) chosen.operation)
           c.in_ok-variables.ensures;
       fragments =
-          c.new.ensures.fragments ∙ c.in_ok-fragments.ensures
+          c.in_ok-env.ensures.fragments ∙ c.in_ok-fragments.ensures
           ∙ ap (λ ds. kept_fragments (variable_value variables ds) chosen.fragments)
           c.as_slice-definitions.ensures
           ∙ ap (λ vs. kept_fragments (variable_value vs definitions) chosen.fragments)
           c.in_ok-variables.ensures;
-      introspection_mode = c.new.ensures.introspection_mode;
-      levels = c.new.ensures.levels ∙ add-one c.args.site.now.depth;
+      introspection_mode = c.in_ok-env.ensures.introspection_mode;
+      levels = c.in_ok-env.ensures.levels ∙ add-one c.args.site.now.depth;
     }

@@ -19,8 +19,8 @@ reached_from-requires-clause-starts c =
 pub reached_from-requires-clause-within : goal.reached_from-requires-clause-within
 reached_from-requires-clause-within c = graph_inside (terms_in c.args.against.now) c.args.against.now.fragments.now c.args.spread.now c.requires.spread
 
-pub tell_reached-requires-clause-within : goal.tell_reached-requires-clause-within
-tell_reached-requires-clause-within c =
+pub tell_reached-requires : goal.tell_reached-requires
+tell_reached-requires c =
     reached_below (terms_in c.args.against.now) c.args.against.now.fragments.now c.args.spread.now c.requires.spread (shown c.as_slice-own.result.now)
     c.as_slice.result.now c.as_slice-2.result.now (c.as_slice.ensures ∙ c.in_ok-starts.ensures)
     (subst (AreReached c.args.spread.now.graph.now c.as_slice.result.now) (sym c.as_slice-2.ensures) c.in_ok-reached.ensures)
@@ -36,8 +36,8 @@ returns c =
     let reached = c.as_slice-2.result.now in
     let old = c.args.found.now in
     let now = c.tell_uses.new.found in
-    let defined : c.in_ok-defined.defined.definitions.now ≡ c.args.operation.now.node.variable_definitions
-    = c.in_ok-defined.ensures.definitions ∙ c.as_slice-definitions.ensures in
+    let defined : c.new-defined.result ≡ c.args.operation.now.node.variable_definitions
+    = c.new-defined.ensures ∙ c.as_slice-definitions.ensures in
     on_ok c.tell_reached.result _ _
     (λ told.
     operation_told terms fragments c.args.operation.now built places lists c.args.spread.now.graph.now starts reached old now c.tell_reached.new.found

@@ -14,27 +14,27 @@ offset_bounds-places-at c =
     let reached = c.args.reached.now in
     let index = c.loop-at.at-index in
     let inside : get_or reached index 0 < length c.args.places.now
-    = below_at (length c.args.places.now) reached index (get_or reached index 0) c.requires.within (slice_get-get_or reached index 0 (omega arith)) in
+    = below_at (length c.args.places.now) reached index (get_or reached index 0) c.requires (slice_get-get_or reached index 0 (omega arith)) in
     search rules
 
 pub bounds-places-at : goal.bounds-places-at
 bounds-places-at c =
     let reached = c.args.reached.now in
     let index = c.loop-at.at-index in
-    below_at (length c.args.places.now) reached index (get_or reached index 0) c.requires.within (slice_get-get_or reached index 0 (omega arith))
+    below_at (length c.args.places.now) reached index (get_or reached index 0) c.requires (slice_get-get_or reached index 0 (omega arith))
 
 pub loop-at-preserved : goal.loop-at-preserved
 loop-at-preserved c =
     let built = c.args.against.now.built.now in
     let terms = terms_in c.args.against.now in
-    let definitions = c.args.defined.now.definitions.now in
+    let definitions = c.args.defined.now in
     let reached = c.args.reached.now in
     let index = c.loop-at.at-index in
     let lists = c.args.places.now in
     let list = c.index-places-at.result in
     let number = get_or reached index 0 in
     let at : slice_get reached index ≡ Some number = slice_get-get_or reached index 0 (omega arith) in
-    let inside : number < length lists = below_at (length lists) reached index number c.requires.within at in
+    let inside : number < length lists = below_at (length lists) reached index number c.requires at in
     let stands : slice_get lists number ≡ Some list = slice_get_read lists (length lists) number list refl inside c.index-places-at.is in
     flat_step (uses_told_in built terms definitions (map shown lists)) reached index number c.args.found.now c.loop-at.found c.tell_uses.new.found at
     c.loop-at.invariant

@@ -9,4 +9,4 @@ abbrev pub invariant-loop-at : goal.invariant-loop-at
 invariant-loop-at l =
     l.found
     ≡ l.initial.found
-    ++ flat_map (uses_told_in l.against.built.now (terms_in l.against) l.defined.definitions.now (map shown l.places)) (take l.at-index l.reached)
+    ++ flat_map (uses_told_in l.against.built.now (terms_in l.against) l.defined (map shown l.places)) (take l.at-index l.reached)

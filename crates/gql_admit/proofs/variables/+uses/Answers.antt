@@ -12,7 +12,7 @@ use Rattle.gql_admit.proofs.variables.+uses.Goals as goal
 
 pub tell_in_items-returns : goal.tell_in_items-returns
 tell_in_items-returns t c =
-    let tells = told_in_value (types_of c.args.types.now) c.args.defined.now.definitions.now c.args.argument.now in
+    let tells = told_in_value (types_of c.args.types.now) c.args.defined.now c.args.argument.now in
     let place = option_map value_place_behind c.args.place in
     c.loop-value.invariant
     ∙ ap (λ (vs : List DocValue). c.args.found.now ++ flat_map (λ (value : DocValue). tells value place) vs)
@@ -22,7 +22,7 @@ tell_in_items-returns t c =
 pub tell_in_members-loop-at-preserved : goal.tell_in_members-loop-at-preserved
 tell_in_members-loop-at-preserved t c =
     let table = types_of c.args.types.now in
-    let definitions = c.args.defined.now.definitions.now in
+    let definitions = c.args.defined.now in
     let argument = c.args.argument.now in
     let place = option_map value_place_behind c.args.place in
     let name = c.at.result.0.now in
@@ -34,7 +34,7 @@ tell_in_members-loop-at-preserved t c =
 pub tell_in_members-returns : goal.tell_in_members-returns
 tell_in_members-returns t c =
     let table = types_of c.args.types.now in
-    let definitions = c.args.defined.now.definitions.now in
+    let definitions = c.args.defined.now in
     let argument = c.args.argument.now in
     let place = option_map value_place_behind c.args.place in
     c.loop-at.invariant

@@ -10,7 +10,7 @@ abbrev pub invariant-tell_in_items-loop-value : goal.invariant-tell_in_items-loo
 invariant-tell_in_items-loop-value l =
     l.found
     ≡ l.initial.found
-    ++ flat_map (λ value. told_in_value (types_of l.types) l.defined.definitions.now l.argument value (option_map value_place_behind l.place))
+    ++ flat_map (λ value. told_in_value (types_of l.types) l.defined l.argument value (option_map value_place_behind l.place))
     (take l.value-index l.items)
 
 abbrev pub invariant-tell_in_members-loop-at : goal.invariant-tell_in_members-loop-at
@@ -18,6 +18,6 @@ invariant-tell_in_members-loop-at l =
     l.found
     ≡ l.initial.found
     ++ flat_map
-    (λ member. told_in_value (types_of l.types) l.defined.definitions.now l.argument member.1
+    (λ member. told_in_value (types_of l.types) l.defined l.argument member.1
     (member_place (types_of l.types) member.0 (option_map value_place_behind l.place)))
     (take l.at l.members)

@@ -6,4 +6,4 @@ use Rattle.gql_admit.proofs.variables.tell_in_arguments.Given as goal
 abbrev pub invariant-loop-argument : goal.invariant-loop-argument
 invariant-loop-argument l =
     l.found
-    ≡ l.initial.found ++ told_in_arguments (types_of l.types) l.defined.definitions.now l.declared (take l.argument-index l.arguments)
+    ≡ l.initial.found ++ told_in_arguments (types_of l.types) l.defined l.declared (take l.argument-index l.arguments)

@@ -11,7 +11,7 @@ use Rattle.gql_admit.proofs.variables.tell_uses.Goals as goal
 
 pub returns : goal.returns
 returns c =
-    let tells = uses_told_at c.args.built.now (terms_of c.args.site.now) c.args.defined.now.definitions.now in
+    let tells = uses_told_at c.args.built.now (terms_of c.args.site.now) c.args.defined.now in
     let places = c.args.places.now in
     c.loop-place.invariant
     ∙ ap (λ (ps : List UsePlace). c.args.found.now ++ flat_map (λ (p : UsePlace). tells (place_behind p)) ps) (take_all c.loop-place.place-index places (omega arith))

@@ -8,4 +8,4 @@ use Rattle.gql_admit.proofs.variables.tell_uses.Given as goal
 abbrev pub invariant-loop-place : goal.invariant-loop-place
 invariant-loop-place l =
     l.found
-    ≡ l.initial.found ++ flat_map (λ p. uses_told_at l.built (terms_of l.site) l.defined.definitions.now (place_behind p)) (take l.place-index l.places)
+    ≡ l.initial.found ++ flat_map (λ p. uses_told_at l.built (terms_of l.site) l.defined (place_behind p)) (take l.place-index l.places)
