@@ -277,10 +277,11 @@ fn environment(
     alloc: Global,
     operation: Positioned<OperationDefinition>,
     fragments: Pairs<Positioned<FragmentDefinition>>,
-) -> QueryEnv
+) -> Made<QueryEnv>
     requires { deep_from fragments 65 operation.node.selection_set ≡ None }
 {
     QueryEnv::new(
+        alloc,
         Variables::from_value(alloc, Value::Null),
         None,
         operation,
@@ -300,7 +301,9 @@ fn request_of(alloc: Global, document: ExecutableDocument) -> Made<Option<QueryE
         fragments,
     } = document;
     match operations {
-        DocumentOperations::Single(operation) => Ok(Some(environment(alloc, operation, fragments))),
+        DocumentOperations::Single(operation) => Ok(Some(environment(
+            alloc, operation, fragments,
+        )?)),
         DocumentOperations::Multiple(_) => Ok(None),
     }
 }

@@ -1,7 +1,6 @@
 //! What the values of a document come to in a query (GraphQL, October 2021, section 6.4.1).
-ghost use Rattle.std.specs.Prelude.{◌≡◌, map, find, IfOk, string_bytes};
+ghost use Rattle.std.specs.Prelude.{◌≡◌, map, IfOk, string_bytes};
 ghost use Rattle.std.specs.Option.{option_copied};
-ghost use Rattle.std.specs.Str.{bytes_eq};
 ghost use Rattle.gql_select.specs.Constants.{default_of, resolved};
 ghost use Rattle.gql_resolve.specs.Variables.{known_in, not_defined_text, resolved_members};
 ghost use Rattle.gql_resolve.specs.Variables.{is_defined as defined, not_defined as refused};
@@ -9,7 +8,7 @@ ghost use Rattle.gql_resolve.specs.Variables.{unknown_in as first_unknown, value
 ghost use Rattle.gql_resolve.specs.Variables.{unknown_items, unknown_members, unless_defined};
 
 use gql_base::{Copied, Items, Made, Pairs, Pos, ServerError, ServerResult, Value};
-use gql_doc::{DocValue, Positioned, VariableDefinition};
+use gql_doc::DocValue;
 use gql_request::QueryEnv;
 use std::alloc::Global;
 
@@ -83,15 +82,11 @@ fn unknown_name<'a>(env: &QueryEnv, name: &'a str) -> Option<&'a str>
     }
 }
 
+#[tactic(auto, using(crate::proofs::VariableLemmas::found_any))]
 fn is_defined(env: &QueryEnv, name: &str) -> bool
     ensures { result ≡ defined env.now name.now }
 {
-    env.operation
-        .node
-        .variable_definitions
-        .as_slice()
-        .iter()
-        .any(|definition| definition.node.name.node.as_str() == name)
+    env.definition(name).is_some()
 }
 
 /// The refusal of a variable that the operation doesn't define.
@@ -168,25 +163,11 @@ fn default_value<'a>(env: &'a QueryEnv, name: &str) -> Option<&'a Value>
     ensures { option_copied result
         ≡ default_of name.now env.now.operation.node.variable_definitions }
 {
-    let definitions = env.operation.node.variable_definitions.as_slice();
-    match definition_of(definitions, name) {
+    match env.definition(name) {
         Some(definition) => match &definition.node.default {
             Some(default) => Some(&default.node),
             None => None,
         },
         None => None,
     }
-}
-
-/// The first definition of a variable.
-fn definition_of<'a>(
-    definitions: &'a [Positioned<VariableDefinition>],
-    name: &str,
-) -> Option<&'a Positioned<VariableDefinition>>
-    ensures { option_copied result
-        ≡ find (λ definition. bytes_eq definition.node.name.node name.now) definitions.now }
-{
-    definitions
-        .iter()
-        .find(|definition| definition.node.name.node.as_str() == name)
 }

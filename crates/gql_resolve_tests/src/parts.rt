@@ -30,7 +30,7 @@ impl Parts {
     /// Parts for an operation of this kind.
     #[tactic(auto, using(gql_request::proofs::NestLemmas::empty_nests))]
     pub fn new(alloc: Global, ty: OperationType) -> Made<Parts> {
-        let env = environment(alloc, ty);
+        let env = environment(alloc, ty)?;
         let item = field(alloc)?;
         let segments = path(alloc)?;
         let data = data(alloc)?;
@@ -129,10 +129,11 @@ fn operation(alloc: Global, ty: OperationType) -> Positioned<OperationDefinition
 }
 
 #[tactic(auto, using(gql_request::proofs::NestLemmas::empty_within))]
-fn environment(alloc: Global, ty: OperationType) -> QueryEnv
-    ensures { levels_of result ≡ 1 }
+fn environment(alloc: Global, ty: OperationType) -> Made<QueryEnv>
+    ensures { IfOk result (λ env. levels_of env ≡ 1) }
 {
     QueryEnv::new(
+        alloc,
         Variables::from_value(alloc, Value::Null),
         None,
         operation(alloc, ty),

@@ -97,13 +97,14 @@ fn grounded(alloc: Global, chosen: Chosen, variables: Variables) -> Made<Ground>
 {
     let segments = path(alloc)?;
     let env = QueryEnv::new(
+        alloc,
         variables,
         chosen.operation_name,
         chosen.operation,
         chosen.fragments,
         IntrospectionMode::default(),
         33,
-    );
+    )?;
     Ok(Ground {
         env,
         arguments: Pairs::new(alloc),

@@ -33,8 +33,9 @@ impl Ground {
         ensures { IfOk result (λ ground. ground.env.operation.node.ty ≡ ty) }
     {
         let field = aliased_field(alloc, "x", "b")?;
+        let env = environment(alloc, ty, no_selections(alloc))?;
         Ok(Ground {
-            env: environment(alloc, ty, no_selections(alloc)),
+            env,
             field: field.node,
             object: Text::new(alloc, "Query")?,
             ty: TypeRef::named(alloc, TypeRef::INT)?,
@@ -91,10 +92,10 @@ fn aliased_field(alloc: Global, alias: &str, name: &str) -> Made<Positioned<Fiel
 }
 
 /// A request of a set.
-fn environment(alloc: Global, ty: OperationType, set: Positioned<SelectionSet>) -> QueryEnv
+fn environment(alloc: Global, ty: OperationType, set: Positioned<SelectionSet>) -> Made<QueryEnv>
     requires { deep_from [] 1 set ≡ None }
-    ensures ty { result.operation.node.ty ≡ ty }
-    ensures levels { levels_of result ≡ 1 }
+    ensures ty { IfOk result (λ env. env.operation.node.ty ≡ ty) }
+    ensures levels { IfOk result (λ env. levels_of env ≡ 1) }
 {
     let operation = at(OperationDefinition {
         ty,
@@ -103,6 +104,7 @@ fn environment(alloc: Global, ty: OperationType, set: Positioned<SelectionSet>) 
         selection_set: set,
     });
     QueryEnv::new(
+        alloc,
         Variables::from_value(alloc, Value::Null),
         None,
         operation,

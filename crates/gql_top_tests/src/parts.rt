@@ -29,7 +29,7 @@ impl Parts {
     /// Parts for a query, of a field under this parent.
     #[tactic(auto, using(gql_request::proofs::NestLemmas::empty_nests))]
     pub fn new(alloc: Global, parent: Value) -> Made<Parts> {
-        let env = environment(alloc);
+        let env = environment(alloc)?;
         let item = field(alloc)?;
         let segments = path(alloc)?;
         Ok(Parts {
@@ -108,10 +108,11 @@ fn operation(alloc: Global) -> Positioned<OperationDefinition>
 }
 
 #[tactic(auto, using(gql_request::proofs::NestLemmas::empty_within))]
-fn environment(alloc: Global) -> QueryEnv
-    ensures { levels_of result ≡ 1 }
+fn environment(alloc: Global) -> Made<QueryEnv>
+    ensures { IfOk result (λ env. levels_of env ≡ 1) }
 {
     QueryEnv::new(
+        alloc,
         Variables::from_value(alloc, Value::Null),
         None,
         operation(alloc),
