@@ -26,11 +26,11 @@ impl ScalarType for Switch {
     ghost use Rattle.std.specs.Option.{ok_or};
     ghost use Rattle.gql_base.specs.Kinds.{boolean_of};
     ghost use Rattle.gql_base.specs.declared.value.Value.TheVariants as value;
-    ghost use Rattle.gql_input.specs.InputValueError.{expected_text};
+    ghost use Rattle.gql_input.specs.InputValueError.{expected_text, plain};
     ghost use Rattle.gql_base_tests.specs.declared.scalar_tests.Switch.TheVariants.{On, Off};
 
     ghost read = { λ given. ok_or (option_map (λ on. if on then On else Off) (boolean_of given))
-        (expected_text (codes "Switch") given) };
+        (plain (expected_text (codes "Switch") given)) };
 
     ghost valid = { λ given. is_some (boolean_of given) };
 

@@ -8,7 +8,7 @@ use Rattle.gql_base.specs.Kinds.{enum_name_of}
 use Rattle.gql_base.specs.Pairs.{HasDistinctNames, under}
 use Rattle.gql_base.specs.declared.value.Value.{Value}
 use Rattle.gql_input.specs.EnumType.{AreApart, IsReadAs, IsReadBack, name_of_item, no_item_text, read_enum, read_name, values_of}
-use Rattle.gql_input.specs.InputValueError.{custom_text}
+use Rattle.gql_input.specs.InputValueError.{custom_text, plain}
 
 module _ {X T : Type 0} (pass : X → Bool) (give : X → T) where
   -- what the first gives that passes
@@ -96,7 +96,7 @@ pub read_back : {T : Type 0} (same : T → T → Bool) (v : T) (n : List ℕ) (m
 read_back same v n made ps distinct named is type_name = by (back_from_name same v n ps distinct named)
   where
     by : ((w : _) × (under n ps ≡ Some w) × (same w v ≡ true)) → (w : _) × (read_enum type_name ps made ≡ Ok w) × (same w v ≡ true)
-    by (w, at, held) = (w, ap (read_name type_name ps made) is ∙ ap (λ o. ok_or o (custom_text type_name (no_item_text n))) at, held)
+    by (w, at, held) = (w, ap (read_name type_name ps made) is ∙ ap (λ o. ok_or o (plain (custom_text type_name (no_item_text n)))) at, held)
 
 under_stands : {T : Type 0} (n : List ℕ) (ps : List (List ℕ × T)) (w : T) → under n ps ≡ Some w → Contains (values_of ps) w
 under_stands n [] w at = cc
@@ -128,4 +128,4 @@ given_back same v n made ps distinct named is apart stands type_name = by (back_
     by : ((w : _) × (under n ps ≡ Some w) × (same w v ≡ true)) → read_enum type_name ps made ≡ Ok v
     by (w, at, held) =
         let it = same_is_it same (values_of ps) w v apart (under_stands n ps w at) stands held in
-        ap (read_name type_name ps made) is ∙ ap (λ o. ok_or o (custom_text type_name (no_item_text n))) (at ∙ ap Some it)
+        ap (read_name type_name ps made) is ∙ ap (λ o. ok_or o (plain (custom_text type_name (no_item_text n)))) (at ∙ ap Some it)

@@ -7,7 +7,7 @@ use Rattle.gql_base.specs.Kinds.{enum_name_of}
 use Rattle.gql_base.specs.Pairs.{under}
 use Rattle.gql_base.specs.declared.value.Value.{Value}
 use Rattle.gql_input.specs.declared.enum_type.EnumItem.{EnumItem}
-use Rattle.gql_input.specs.InputValueError.{custom_text, expected_text}
+use Rattle.gql_input.specs.InputValueError.{Refusal, custom_text, expected_text, plain}
 
 -- an item as its name and its value
 abbrev pub item_pair : {T : Type 0} → EnumItem T → List ℕ × T
@@ -22,17 +22,17 @@ abbrev pub no_item_text : List ℕ → List ℕ
 no_item_text name = codes "Enumeration type does not contain value \"" ++ (name ++ codes "\".")
 
 -- what a name gives at an enum, or why it gives nothing
-abbrev pub read_item : {T : Type 0} → List ℕ → List (List ℕ × T) → List ℕ → Result T (List ℕ)
+abbrev pub read_item : {T : Type 0} → List ℕ → List (List ℕ × T) → List ℕ → Result T Refusal
 read_item type_name listed name =
-    ok_or (under name listed) (custom_text type_name (no_item_text name))
+    ok_or (under name listed) (plain (custom_text type_name (no_item_text name)))
 
 abbrev pub read_name : {T : Type 0} → List ℕ → List (List ℕ × T) → Value → Option (List ℕ)
-    → Result T (List ℕ)
-read_name type_name listed value None = Err (expected_text type_name value)
+    → Result T Refusal
+read_name type_name listed value None = Err (plain (expected_text type_name value))
 read_name type_name listed value (Some name) = read_item type_name listed name
 
 -- what a value gives at an enum of a name and items
-abbrev pub read_enum : {T : Type 0} → List ℕ → List (List ℕ × T) → Value → Result T (List ℕ)
+abbrev pub read_enum : {T : Type 0} → List ℕ → List (List ℕ × T) → Value → Result T Refusal
 read_enum type_name listed value = read_name type_name listed value (enum_name_of value)
 
 -- that each reading of a value at the items gives one that a test calls the same as an item's

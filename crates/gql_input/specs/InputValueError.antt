@@ -1,9 +1,18 @@
 -- Why a value is no value of an input type.
-use Rattle.std.specs.Prelude.{ℕ, List, ◌++◌, Option, codes, if◌then◌else◌}
+use Rattle.std.specs.Prelude.{ℕ, List, ◌++◌, Option, None, codes, if◌then◌else◌}
 use Rattle.std.specs.Str.{bytes_eq}
 use Rattle.gql_base.specs.Json.{literal}
 use Rattle.gql_base.specs.declared.value.Value.{Value}
 use Rattle.gql_input.specs.declared.input_value_error.InputValueError.{InputValueError}
+
+-- why a value is refused: the message, and the extensions beside it
+pub record Refusal : Type 0 where
+  pub message : List ℕ
+  pub extensions : Option (List (List ℕ × Value))
+
+-- a refusal without extensions
+abbrev pub plain : List ℕ → Refusal
+plain message = record { message = message; extensions = None }
 
 abbrev pub message_of : {T : Type 0} → InputValueError T → List ℕ
 message_of error = error.message

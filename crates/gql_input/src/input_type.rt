@@ -10,6 +10,7 @@ use std::alloc::Global;
 pub trait InputType: Sized {
     ghost use Rattle.std.specs.Prelude.{ℕ, List, Option, Result};
     ghost use Rattle.gql_base.specs.declared.value.Value.{Value as OneValue};
+    ghost use Rattle.gql_input.specs.InputValueError.{Refusal};
 
     /// What a value of this type is at its heart: that of `Option<i32>` is `i32`.
     type RawValueType;
@@ -20,8 +21,8 @@ pub trait InputType: Sized {
     /// The name with a mark where null is no value of the type.
     ghost qualified: { List ℕ };
 
-    /// What a value that is there or absent gives, or the message of its refusal.
-    ghost read: { Option OneValue → Result Self (List ℕ) };
+    /// What a value that is there or absent gives, or its refusal, with its extensions.
+    ghost read: { Option OneValue → Result Self Refusal };
 
     /// The value that stands for one of this type.
     ghost shown: { Self → OneValue };

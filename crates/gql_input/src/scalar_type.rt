@@ -7,11 +7,12 @@ use std::alloc::Global;
 
 /// A scalar of a program's own.
 pub trait ScalarType: Sized {
-    ghost use Rattle.std.specs.Prelude.{ℕ, Bool, List, Result};
+    ghost use Rattle.std.specs.Prelude.{Bool, Result};
     ghost use Rattle.gql_base.specs.declared.value.Value.{Value as OneValue};
+    ghost use Rattle.gql_input.specs.InputValueError.{Refusal};
 
-    /// What a value gives, or the message of its refusal.
-    ghost read: { OneValue → Result Self (List ℕ) };
+    /// What a value gives, or its refusal, with its extensions.
+    ghost read: { OneValue → Result Self Refusal };
 
     /// Whether a value may stand in a document at this type.
     ghost valid: { OneValue → Bool };
