@@ -6,29 +6,9 @@ ghost use Rattle.gql_exec.specs.Batch.{ExecutesAll, StopsAfter};
 use crate::dynamic_request::DynamicRequest;
 use crate::schema::Schema;
 use gql_base::Items;
-use gql_request::{Hooks, Response};
+use gql_request::{BatchNoMemory, Hooks, Response};
 use gql_resolve::{ResolverSet, Turns};
-use std::alloc::{AllocError, Global};
-
-/// The want of memory of a batch.
-#[derive(Clone, Copy, PartialEq, Eq, Debug)]
-pub struct BatchNoMemory {
-    /// The number of requests that were executed whole, from the first one on.
-    pub done: u64,
-    /// Of the next request, the number of root keys of a mutation whose effect stands.
-    pub roots: u64,
-}
-
-/// Where memory is wanting before a batch, nothing is done.
-impl From<AllocError> for BatchNoMemory {
-    ghost use Rattle.std.specs.Prelude.{◌≡◌};
-
-    ghost from_gives = { λ _ made. (made.done ≡ 0) × (made.roots ≡ 0) };
-
-    fn from(_error: AllocError) -> BatchNoMemory {
-        BatchNoMemory { done: 0, roots: 0 }
-    }
-}
+use std::alloc::Global;
 
 impl Schema {
     /// The responses to requests, which are executed one after another in their order over one

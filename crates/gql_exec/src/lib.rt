@@ -12,7 +12,6 @@ mod root;
 mod schema;
 mod shared;
 
-pub use batch::BatchNoMemory;
 pub use builder::SchemaBuilderExt;
 pub use dynamic_request::{DynamicRequest, DynamicRequestExt};
 pub use gql_settings::{SchemaBuilder, Settings};

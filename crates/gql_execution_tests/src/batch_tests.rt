@@ -2,8 +2,8 @@
 use crate::ballot::{Ballot, Last};
 use crate::schemas::{finished, with_object};
 use gql_base::{Items, Made, Text};
-use gql_exec::{BatchNoMemory, DynamicRequest, Schema};
-use gql_request::{BatchResponse, Hooks, Request};
+use gql_exec::{DynamicRequest, Schema};
+use gql_request::{BatchNoMemory, BatchResponse, Hooks, Request};
 use std::alloc::{AllocError, Global};
 use std::test::Fail;
 

@@ -3,10 +3,10 @@
 use crate::schemas::{Roots, schema};
 use gql_base::Made;
 use gql_doc::OperationType;
-use gql_exec::{BatchNoMemory, Ready, Schema};
+use gql_exec::{Ready, Schema};
 use gql_request::{Data, Hooks, Request};
 use gql_schema::Object;
-use std::alloc::{AllocError, Global};
+use std::alloc::Global;
 use std::test::Fail;
 
 /// Roots, and the objects at those of queries, of mutations and of subscriptions, each with the
@@ -86,12 +86,4 @@ fn makes_ready(alloc: Global, schema: &Schema, request: &Request) -> Made<bool> 
 fn requests_are_made_ready(rt: HostRuntime) -> Result<(), Fail> {
     assert!(rt; is_made_ready(rt.alloc(), "mutation { b }")?);
     Ok(())
-}
-
-#[test]
-fn a_want_before_a_batch(rt: HostRuntime) {
-    assert_eq!(rt;
-        BatchNoMemory::from(AllocError),
-        BatchNoMemory { done: 0, roots: 0 }
-    );
 }

@@ -26,6 +26,7 @@ use Rattle.gql_request.specs.contracts.extension_context.ExtensionContext as ext
 use Rattle.gql_request.specs.contracts.query_env.QueryEnv as query_env
 use Rattle.gql_request.specs.contracts.request.Request as request
 use Rattle.gql_request.specs.contracts.response.Response as response
+use Rattle.gql_request.specs.contracts.stream_poll.StreamPoll as stream_poll
 
 pub variables_send : IsSend variables.the_row
 variables_send = search (value_send, value_sync, common.the_send, pairs.the_send, pairs.the_sync, sendable) depth 20
@@ -102,8 +103,34 @@ query_env_send = search (
   sendable,
 ) depth 20
 
+pub query_env_field_send : IsSend query_env.the_field.row
+query_env_field_send = search (
+  variables_field_send,
+  text.the_send,
+  operation_send,
+  fragment_send,
+  pairs.the_send,
+  positioned.the_send,
+  positioned.the_field_send,
+  mode.the_field_send,
+  sendable,
+) depth 20
+
 pub query_env_sync : IsSync query_env.the_row
 query_env_sync = search (
+  variables_field_sync,
+  text.the_sync,
+  operation_sync,
+  fragment_sync,
+  pairs.the_sync,
+  positioned.the_sync,
+  positioned.the_field_sync,
+  mode.the_field_sync,
+  sendable,
+) depth 20
+
+pub query_env_field_sync : IsSync query_env.the_field.row
+query_env_field_sync = search (
   variables_field_sync,
   text.the_sync,
   operation_sync,
@@ -214,3 +241,9 @@ batch_response_send = search (response_send, response_field_send, items.the_send
 
 pub batch_response_sync : IsSync batch_response.the_row
 batch_response_sync = search (response_sync, response_field_sync, items.the_sync, sendable) depth 20
+
+pub stream_poll_send : IsSend stream_poll.the_row
+stream_poll_send = search (response_send, response_field_send, server_error_send, items.the_send, sendable) depth 20
+
+pub stream_poll_sync : IsSync stream_poll.the_row
+stream_poll_sync = search (response_sync, response_field_sync, server_error_sync, items.the_sync, sendable) depth 20

@@ -1,6 +1,7 @@
 pub mod Data
 pub mod Defined
 pub mod ExtensionContext
+pub mod Hearing
 pub mod HookEvent
 pub mod KeyTree
 pub mod Path
@@ -16,3 +17,5 @@ pub mod BatchResponse
 pub mod HeaderFault
 pub mod Headers
 pub mod HeaderPairs
+pub mod StreamPolls
+pub mod Told

@@ -20,6 +20,18 @@ pub struct DataKey(pub u32);
 #[error("no data is under this key")]
 pub struct NoData(pub DataKey);
 
+impl Copied for DataKey {
+    fn try_clone(&self, _alloc: Global) -> Made<DataKey> {
+        Ok(*self)
+    }
+}
+
+impl Copied for NoData {
+    fn try_clone(&self, _alloc: Global) -> Made<NoData> {
+        Ok(*self)
+    }
+}
+
 /// Values under keys. Contracts see the list of the pairs of a key's number and its value, in order
 /// of insertion.
 #[derive(Debug, Drop)]

@@ -1,5 +1,6 @@
+use gql_base::{Copied, Made};
 use http_header::HeaderMapError;
-use std::alloc::AllocError;
+use std::alloc::{AllocError, Global};
 use thiserror::Error;
 
 /// Why there is no map of headers.
@@ -35,5 +36,11 @@ impl From<HeaderMapError> for HeaderFault {
             HeaderMapError::MaxSizeReached => HeaderFault::MaxSizeReached,
             HeaderMapError::OutOfMemory => HeaderFault::NoMemory,
         }
+    }
+}
+
+impl Copied for HeaderFault {
+    fn try_clone(&self, _alloc: Global) -> Made<HeaderFault> {
+        Ok(*self)
     }
 }

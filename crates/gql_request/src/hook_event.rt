@@ -1,5 +1,8 @@
 ghost use Rattle.std.specs.Prelude.{◌≡◌};
 
+use gql_base::{Copied, Made};
+use std::alloc::Global;
+
 /// The stages of a request at which hooks are called.
 #[derive(Clone, Copy, PartialEq, Eq, Debug)]
 pub enum HookStage {
@@ -43,5 +46,17 @@ impl HookEvent {
             (HookStage::Resolve, false) => "resolve_start",
             (HookStage::Resolve, true) => "resolve_end",
         }
+    }
+}
+
+impl Copied for HookStage {
+    fn try_clone(&self, _alloc: Global) -> Made<HookStage> {
+        Ok(*self)
+    }
+}
+
+impl Copied for HookEvent {
+    fn try_clone(&self, _alloc: Global) -> Made<HookEvent> {
+        Ok(*self)
     }
 }

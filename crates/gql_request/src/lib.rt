@@ -2,12 +2,14 @@
 //! environment of a query, and the path to a place.
 #![tactic(auto)]
 
+mod batch_no_memory;
 mod batch_request;
 mod batch_response;
 mod data;
 mod data_context;
 mod defined;
 mod entered;
+mod executor;
 mod extension_context;
 mod header_fault;
 mod header_folding;
@@ -24,13 +26,16 @@ mod request;
 mod resolve_info;
 mod response;
 mod shared;
+mod stream_poll;
 
+pub use batch_no_memory::BatchNoMemory;
 pub use batch_request::{BatchRequest, Requests};
 pub use batch_response::BatchResponse;
 pub use data::{Data, DataKey, NoData};
 pub use data_context::{DataContext, found_or};
 pub use defined::{Defined, definition_places};
 pub use entered::Entered;
+pub use executor::Executor;
 pub use extension_context::ExtensionContext;
 pub use header_fault::HeaderFault;
 pub use header_op::HeaderOp;
@@ -43,3 +48,4 @@ pub use query_path_node::{Parents, QueryPathNode};
 pub use request::Request;
 pub use resolve_info::ResolveInfo;
 pub use response::Response;
+pub use stream_poll::StreamPoll;

@@ -115,3 +115,9 @@ impl Copied for QueryEnv {
         })
     }
 }
+
+impl Copied for IntrospectionMode {
+    fn try_clone(&self, _alloc: Global) -> Made<IntrospectionMode> {
+        Ok(*self)
+    }
+}

@@ -1,6 +1,7 @@
 ghost use Rattle.std.specs.Prelude.{◌≡◌, ◌↔◌, ℕ, List, IsTrue, IsSome, IfSome, IfOk, MatchResult};
 ghost use Rattle.std.specs.Prelude.{OnErr, Ok, Err, Some, None};
 ghost use Rattle.std.specs.Borrow.{sem};
+ghost use Rattle.std.specs.Option.{option_copied};
 ghost use Rattle.std.specs.Str.{chars};
 ghost use Rattle.gql_doc.specs.Spelled.{GivesDocument, SpellsDocument, IsDocumentFault};
 ghost use Rattle.gql_doc.specs.declared.document.ExecutableDocument.{ExecutableDocument};
@@ -144,6 +145,13 @@ impl Request {
         ensures { self.new ≡ with_document self.old doc }
     {
         self.document = Some(doc);
+    }
+
+    /// The document that is set, if any.
+    pub fn document(&self) -> Option<&ExecutableDocument>
+        ensures { option_copied result ≡ set_document self.now }
+    {
+        self.document.as_ref()
     }
 
     /// True exactly where a document is set.

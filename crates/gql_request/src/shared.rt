@@ -1,13 +1,14 @@
 //! Requests, responses and what they hold can be moved to threads and shared between them.
 use crate::{
-    BatchRequest, BatchResponse, Data, DataKey, ExtensionContext, HeaderFault, HeaderOp,
-    HeaderPairs, HookEvent, HookStage, Hooks, IntrospectionMode, NoData, Parents,
-    ParseRequestError, QueryEnv, QueryPathNode, Request, Response,
+    BatchNoMemory, BatchRequest, BatchResponse, Data, DataKey, ExtensionContext, HeaderFault,
+    HeaderOp, HeaderPairs, HookEvent, HookStage, Hooks, IntrospectionMode, NoData, Parents,
+    ParseRequestError, QueryEnv, QueryPathNode, Request, Response, StreamPoll,
 };
 
 fn shared<T: Send + Sync>() {}
 
 fn public_types<'a>() {
+    shared::<BatchNoMemory>();
     shared::<Data>();
     shared::<DataKey>();
     shared::<HeaderFault>();
@@ -44,6 +45,10 @@ fn of_batch_request() {
 
 fn of_batch_response() {
     shared::<BatchResponse>();
+}
+
+fn of_stream_poll() {
+    shared::<StreamPoll>();
 }
 
 fn of_header_pairs() {

@@ -6,6 +6,8 @@ mod context_tests;
 #[cfg(test)]
 mod copy_tests;
 #[cfg(test)]
+mod executor_tests;
+#[cfg(test)]
 mod header_tests;
 #[cfg(test)]
 mod hook_tests;

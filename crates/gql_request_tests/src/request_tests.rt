@@ -346,7 +346,8 @@ fn stands_at(outcome: Result<&ExecutableDocument, ParseFault>, column: Option<us
 fn asked(alloc: Global, query: &str, column: Option<usize>) -> Made<bool> {
     let mut request = Request::new(alloc, query)?;
     let stands = stands_at(request.parsed_query(alloc)?, column);
-    Ok(stands && request.has_document() == column.is_some())
+    let is_set = request.has_document() && request.document().is_some();
+    Ok(stands && is_set == column.is_some())
 }
 
 /// Whether a document that was set is given, over a query that is none.
