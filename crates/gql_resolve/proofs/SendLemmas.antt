@@ -21,6 +21,7 @@ use Rattle.gql_request.proofs.header_op.HeaderOp.TheSendSync as header_op
 use Rattle.gql_resolve.proofs.field_value.FieldValue.TheLaws.TheKnot as knot
 use Rattle.gql_resolve.specs.contracts.answer.Answer as answer
 use Rattle.gql_resolve.specs.contracts.answer.Polled as polled
+use Rattle.gql_resolve.specs.contracts.field_future.FieldFuture as field_future
 use Rattle.gql_resolve.specs.contracts.field_value.FieldValue as field_value
 
 error_send : IsSend error.the_row
@@ -28,6 +29,17 @@ error_send = search (extension_values_send, text.the_send, sendable) depth 20
 
 pub field_value_send : (V : RattleType) → IsSend V → IsSend (field_value.the_row V)
 field_value_send V p = search (
+  knot.send-FieldValue,
+  value_field_send,
+  name.the_send,
+  boxed.the_send,
+  items.the_send,
+  sendable,
+) depth 20
+
+-- the same, as a part of another type
+pub field_value_field_send : (V : RattleType) → IsSend V → IsSend (field_value.the_field V).row
+field_value_field_send V p = search (
   knot.send-FieldValue,
   value_field_send,
   name.the_send,
@@ -58,6 +70,16 @@ field_value_sync V p = search (
   sendable,
 ) depth 20
 
+pub field_value_field_sync : (V : RattleType) → IsSync V → IsSync (field_value.the_field V).row
+field_value_field_sync V p = search (
+  knot.sync-FieldValue,
+  value_field_sync,
+  name.the_sync,
+  boxed.the_sync,
+  items.the_sync,
+  sendable,
+) depth 20
+
 pub answer_sync : (V : RattleType) → IsSync V → IsSync (answer.the_row V)
 answer_sync V p = search (
   field_value_sync,
@@ -67,7 +89,7 @@ answer_sync V p = search (
   sendable,
 ) depth 20
 
-answer_field_send : (V : RattleType) → IsSend V → IsSend (answer.the_field V).row
+pub answer_field_send : (V : RattleType) → IsSend V → IsSend (answer.the_field V).row
 answer_field_send V p = search (
   field_value_send,
   error_send,
@@ -79,7 +101,7 @@ answer_field_send V p = search (
 pub polled_send : (V : RattleType) → IsSend V → IsSend (polled.the_row V)
 polled_send V p = search (answer_field_send, sendable) depth 20
 
-answer_field_sync : (V : RattleType) → IsSync V → IsSync (answer.the_field V).row
+pub answer_field_sync : (V : RattleType) → IsSync V → IsSync (answer.the_field V).row
 answer_field_sync V p = search (
   field_value_sync,
   error_sync,
@@ -90,6 +112,12 @@ answer_field_sync V p = search (
 
 pub polled_sync : (V : RattleType) → IsSync V → IsSync (polled.the_row V)
 polled_sync V p = search (answer_field_sync, sendable) depth 20
+
+pub future_send : (V F : RattleType) → IsSend V → IsSend F → IsSend (field_future.the_row V F)
+future_send V F v f = search (field_value_send, sendable) depth 20
+
+pub future_sync : (V F : RattleType) → IsSync V → IsSync F → IsSync (field_future.the_row V F)
+future_sync V F v f = search (field_value_sync, sendable) depth 20
 
 -- what a resolver is called with is read by references
 pub layers_send : (a : NamedLft) → IsSend (layers.the_row a)

@@ -6,6 +6,7 @@ use Rattle.gql_base.specs.declared.value.Value.{Value}
 use Rattle.gql_doc.specs.Document.{argument_named}
 use Rattle.gql_doc.specs.declared.document.Argument.{Argument}
 use Rattle.gql_doc.specs.declared.document.Field.{Field, out-Field}
+use Rattle.gql_input.specs.InputValueError.{Refusal}
 use Rattle.gql_request.specs.declared.query_env.QueryEnv.{QueryEnv}
 use Rattle.gql_resolve.specs.Variables.{value_at}
 
@@ -13,17 +14,19 @@ use Rattle.gql_resolve.specs.Variables.{value_at}
 abbrev pub nowhere : Pos
 nowhere = record { line = 0; column = 0 }
 
--- that a reading gave what is due: the value with its place, or an error of one place that has the
--- message of the refusal
-abbrev pub IsReadAt : {T : Type 0} → Pos → Result T (List ℕ) → Result (Pos × T) ServerError
-    → Type 0
+-- that a reading gave what is due: the value with its place, or an error of one place that tells the
+-- refusal, with its extensions
+abbrev pub IsReadAt : {T : Type 0} → Pos → Result T Refusal → Result (Pos × T) ServerError → Type 0
 IsReadAt pos (Ok due) (Ok given) = given ≡ (pos, due)
 IsReadAt pos (Ok due) (Err error) = ⊥
-IsReadAt pos (Err message) (Ok given) = ⊥
-IsReadAt pos (Err message) (Err error) =
-    (error.message ≡ message) × (error.locations ≡ pos ∷ []) × (error.path ≡ [])
+IsReadAt pos (Err refusal) (Ok given) = ⊥
+IsReadAt pos (Err refusal) (Err error) =
+    (error.message ≡ refusal.message)
+    × (error.locations ≡ pos ∷ [])
+    × (error.path ≡ [])
+    × (error.extensions ≡ refusal.extensions)
 
-module _ {T : Type 0} (read : Option Value → Result T (List ℕ)) where
+module _ {T : Type 0} (read : Option Value → Result T Refusal) where
   -- what comes of an argument's value, if its variables are defined
   abbrev pub IsReadOf : Pos → Result Value ServerError → Result (Pos × T) ServerError → Type 0
   IsReadOf pos (Ok value) given = IsReadAt pos (read (Some value)) given

@@ -1,17 +1,13 @@
 -- The record of an execution, and the tasks that began. A set may tell them.
-use Rattle.std.specs.Prelude.{ℕ, Bool, true, false, List, [], ◌∷◌, ◌++◌, Option, Result, Ok, Err}
-use Rattle.std.specs.Prelude.{option_map}
+use Rattle.std.specs.Prelude.{ℕ, Bool, true, false, List, [], ◌∷◌, Result, Ok, Err}
 use Rattle.gql_base.specs.PathSegment.{path_text}
+pub use Rattle.gql_request.specs.Told.{with_more}
 use Rattle.gql_resolve.specs.declared.field_future.FieldFuture.{FieldFuture}
 use Rattle.gql_resolve.specs.declared.field_future.FieldFuture.TheVariants.{Value, Future}
 use Rattle.gql_resolve.specs.declared.answer.Polled.{Polled}
 use Rattle.gql_resolve.specs.declared.answer.Polled.TheVariants.{Ready, Pending}
 use Rattle.gql_resolve.specs.declared.record_entry.RecordEntry.{RecordEntry}
 use Rattle.gql_resolve.specs.declared.resolver_context.ResolverContext.{ResolverContext}
-
--- what is told, with more behind it; where nothing is told, nothing is told after
-abbrev pub with_more : {A : Type 0} → Option (List A) → List A → Option (List A)
-with_more told more = option_map (λ before. before ++ more) told
 
 module _ {V : Type 0} where
   -- the entry of a task's turn

@@ -96,8 +96,8 @@ impl<'a, V> ResolverContext<'a, V> {
 
     /// What the argument of a name gives at an input type, with the place of its value. A default
     /// is given where no argument has the name, at line 0 and column 0. A refusal has the same
-    /// place: of a value that isn't of the type, and of a variable that the operation doesn't
-    /// define.
+    /// place: of a value that isn't of the type, with the extensions that the type gave it, and of a
+    /// variable that the operation doesn't define.
     pub fn param_value<T: InputType + Drop>(
         &self,
         alloc: Global,

@@ -23,7 +23,7 @@ pub trait ResolverSet {
     type Own: Drop;
 
     /// What mutations change.
-    type World;
+    type World: Drop;
 
     /// A resolver that has begun.
     type Future: Drop;

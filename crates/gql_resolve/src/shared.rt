@@ -1,30 +1,66 @@
 //! What resolvers answer can be moved to threads and shared between them, where their own values
 //! can.
 use crate::{
-    Answer, ConstDirective, FieldValue, Layers, Lookahead, Polled, ResolverContext, SelectionField,
-    SelectionFieldsIter,
+    And, Answer, ConstDirective, FieldFuture, FieldValue, FnGuard, Layers, Lookahead, Or, Polled,
+    ResolverContext, SelectionField, SelectionFieldsIter,
 };
+
+fn moved<T: Send>() {}
+
+fn read<T: Sync>() {}
 
 fn shared<T: Send + Sync>() {}
 
-fn of_field_value() {
-    shared::<FieldValue<u64>>();
+fn of_moved_value<V: Send>() {
+    moved::<FieldValue<V>>();
 }
 
-fn of_answer() {
-    shared::<Answer<u64>>();
+fn of_read_value<V: Sync>() {
+    read::<FieldValue<V>>();
 }
 
-fn of_polled() {
-    shared::<Polled<u64>>();
+fn of_moved_answer<V: Send>() {
+    moved::<Answer<V>>();
+}
+
+fn of_read_answer<V: Sync>() {
+    read::<Answer<V>>();
+}
+
+fn of_moved_polled<V: Send>() {
+    moved::<Polled<V>>();
+}
+
+fn of_read_polled<V: Sync>() {
+    read::<Polled<V>>();
+}
+
+fn of_moved_future<V: Send, F: Send>() {
+    moved::<FieldFuture<V, F>>();
+}
+
+fn of_read_future<V: Sync, F: Sync>() {
+    read::<FieldFuture<V, F>>();
+}
+
+fn of_moved_guards<A: Send, B: Send>() {
+    moved::<And<A, B>>();
+    moved::<Or<A, B>>();
+    moved::<FnGuard<A>>();
+}
+
+fn of_read_guards<A: Sync, B: Sync>() {
+    read::<And<A, B>>();
+    read::<Or<A, B>>();
+    read::<FnGuard<A>>();
 }
 
 fn of_layers<'a>() {
     shared::<Layers<'a>>();
 }
 
-fn of_resolver_context<'a>() {
-    shared::<ResolverContext<'a, u64>>();
+fn of_resolver_context<'a, V: Sync>() {
+    shared::<ResolverContext<'a, V>>();
 }
 
 fn of_selection_field<'a>() {

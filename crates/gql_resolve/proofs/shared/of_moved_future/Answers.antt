@@ -1,0 +1,8 @@
+use denote.Exit.{no}
+use denote.Param.{param}
+use denote.Param.Send.{param_send, arg_send}
+use Rattle.gql_resolve.proofs.SendLemmas.{future_send}
+use Rattle.gql_resolve.proofs.shared.of_moved_future.Goals as goal
+
+pub moved-requires-send-T : goal.moved-requires-send-T
+moved-requires-send-T g c κs = param_send _ _ (arg_send _ no _ (future_send (param 0 g.row.V) (param 1 g.row.F) c.type_bounds.send-V c.type_bounds.send-F))
