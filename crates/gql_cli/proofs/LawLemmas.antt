@@ -22,7 +22,8 @@ use Rattle.gql_cli.specs.declared.command.Command.{Command}
 use Rattle.gql_cli.specs.declared.outcome.Outcome.{Outcome}
 use Rattle.gql_cli.specs.declared.outcome.Outcome.TheVariants.{Answered, BadSchema, BadShape, HasErrors, Loaded, NotBuilt, NotJson, ReadFault, TooLong, Usage}
 use Rattle.gql_merged.specs.declared.scene.Scene.{Scene}
-use Rattle.gql_cli.proofs.SchemaLemmas.{one_builder, one_schema}
+use Rattle.gql_cli.proofs.SchemaLemmas.{one_builder}
+use Rattle.gql_exec.proofs.SchemaLemmas.{one_schema}
 use Rattle.gql_exec.proofs.ReadyLemmas.{one_ready}
 use Rattle.gql_exec.specs.Builder.{IsSchemaOf, whole_table}
 use Rattle.gql_tasks.specs.Record.{fresh, state_at}

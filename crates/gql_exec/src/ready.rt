@@ -22,6 +22,16 @@ pub struct Ready {
     pub entities: Option<u32>,
 }
 
+impl Copied for Ready {
+    fn try_clone(&self, alloc: Global) -> Made<Ready> {
+        Ok(Ready {
+            request: self.request.try_clone(alloc)?,
+            env: self.env.try_clone(alloc)?,
+            entities: self.entities,
+        })
+    }
+}
+
 impl Schema {
     /// A request with what its execution knows of it, or the errors of the first stage that it
     /// breaks: its document is read, unless one is set, lies within the limits and breaks no rule,

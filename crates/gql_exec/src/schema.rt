@@ -1,5 +1,5 @@
 //! Schemas.
-ghost use Rattle.std.specs.Prelude.{◌≡◌, ◌<◌, [], IfOk};
+ghost use Rattle.std.specs.Prelude.{◌≡◌, ◌↔◌, ◌<◌, [], IsTrue, IfOk};
 ghost use Rattle.std.below.core.specs.declared.int.usize.TheConstants.{MAX};
 ghost use Rattle.std.specs.Option.{option_copied};
 ghost use Rattle.gql_schema.specs.Sound.{IsSound};
@@ -9,7 +9,7 @@ ghost use Rattle.gql_settings.specs.Settings.{new_settings, root_in, mode_for, e
 use gql_base::{Copied, Made, Text};
 use gql_doc::OperationType;
 use gql_request::{Data, IntrospectionMode};
-use gql_schema::Types;
+use gql_schema::{Same, Types};
 use gql_settings::{SchemaBuilder, Settings};
 use std::alloc::Global;
 
@@ -86,6 +86,14 @@ impl Schema {
         ensures limited { (settings_of self.now).depth < MAX }
     {
         &self.settings
+    }
+
+    /// True exactly where both are equal: all that was built in is.
+    #[tactic(auto, using(crate::proofs::SchemaLemmas::equal_where, crate::proofs::SchemaLemmas::differ_where))]
+    pub fn equals(&self, other: &Schema) -> bool
+        ensures { IsTrue result ↔ (self.now ≡ other.now) }
+    {
+        self.types.equals(&other.types) && self.settings.same(&other.settings)
     }
 
     /// How far a request in a mode may ask for the schema itself: for nothing else where the schema

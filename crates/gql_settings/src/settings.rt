@@ -3,6 +3,7 @@ ghost use Rattle.std.specs.Option.{option_copied};
 
 use gql_base::{Copied, Made, Text};
 use gql_request::{Data, IntrospectionMode};
+use gql_schema::Same;
 use std::alloc::Global;
 
 /// What a schema has beside its types.
@@ -81,5 +82,19 @@ impl Copied for Settings {
             federation: self.federation,
             entity_resolver: self.entity_resolver,
         })
+    }
+}
+
+impl Same for Settings {
+    fn same(&self, other: &Settings) -> bool {
+        self.query == other.query
+            && self.mutation.same(&other.mutation)
+            && self.subscription.same(&other.subscription)
+            && self.schema_data.equals(&other.schema_data)
+            && self.depth == other.depth
+            && self.directives == other.directives
+            && self.introspection_mode == other.introspection_mode
+            && self.federation == other.federation
+            && self.entity_resolver == other.entity_resolver
     }
 }
