@@ -9,7 +9,7 @@ use Rattle.gql_doc.specs.declared.document.DocumentOperations.TheVariants.{Multi
 use Rattle.gql_doc.specs.declared.document.OperationDefinition.{OperationDefinition}
 use Rattle.gql_doc.specs.declared.document.Positioned.{Positioned}
 use Rattle.gql_admit.specs.declared.chosen.Chosen.{Chosen}
-use Rattle.gql_admit.specs.Choice.{choice_of, chosen, named, only, operation_of}
+use Rattle.gql_admit.specs.Choice.{Operation, choice_of, chosen, kind_of, named, only, operation_of}
 use Rattle.gql_admit.specs.Refusal.{no_operation_error}
 use Rattle.gql_admit.proofs.WalkLemmas.{under_at}
 
@@ -46,3 +46,13 @@ pub operation_named : (name : List ℕ) (found : Option (Positioned OperationDef
     → found ≡ option_map operation_of (option_map (named name) found)
 operation_named name None = refl
 operation_named name (Some operation) = refl
+
+-- the kind of a choice, by the operation that was found
+pub kind_of_found : (choice : Option Operation) (found : Positioned OperationDefinition) → Some found ≡ option_map operation_of choice
+    → Some found.node.ty ≡ kind_of choice
+kind_of_found None found told = cc
+kind_of_found (Some operation) found told = (let same : found ≡ operation_of operation = cc in ap (λ f. Some f.node.ty) same)
+
+pub kind_of_none : (choice : Option Operation) → None ≡ option_map operation_of choice → None ≡ kind_of choice
+kind_of_none None told = refl
+kind_of_none (Some operation) told = cc

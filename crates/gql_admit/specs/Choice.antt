@@ -8,6 +8,7 @@ use Rattle.gql_doc.specs.declared.document.DocumentOperations.{DocumentOperation
 use Rattle.gql_doc.specs.declared.document.DocumentOperations.TheVariants.{Single, Multiple}
 use Rattle.gql_doc.specs.declared.document.ExecutableDocument.{ExecutableDocument}
 use Rattle.gql_doc.specs.declared.document.OperationDefinition.{OperationDefinition}
+use Rattle.gql_doc.specs.declared.document.OperationType.{OperationType}
 use Rattle.gql_doc.specs.declared.document.Positioned.{Positioned}
 use Rattle.gql_admit.specs.declared.chosen.Chosen.{Chosen}
 use Rattle.gql_admit.specs.Refusal.{no_operation_error}
@@ -35,6 +36,10 @@ chosen (Single operation) None = Some (None, operation)
 chosen (Single operation) (Some name) = None
 chosen (Multiple operations) None = only operations
 chosen (Multiple operations) (Some name) = option_map (named name) (under name operations)
+
+-- the kind of an operation, if there is one
+abbrev pub kind_of : Option Operation → Option OperationType
+kind_of operation = option_map (λ o. (operation_of o).node.ty) operation
 
 -- a chosen operation with the fragments of its document
 abbrev pub with_fragments : Fragments → Operation → Chosen

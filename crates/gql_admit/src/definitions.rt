@@ -44,7 +44,7 @@ pub fn tell_variables(
 }
 
 /// The operation that a request runs, where it can be chosen.
-fn chosen_in<'a>(
+pub(crate) fn chosen_in<'a>(
     operations: &'a DocumentOperations,
     name: Option<&str>,
 ) -> Option<&'a Positioned<OperationDefinition>>

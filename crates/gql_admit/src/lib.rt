@@ -56,7 +56,7 @@ pub use depth::check_depth;
 pub use directives::check_directives;
 pub use keeping::keep;
 pub use laws::one_preparation_of_a_request;
-pub use operation::choose_operation;
+pub use operation::{choose_operation, chosen_kind};
 pub use preparing::prepare;
 pub use rules::check_rules;
 pub use site::Site;

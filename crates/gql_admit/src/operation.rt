@@ -2,13 +2,15 @@
 ghost use Rattle.std.specs.Prelude.{◌≡◌, ◌<◌, length, slice_get, IfOk, None, Some};
 ghost use Rattle.std.specs.Option.{option_copied};
 ghost use Rattle.gql_base.specs.Pairs.{values_of};
-ghost use Rattle.gql_admit.specs.Choice.{choice, choice_of, chosen};
+ghost use Rattle.gql_admit.specs.Choice.{choice, choice_of, chosen, kind_of};
 
 use crate::chosen::Chosen;
+use crate::definitions::chosen_in;
 use crate::refusals::choice_error;
 use gql_base::{Made, Pairs, ServerError, Text};
 use gql_doc::{
-    DocumentOperations, ExecutableDocument, FragmentDefinition, OperationDefinition, Positioned,
+    DocumentOperations, ExecutableDocument, FragmentDefinition, OperationDefinition, OperationType,
+    Positioned,
 };
 use std::alloc::Global;
 
@@ -30,6 +32,18 @@ pub fn choose_operation(
             None => choose_only(alloc, operations, fragments),
             Some(name) => choose_named(alloc, operations, fragments, name),
         },
+    }
+}
+
+/// The kind of the operation of the name, or without a name of the only one, where there is such an
+/// operation.
+#[tactic(auto, using(crate::proofs::ChoiceLemmas::kind_of_found, crate::proofs::ChoiceLemmas::kind_of_none))]
+pub fn chosen_kind(doc: &ExecutableDocument, name: Option<&str>) -> Option<OperationType>
+    ensures { result ≡ kind_of (chosen doc.now.operations (option_copied name.entry)) }
+{
+    match chosen_in(&doc.operations, name) {
+        Some(operation) => Some(operation.node.ty),
+        None => None,
     }
 }
 

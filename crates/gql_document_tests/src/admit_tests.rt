@@ -6,11 +6,13 @@ ghost use Rattle.std.specs.Prelude.{◌≡◌};
 use crate::sample::{document_of, types, variables};
 use crate::summary::set_summary;
 use gql_admit::{
-    Chosen, Site, check_depth, check_directives, check_rules, choose_operation, keep, prepare,
+    Chosen, Site, check_depth, check_directives, check_rules, choose_operation, chosen_kind, keep,
+    prepare,
 };
 use gql_base::{Copied, Items, Made, Pairs, ServerError, Text, Variables};
 use gql_doc::{
-    ExecutableDocument, FragmentDefinition, OperationDefinition, Positioned, SelectionSet,
+    ExecutableDocument, FragmentDefinition, OperationDefinition, OperationType, Positioned,
+    SelectionSet,
 };
 use gql_request::{QueryEnv, Request};
 use gql_schema::Types;
@@ -163,6 +165,22 @@ fn first_wrong_choice(alloc: Global, table: &[Asked]) -> Made<Option<&'static st
 #[test]
 fn operations_are_chosen(rt: HostRuntime) -> Result<(), Fail> {
     assert_eq!(rt; first_wrong_choice(rt.alloc(), &CHOICES)?, None);
+    Ok(())
+}
+
+/// The kind of the operation of a name in a text.
+fn kind(alloc: Global, text: &str, name: Option<&str>) -> Made<Option<OperationType>> {
+    let document = document_of(alloc, text)?;
+    Ok(chosen_kind(&document, name))
+}
+
+#[test]
+fn kinds_of_chosen_operations(rt: HostRuntime) -> Result<(), Fail> {
+    let alloc = rt.alloc();
+    let two = "mutation A { a } query B { b }";
+    assert!(rt; kind(alloc, two, Some("A"))? == Some(OperationType::Mutation));
+    assert!(rt; kind(alloc, "subscription { a }", None)? == Some(OperationType::Subscription));
+    assert!(rt; kind(alloc, two, None)? == None);
     Ok(())
 }
 
