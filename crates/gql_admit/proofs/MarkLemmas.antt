@@ -1,11 +1,11 @@
 -- Marks beside the places that were reached.
 use Rattle.std.proofs.Common.{◌≡◌, ℕ, zero, suc, ◌+◌, ◌<◌, Bool, true, false, ◌||◌, List, [], ◌∷◌, ◌++◌, take, length, Some, get_or, slice_get, slice_set, refl, ap, sym, subst, ◌∙◌, add-one}
-use Rattle.std.proofs.lemmas.List.{get_or_read}
 use Rattle.std.proofs.lemmas.Option.{slice_get-get_or}
 use Rattle.std.specs.Bool.{Decides}
 use Rattle.std.specs.Prelude.{◌==◌}
-use Rattle.gql_admit.specs.Circular.{AreBelow, AreReached, AreWithin, Marks, ReachesFrom, at_once, further, is_in, led_to, with_number, with_numbers}
+use Rattle.gql_admit.specs.Circular.{AreBelow, AreReached, AreWithin, Marks, ReachesFrom, at_once, further, is_in, with_number, with_numbers}
 use Rattle.gql_lists.proofs.SetLemmas.{among-append, or-left, or-right}
+pub use Rattle.gql_schema.proofs.GraphRankLemmas.{led_is}
 use Rattle.gql_admit.proofs.ReachLemmas.{same_number}
 
 -- a marked place is there already
@@ -78,10 +78,6 @@ pub marked_reached : (graph : List (List ℕ)) (starts reached : List ℕ) (mark
     → Marks marks reached → slice_get marks place ≡ Some mark → Decides mark (ReachesFrom graph starts place)
 marked_reached graph starts reached marks place mark are is at =
     (λ h. are.sound place (sym (is.marked place mark at) ∙ h), λ reaches. is.marked place mark at ∙ are.all place reaches)
-
--- the places to which a place leads, as they were read
-pub led_is : (graph : List (List ℕ)) (place : ℕ) (got read : List ℕ) → place < length graph → got ≡ get_or graph place got → read ≡ got → read ≡ led_to graph place
-led_is graph place got read inside is same = same ∙ get_or_read graph place got inside is []
 
 -- the place that was read
 pub place_read : (list reached : List ℕ) (next : ℕ) → list ≡ reached → next < length reached → slice_get reached next ≡ Some (get_or list next 0)

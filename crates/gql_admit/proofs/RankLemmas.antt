@@ -1,33 +1,9 @@
 -- Numbers that fall along the ways of a graph.
-use Rattle.std.proofs.Common.{arith, ◌≡◌, ℕ, zero, suc, ◌+◌, ◌-◌, ◌≤◌, ◌<◌, Bool, true, false, ◌||◌, ◌&&◌, List, [], ◌∷◌, length, leb-true, refl, sym, subst, ap, ◌∙◌}
+use Rattle.std.proofs.Common.{arith, ◌≡◌, ℕ, ◌-◌, ◌≤◌, ◌<◌, Bool, true, false, List, refl, sym, ◌∙◌}
 use Rattle.std.specs.Bool.{Decides}
-use Rattle.std.specs.Prelude.{◌==◌}
-use Rattle.std.proofs.Common.{inl, inr}
-use Rattle.std.proofs.lemmas.Bool.{cases_lt}
-use Rattle.gql_admit.specs.Circular.{Reaches, ReachesFrom, at_once, further, is_in, led_to}
-use Rattle.gql_admit.specs.Ranks.{AreRanks, all_at_most, rank_of}
-use Rattle.gql_admit.proofs.ReachLemmas.{same_number}
-
-never : false ≡ true → ⊥
-never e = cc
-
-and-left : (a b : Bool) → (a && b) ≡ true → a ≡ true
-and-left true b h = refl
-and-left false b h = cc
-
-and-right : (a b : Bool) → (a && b) ≡ true → b ≡ true
-and-right true b h = h
-and-right false b h = cc
-
--- each of some places has at most the number that all have at most
-pub low_each : (ranks : List ℕ) (most : ℕ) (places : List ℕ) (k : ℕ) → all_at_most ranks most places ≡ true → is_in k places ≡ true → rank_of ranks k ≤ most
-low_each ranks most [] k low among = absurd (never among)
-low_each ranks most (p ∷ places) k low among =
-    let P : Bool → Type 0 = λ b. (b ≡ true → k ≡ p) → (b || is_in k places) ≡ true → rank_of ranks k ≤ most in
-    (elim (k == p) as P [
-      | true ↦ λ same h. subst (λ n. rank_of ranks n ≤ most) (sym (same refl)) (leb-true (rank_of ranks p) most (and-left _ _ low))
-      | false ↦ λ same h. low_each ranks most places k (and-right _ _ low) h
-    ]) (same_number k p).0 among
+use Rattle.gql_schema.proofs.GraphRankLemmas.{low_each}
+use Rattle.gql_schema.specs.GraphRanks.{AreRanks, all_at_most, rank_of}
+use Rattle.gql_admit.specs.Circular.{Reaches, ReachesFrom, at_once, further, led_to}
 
 -- from places of low numbers, none of a higher number is reached
 falls_on : (graph : List (List ℕ)) (ranks : List ℕ) (most : ℕ) (starts : List ℕ) (to : ℕ) → AreRanks graph ranks → all_at_most ranks most starts ≡ true
@@ -43,42 +19,3 @@ pub falls_free : (graph : List (List ℕ)) (ranks : List ℕ) (start own : ℕ) 
     → low ≡ all_at_most ranks (own - 1) (led_to graph start) → low ≡ true → Decides false (Reaches graph start start)
 falls_free graph ranks start own low are is above told so =
     (λ h. cc, λ reaches. let up = falls_on graph ranks (own - 1) (led_to graph start) start are (sym told ∙ so) reaches in absurd (omega (arith, up, is, above)))
-
--- without numbers all have the same
-pub ranked_none : (graph : List (List ℕ)) (ranks : List ℕ) → ranks ≡ [] → AreRanks graph ranks
-ranked_none graph ranks none = rw none (record { falls = λ from to leads. omega arith })
-
--- the numbers of the places before one were tested
-pub record IsTested (graph : List (List ℕ)) (ranks : List ℕ) (bound : ℕ) : Type 0 where
-  pub tested : (from to : ℕ) → from < bound → is_in to (led_to graph from) ≡ true → rank_of ranks to ≤ rank_of ranks from
-
-pub none_tested : (graph : List (List ℕ)) (ranks : List ℕ) → IsTested graph ranks 0
-none_tested graph ranks = record { tested = λ from to before leads. absurd (omega (arith, before)) }
-
-pub tested_more : (graph : List (List ℕ)) (ranks : List ℕ) (bound own : ℕ) (low : Bool) → IsTested graph ranks bound → own ≡ rank_of ranks bound
-    → low ≡ all_at_most ranks own (led_to graph bound) → low ≡ true → IsTested graph ranks (bound + 1)
-tested_more graph ranks bound own low is own_is told so = record {
-  tested = λ from to before leads.
-      elim (cases_lt from bound) [
-        | inl less ↦ is.tested from to less leads
-        | inr more ↦
-            let same : bound ≡ from = omega (arith, more, before) in
-            let here : is_in to (led_to graph bound) ≡ true = ap (λ n. is_in to (led_to graph n)) same ∙ leads in
-            let under : rank_of ranks to ≤ own = low_each ranks own (led_to graph bound) to (sym told ∙ so) here in
-            subst (λ n. rank_of ranks to ≤ rank_of ranks n) same (subst (λ m. rank_of ranks to ≤ m) own_is under)
-      ];
-}
-
-past : (graph : List (List ℕ)) (from : ℕ) → length graph ≤ from → led_to graph from ≡ []
-past [] from h = refl
-past (ks ∷ graph) zero h = absurd (omega arith)
-past (ks ∷ graph) (suc from) h = past graph from (omega arith)
-
-pub all_tested : (graph : List (List ℕ)) (ranks : List ℕ) → IsTested graph ranks (length graph) → AreRanks graph ranks
-all_tested graph ranks is = record {
-  falls = λ from to leads.
-      elim (cases_lt from (length graph)) [
-        | inl less ↦ is.tested from to less leads
-        | inr more ↦ absurd (never (ap (is_in to) (sym (past graph from more)) ∙ leads))
-      ];
-}

@@ -1,20 +1,16 @@
 -- Fragments that reach themselves by spreads (GraphQL, October 2021, section 5.5.2.2).
-use Rattle.std.specs.Prelude.{◌≡◌, ℕ, ◌<◌, Bool, true, false, ◌||◌, ◌==◌, ◌⊎◌, List, [], ◌∷◌, ◌++◌}
-use Rattle.std.specs.Prelude.{Some, length, slice_get, slice_index_or, if◌then◌else◌}
+use Rattle.std.specs.Prelude.{◌≡◌, ℕ, ◌<◌, Bool, true, ◌⊎◌, List, [], ◌∷◌, ◌++◌}
+use Rattle.std.specs.Prelude.{Some, length, slice_get, if◌then◌else◌}
 use Rattle.std.specs.List.{Contains}
 use Rattle.gql_doc.specs.Depth.{Fragments}
 use Rattle.gql_doc.specs.declared.document.FragmentDefinition.{FragmentDefinition}
 use Rattle.gql_doc.specs.declared.document.Positioned.{Positioned}
+pub use Rattle.gql_schema.specs.GraphRanks.{is_in, led_to}
 use Rattle.gql_admit.specs.Breach.{breach}
 use Rattle.gql_admit.specs.BreachTexts.{circular_text}
 use Rattle.gql_admit.specs.Spreads.{graph_of}
 use Rattle.gql_admit.specs.declared.breach.Breach.{Breach}
 use Rattle.gql_admit.specs.declared.breach.BreachKind.TheVariants as kinds
-
--- whether a number is among others
-abbrev pub is_in : ℕ → List ℕ → Bool
-is_in k [] = false
-is_in k (n ∷ ns) = (k == n) || is_in k ns
 
 -- numbers with one more behind them, unless it is there
 abbrev pub with_number : List ℕ → ℕ → List ℕ
@@ -24,10 +20,6 @@ with_number ns k = if is_in k ns then ns else ns ++ k ∷ []
 abbrev pub with_numbers : List ℕ → List ℕ → List ℕ
 with_numbers ns [] = ns
 with_numbers ns (k ∷ ks) = with_numbers (with_number ns k) ks
-
--- the places to which a place leads
-abbrev pub led_to : List (List ℕ) → ℕ → List ℕ
-led_to graph place = slice_index_or graph place []
 
 -- a place is among those at which a walk starts, or one to which a reached place leads
 pub data ReachesFrom (graph : List (List ℕ)) (starts : List ℕ) : ℕ → Type 0 where

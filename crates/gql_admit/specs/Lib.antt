@@ -20,7 +20,6 @@ pub mod Literals
 pub mod PlaceViews
 pub mod Places
 pub mod Prepared
-pub mod Ranks
 pub mod Refusal
 pub mod RulesChecked
 pub mod Spreads

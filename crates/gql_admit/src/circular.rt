@@ -2,16 +2,16 @@
 ghost use Rattle.std.specs.Prelude.{◌≡◌, ◌<◌, length, IfOk, OnOk};
 ghost use Rattle.std.specs.Bool.{Decides};
 ghost use Rattle.gql_admit.specs.Circular.{Adds, AreWithin, CircularAt, IsCircular, Reaches};
-ghost use Rattle.gql_admit.specs.Ranks.{AreRanks};
 ghost use Rattle.gql_admit.specs.Spreads.{graph_of as spreads_of};
+ghost use Rattle.gql_schema.specs.GraphRanks.{AreRanks};
 
 use crate::breach::Breach;
 use crate::breach_texts::circular_fragment;
-use crate::ranks::{leads_at_most, rank_at, ranks_of};
 use crate::reaching::reaches_itself;
 use crate::spreads::graph_of;
 use gql_base::{Items, Made, Pairs};
 use gql_doc::{FragmentDefinition, Positioned};
+use gql_schema::{component_numbers, leads_at_most, rank_at};
 use std::alloc::Global;
 
 /// Tells of each fragment that reaches itself.
@@ -23,7 +23,7 @@ pub fn tell_circular(
     ensures { OnOk result (Adds (IsCircular fragments.now) found.old found.new) }
 {
     let graph = graph_of(alloc, fragments)?;
-    let ranks = ranks_of(alloc, graph.as_slice())?;
+    let ranks = component_numbers(alloc, graph.as_slice())?;
     tell_each(alloc, fragments, graph.as_slice(), ranks.as_slice(), found)
 }
 

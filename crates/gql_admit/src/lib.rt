@@ -34,7 +34,6 @@ mod listing;
 mod literals;
 mod operation;
 mod preparing;
-mod ranks;
 mod reaching;
 mod refusals;
 mod rules;

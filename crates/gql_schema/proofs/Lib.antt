@@ -5,6 +5,7 @@ mod FaultRows
 mod FinishedLemmas
 mod FitsLemmas
 mod FitsRows
+pub mod GraphRankLemmas
 mod NameSetLemmas
 mod PossibleLemmas
 mod RankLemmas

@@ -1,9 +1,6 @@
--- The rules of a table of types (GraphQL, October 2021, section 3, "Type Validation"). Each is a
--- fault at a place, or none. At one place the rule on unsupported names comes first, and the others
--- in the order of their numbers:
---   1 a name isn't registered; 2 a type stands where its kind can't; 3 a non-null of a non-null; 4 a field of a oneof input object isn't
---   nullable, or has a default; 5 an object lacks what an interface promises; 6 a member of a union is no object; 7 an input object
---   contains itself; 8 a name isn't supported; 9 a default doesn't fit.
+-- The faults of a table of types, each by a rule (SchemaRule). A fault is at a place, or there is
+-- none. At one place the rule on unsupported names comes first, and the others in the order of
+-- their numbers.
 use Rattle.std.specs.Prelude.{ℕ, Bool, true, false, ◌&&◌, ◌||◌, not, List, Option, Some}
 use Rattle.std.specs.Prelude.{None, Result, IfOk, is_some, ◌≡◌, if◌then◌else◌}
 use Rattle.std.specs.List.{list_all}
@@ -16,16 +13,17 @@ use Rattle.gql_base.specs.declared.type_ref.TypeRef.{TypeRef}
 use Rattle.gql_base.specs.declared.value.Value.{Value}
 use Rattle.gql_lists.specs.First.{first_found}
 use Rattle.gql_schema.specs.Covariance.{is_covariant}
-use Rattle.gql_schema.specs.Field.{field_name, field_type, arguments_of}
+use Rattle.gql_schema.specs.Field.{field_type, arguments_of}
 use Rattle.gql_schema.specs.Fits.{fits, is_doubled, is_known_input, is_unsupported}
 use Rattle.gql_schema.specs.InputObject.{input_object_name, input_fields, is_oneof}
 use Rattle.gql_schema.specs.InputValue.{input_name, input_type, default_of}
 use Rattle.gql_schema.specs.Interface.{interface_name, promised_fields}
 use Rattle.gql_schema.specs.InterfaceField.{promised_name, promised_type, promised_arguments}
 use Rattle.gql_schema.specs.Object.{object_name, fields_of, interfaces_of}
+use Rattle.gql_schema.specs.SchemaRule.{number_of}
 use Rattle.gql_schema.specs.Subscription.{subscription_name, event_fields}
-use Rattle.gql_schema.specs.SubscriptionField.{event_name, event_type, event_arguments}
-use Rattle.gql_schema.specs.TableReading.{TypeTable, is_known_object}
+use Rattle.gql_schema.specs.TableReading.{Declared, TypeTable, is_known_object, of_interface}
+use Rattle.gql_schema.specs.TableReading.{of_object, of_subscription}
 use Rattle.gql_schema.specs.Texts.{dotted, not_found_text, misplaced_text, doubled_text}
 use Rattle.gql_schema.specs.Texts.{not_nullable_text, has_default_text, unsatisfied_text}
 use Rattle.gql_schema.specs.Texts.{no_object_text, self_containing_text, unsupported_text}
@@ -39,25 +37,28 @@ use Rattle.gql_schema.specs.declared.interface.Interface.{Interface}
 use Rattle.gql_schema.specs.declared.interface_field.InterfaceField.{InterfaceField}
 use Rattle.gql_schema.specs.declared.object.Object.{Object}
 use Rattle.gql_schema.specs.declared.schema_error.SchemaError.{SchemaError}
+use Rattle.gql_schema.specs.declared.schema_rule.SchemaRule.{SchemaRule}
+use Rattle.gql_schema.specs.declared.schema_rule.SchemaRule.TheVariants as broken
 use Rattle.gql_schema.specs.declared.schema_type.SchemaType.{SchemaType}
 use Rattle.gql_schema.specs.declared.schema_type.SchemaType.TheVariants as types
 use Rattle.gql_schema.specs.declared.subscription.Subscription.{Subscription}
-use Rattle.gql_schema.specs.declared.subscription_field.SubscriptionField.{SubscriptionField}
 use Rattle.gql_schema.specs.declared.union.Union.{Union}
 
 -- what a check answers where there is memory enough: this fault, or none
 abbrev pub Tells : {E : Type 0} → Result (Option SchemaError) E → Option SchemaError → Type 0
 Tells answer fault = IfOk answer (λ found. found ≡ fault)
 
-abbrev pub fault_if : Bool → ℕ → List ℕ → Option SchemaError
-fault_if broken rule text = if broken then Some (record { rule = rule; text = text }) else None
+abbrev pub fault_if : Bool → SchemaRule → List ℕ → Option SchemaError
+fault_if is_broken rule text =
+    if is_broken then Some (record { rule = number_of rule; text = text }) else None
 
 -- the rules on a name: a type of this name can't be, or isn't there
 abbrev pub unsupported_fault : List ℕ → Option SchemaError
-unsupported_fault name = fault_if (is_unsupported name) 8 (unsupported_text name)
+unsupported_fault name = fault_if (is_unsupported name) broken.Unsupported (unsupported_text name)
 
 abbrev pub not_found_fault : TypeTable → List ℕ → Option SchemaError
-not_found_fault table name = fault_if (not (is_some (under name table))) 1 (not_found_text name)
+not_found_fault table name =
+    fault_if (not (is_some (under name table))) broken.NotFound (not_found_text name)
 
 abbrev pub name_fault : TypeTable → List ℕ → Option SchemaError
 name_fault table name = option_or (unsupported_fault name) (not_found_fault table name)
@@ -69,10 +70,10 @@ is_no_output (Some (types.Subscription subscription)) = true
 is_no_output _ = false
 
 abbrev pub misplaced_fault : Bool → List ℕ → Option SchemaError
-misplaced_fault misplaced name = fault_if misplaced 2 (misplaced_text name)
+misplaced_fault misplaced name = fault_if misplaced broken.Misplaced (misplaced_text name)
 
 abbrev pub doubled_fault : TypeRef → Option SchemaError
-doubled_fault ty = fault_if (is_doubled ty) 3 (doubled_text (type_text ty))
+doubled_fault ty = fault_if (is_doubled ty) broken.DoublyNonNull (doubled_text (type_text ty))
 
 -- the rules on a type of a known name, which may stand where its kind can't
 abbrev pub kind_fault : Bool → TypeRef → Option SchemaError
@@ -96,7 +97,8 @@ input_fault table ty = type_fault table is_no_input ty
 -- a default that doesn't fit
 abbrev pub unfit_default : TypeTable → List ℕ → TypeRef → Option Value → Option SchemaError
 unfit_default table path ty None = None
-unfit_default table path ty (Some value) = fault_if (not (fits table value ty)) 9 (unfit_text path)
+unfit_default table path ty (Some value) =
+    fault_if (not (fits table value ty)) broken.Unfit (unfit_text path)
 
 abbrev pub default_fault : TypeTable → List ℕ → InputValue → Option SchemaError
 default_fault table owner input =
@@ -111,14 +113,21 @@ abbrev pub arguments_fault : TypeTable → List ℕ → List (List ℕ × InputV
 arguments_fault table owner arguments = first_found (λ p. argument_fault table owner p.1) arguments
 
 -- a field of the type of this name: its type, then its arguments
-abbrev pub field_fault : TypeTable → List ℕ → List ℕ → TypeRef → List (List ℕ × InputValue)
-    → Option SchemaError
-field_fault table owner name ty arguments =
-    option_or (output_fault table ty) (arguments_fault table (dotted owner name) arguments)
+abbrev pub field_fault : TypeTable → List ℕ → List ℕ → Declared → Option SchemaError
+field_fault table owner name field =
+    option_or (output_fault table field.ty)
+    (arguments_fault table (dotted owner name) field.arguments)
 
-abbrev pub object_field_fault : TypeTable → List ℕ → Field → Option SchemaError
-object_field_fault table owner field =
-    field_fault table owner (field_name field) (field_type field) (arguments_of field)
+-- the fields of the type of this name, of which each declares one
+abbrev pub named_field_fault : {T : Type 0} → (T → Declared) → TypeTable → List ℕ → List ℕ × T
+    → Option SchemaError
+named_field_fault declares table owner (name, field) =
+    field_fault table owner name (declares field)
+
+abbrev pub fields_fault : {T : Type 0} → (T → Declared) → TypeTable → List ℕ → List (List ℕ × T)
+    → Option SchemaError
+fields_fault declares table owner fields =
+    first_found (named_field_fault declares table owner) fields
 
 -- whether two types are the same
 abbrev pub is_same_type : TypeRef → TypeRef → Bool
@@ -152,7 +161,8 @@ keeps table promised (Some field) =
 
 abbrev pub promise_fault : TypeTable → Object → Interface → InterfaceField → Option SchemaError
 promise_fault table object interface promised =
-    fault_if (not (keeps table promised (under (promised_name promised) (fields_of object)))) 5
+    fault_if (not (keeps table promised (under (promised_name promised) (fields_of object))))
+    broken.Unsatisfied
     (unsatisfied_text (object_name object) (interface_name interface) (promised_name promised))
 
 abbrev pub interface_promises_fault : TypeTable → Object → Interface → Option SchemaError
@@ -173,16 +183,16 @@ implemented_fault table object name =
 abbrev pub member_fault : TypeTable → Union → List ℕ → Option SchemaError
 member_fault table union name =
     option_or (name_fault table name)
-    (fault_if (not (is_known_object (under name table))) 6
+    (fault_if (not (is_known_object (under name table))) broken.NoObject
     (no_object_text (union_name union) name))
 
 -- a field of a oneof input object
 abbrev pub oneof_fault : InputObject → InputValue → Option SchemaError
 oneof_fault input field =
     option_or
-    (fault_if (is_oneof input && not (is_nullable (input_type field))) 4
+    (fault_if (is_oneof input && not (is_nullable (input_type field))) broken.NotOptional
     (not_nullable_text (dotted (input_object_name input) (input_name field))))
-    (fault_if (is_oneof input && is_some (default_of field)) 4
+    (fault_if (is_oneof input && is_some (default_of field)) broken.NotOptional
     (has_default_text (dotted (input_object_name input) (input_name field))))
 
 -- what follows the faults of a field's type
@@ -198,7 +208,7 @@ input_field_fault table input field =
 -- the parts of the kinds of types, each in its order
 abbrev pub object_fields_fault : TypeTable → Object → Option SchemaError
 object_fields_fault table object =
-    first_found (λ p. object_field_fault table (object_name object) p.1) (fields_of object)
+    fields_fault of_object table (object_name object) (fields_of object)
 
 abbrev pub interfaces_fault : TypeTable → Object → Option SchemaError
 interfaces_fault table object = first_found (implemented_fault table object) (interfaces_of object)
@@ -208,23 +218,13 @@ abbrev pub object_fault : TypeTable → Object → Option SchemaError
 object_fault table object =
     option_or (object_fields_fault table object) (interfaces_fault table object)
 
-abbrev pub promised_field_fault : TypeTable → List ℕ → InterfaceField → Option SchemaError
-promised_field_fault table owner field =
-    field_fault table owner (promised_name field) (promised_type field) (promised_arguments field)
-
 abbrev pub promised_fields_fault : TypeTable → Interface → Option SchemaError
 promised_fields_fault table interface =
-    first_found (λ p. promised_field_fault table (interface_name interface) p.1)
-    (promised_fields interface)
-
-abbrev pub event_field_fault : TypeTable → List ℕ → SubscriptionField → Option SchemaError
-event_field_fault table owner field =
-    field_fault table owner (event_name field) (event_type field) (event_arguments field)
+    fields_fault of_interface table (interface_name interface) (promised_fields interface)
 
 abbrev pub event_fields_fault : TypeTable → Subscription → Option SchemaError
 event_fields_fault table subscription =
-    first_found (λ p. event_field_fault table (subscription_name subscription) p.1)
-    (event_fields subscription)
+    fields_fault of_subscription table (subscription_name subscription) (event_fields subscription)
 
 abbrev pub members_fault : TypeTable → Union → Option SchemaError
 members_fault table union = first_found (member_fault table union) (members_of union)
@@ -234,7 +234,8 @@ input_fields_fault table input =
     first_found (λ p. input_field_fault table input p.1) (input_fields input)
 
 abbrev pub self_containing_fault : Bool → List ℕ → Option SchemaError
-self_containing_fault contains name = fault_if contains 7 (self_containing_text name)
+self_containing_fault contains name =
+    fault_if contains broken.ContainsItself (self_containing_text name)
 
 -- an input object, of which it is known whether it contains itself
 abbrev pub input_object_fault : TypeTable → Bool → InputObject → Option SchemaError

@@ -6,6 +6,7 @@ pub mod Faults
 pub mod Field
 pub mod Finished
 pub mod Fits
+pub mod GraphRanks
 pub mod InputObject
 pub mod InputValue
 pub mod Interface
@@ -16,6 +17,7 @@ pub mod Object
 pub mod Ranks
 pub mod Scalar
 pub mod ScalarRule
+pub mod SchemaRule
 pub mod Sound
 pub mod Subscription
 pub mod SubscriptionField

@@ -1,47 +1,46 @@
 //! The rules of a whole type: its name's, then those of its parts in their order.
 ghost use Rattle.std.specs.Prelude.{IfOk};
-ghost use Rattle.gql_schema.specs.Faults.{Tells, event_fields_fault, fault_of, input_field_fault};
+ghost use Rattle.gql_schema.specs.Faults.{Tells, fault_of, fields_fault, input_field_fault};
 ghost use Rattle.gql_schema.specs.Faults.{input_fields_fault};
 ghost use Rattle.gql_schema.specs.Faults.{input_object_fault, input_rest_fault, interfaces_fault};
 ghost use Rattle.gql_schema.specs.Faults.{member_fault, members_fault};
-ghost use Rattle.gql_schema.specs.Faults.{object_fault, object_fields_fault, oneof_fault};
-ghost use Rattle.gql_schema.specs.Faults.{parts_fault, promised_fields_fault};
+ghost use Rattle.gql_schema.specs.Faults.{object_fault, oneof_fault, parts_fault};
 ghost use Rattle.gql_schema.specs.Ranks.{AreRanks};
 ghost use Rattle.gql_schema.specs.Sound.{IsFaultOf, IsFaultOfAll};
 ghost use Rattle.gql_schema.specs.Table.{types_of};
 
+use crate::by_name::ByName;
 use crate::containment::type_contains_itself;
 use crate::covariance::is_known_object_type;
+use crate::declared_field::Declares;
 use crate::input_object::InputObject;
 use crate::input_value::InputValue;
-use crate::interface::Interface;
+use crate::named::Named;
 use crate::object::Object;
 use crate::places::{check_default, check_field, check_input, check_name, check_support};
 use crate::promises::check_implemented;
 use crate::ranks::ranks_of;
 use crate::schema_error::SchemaError;
+use crate::schema_rule::SchemaRule;
 use crate::schema_type::SchemaType;
-use crate::subscription::Subscription;
 use crate::texts::{fault_where, join_names, text_around};
 use crate::types::Types;
 use crate::union::Union;
 use gql_base::Made;
 use std::alloc::Global;
 
-/// The first fault of an object's fields.
-fn check_object_fields(alloc: Global, types: &Types, object: &Object) -> Made<Option<SchemaError>>
-    ensures { Tells result (object_fields_fault (types_of types.now) object.now) }
+/// The first fault of fields of the type of a name.
+fn check_fields<T: Named + Declares>(
+    alloc: Global,
+    types: &Types,
+    owner: &str,
+    fields: &ByName<T>,
+) -> Made<Option<SchemaError>>
+    ensures { Tells result (fields_fault T.declares (types_of types.now) owner.now fields.now) }
 {
-    for place in 0..object.len() {
-        let (_, field) = object.entry(place);
-        let found = check_field(
-            alloc,
-            types,
-            object.type_name(),
-            field.name(),
-            field.ty(),
-            field.arguments(),
-        )?;
+    for place in 0..fields.len() {
+        let (name, field) = fields.at(place);
+        let found = check_field(alloc, types, owner, name, field.declared())?;
         if found.is_some() {
             return Ok(found);
         }
@@ -66,56 +65,10 @@ fn check_interfaces(alloc: Global, types: &Types, object: &Object) -> Made<Optio
 fn check_object(alloc: Global, types: &Types, object: &Object) -> Made<Option<SchemaError>>
     ensures { Tells result (object_fault (types_of types.now) object.now) }
 {
-    match check_object_fields(alloc, types, object)? {
+    match check_fields(alloc, types, object.type_name(), object.fields())? {
         Some(fault) => Ok(Some(fault)),
         None => check_interfaces(alloc, types, object),
     }
-}
-
-/// The first fault of an interface's fields.
-fn check_interface(alloc: Global, types: &Types, interface: &Interface) -> Made<Option<SchemaError>>
-    ensures { Tells result (promised_fields_fault (types_of types.now) interface.now) }
-{
-    for place in 0..interface.len() {
-        let (_, field) = interface.entry(place);
-        let found = check_field(
-            alloc,
-            types,
-            interface.type_name(),
-            field.name(),
-            field.ty(),
-            field.arguments(),
-        )?;
-        if found.is_some() {
-            return Ok(found);
-        }
-    }
-    Ok(None)
-}
-
-/// The first fault of a subscription's fields.
-fn check_subscription(
-    alloc: Global,
-    types: &Types,
-    subscription: &Subscription,
-) -> Made<Option<SchemaError>>
-    ensures { Tells result (event_fields_fault (types_of types.now) subscription.now) }
-{
-    for place in 0..subscription.len() {
-        let (_, field) = subscription.entry(place);
-        let found = check_field(
-            alloc,
-            types,
-            subscription.type_name(),
-            field.name(),
-            field.ty(),
-            field.arguments(),
-        )?;
-        if found.is_some() {
-            return Ok(found);
-        }
-    }
-    Ok(None)
 }
 
 fn check_member(
@@ -136,7 +89,7 @@ fn check_member(
     fault_where(
         alloc,
         true,
-        6,
+        SchemaRule::NoObject,
         "Union \"",
         union_type.type_name(),
         member.as_str(),
@@ -166,7 +119,7 @@ fn check_oneof(alloc: Global, input: &InputObject, field: &InputValue) -> Made<O
     match fault_where(
         alloc,
         required,
-        4,
+        SchemaRule::NotOptional,
         "Field \"",
         path.as_str(),
         "\" must be nullable",
@@ -177,7 +130,7 @@ fn check_oneof(alloc: Global, input: &InputObject, field: &InputValue) -> Made<O
             fault_where(
                 alloc,
                 given,
-                4,
+                SchemaRule::NotOptional,
                 "Field \"",
                 path.as_str(),
                 "\" must not have a default value",
@@ -244,7 +197,7 @@ fn check_input_object(
     match fault_where(
         alloc,
         contains,
-        7,
+        SchemaRule::ContainsItself,
         "Input object \"",
         input.type_name(),
         "\" contains itself",
@@ -265,10 +218,19 @@ fn check_parts(
 {
     match ty {
         SchemaType::Object(object) => check_object(alloc, types, object),
-        SchemaType::Interface(interface) => check_interface(alloc, types, interface),
+        SchemaType::Interface(interface) => {
+            check_fields(alloc, types, interface.type_name(), interface.fields())
+        }
         SchemaType::Union(union_type) => check_union(alloc, types, union_type),
         SchemaType::InputObject(input) => check_input_object(alloc, types, contains, input),
-        SchemaType::Subscription(subscription) => check_subscription(alloc, types, subscription),
+        SchemaType::Subscription(subscription) => {
+            check_fields(
+                alloc,
+                types,
+                subscription.type_name(),
+                subscription.fields(),
+            )
+        }
         SchemaType::Scalar(_) | SchemaType::Enum(_) => Ok(None),
     }
 }

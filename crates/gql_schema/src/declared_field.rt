@@ -1,6 +1,5 @@
 ghost use Rattle.std.specs.Prelude.{◌≡◌};
 ghost use Rattle.gql_schema.specs.DeclaredField.{declared_behind};
-ghost use Rattle.gql_schema.specs.TableReading.{of_interface, of_object, of_subscription};
 
 use crate::by_name::ByName;
 use crate::field::Field;
@@ -18,37 +17,56 @@ pub struct DeclaredField<'a> {
     pub arguments: &'a ByName<InputValue>,
 }
 
-impl<'a> DeclaredField<'a> {
-    /// A field of an object.
-    pub fn of_object(field: &'a Field) -> DeclaredField<'a>
-        ensures { declared_behind result ≡ of_object field.now }
-    {
+/// What declares a field: a field of an object, of an interface or of a subscription.
+pub trait Declares {
+    ghost use Rattle.gql_schema.specs.TableReading.{Declared};
+
+    /// The field that it declares.
+    ghost declares: { Self → Declared };
+
+    /// The field that it declares.
+    fn declared(&self) -> DeclaredField<'_>
+        ensures { declared_behind result ≡ declares self.now };
+}
+
+impl Declares for Field {
+    ghost use Rattle.gql_schema.specs.TableReading.{of_object};
+
+    ghost declares = { of_object };
+
+    fn declared(&self) -> DeclaredField<'_> {
         DeclaredField {
-            ty: field.ty(),
-            number: Some(field.resolver()),
-            arguments: field.arguments(),
+            ty: self.ty(),
+            number: Some(self.resolver()),
+            arguments: self.arguments(),
         }
     }
+}
 
-    /// A field of an interface.
-    pub fn of_interface(field: &'a InterfaceField) -> DeclaredField<'a>
-        ensures { declared_behind result ≡ of_interface field.now }
-    {
+impl Declares for InterfaceField {
+    ghost use Rattle.gql_schema.specs.TableReading.{of_interface};
+
+    ghost declares = { of_interface };
+
+    fn declared(&self) -> DeclaredField<'_> {
         DeclaredField {
-            ty: field.ty(),
+            ty: self.ty(),
             number: None,
-            arguments: field.arguments(),
+            arguments: self.arguments(),
         }
     }
+}
 
-    /// A field of a subscription.
-    pub fn of_subscription(field: &'a SubscriptionField) -> DeclaredField<'a>
-        ensures { declared_behind result ≡ of_subscription field.now }
-    {
+impl Declares for SubscriptionField {
+    ghost use Rattle.gql_schema.specs.TableReading.{of_subscription};
+
+    ghost declares = { of_subscription };
+
+    fn declared(&self) -> DeclaredField<'_> {
         DeclaredField {
-            ty: field.ty(),
-            number: Some(field.source()),
-            arguments: field.arguments(),
+            ty: self.ty(),
+            number: Some(self.source()),
+            arguments: self.arguments(),
         }
     }
 }

@@ -72,6 +72,13 @@ impl Interface {
         self.fields.get(name)
     }
 
+    /// The fields, under their names.
+    pub(crate) fn fields(&self) -> &ByName<InterfaceField>
+        ensures { result.now ≡ promised_fields self.now }
+    {
+        &self.fields
+    }
+
     /// The number of fields. Their keys are their own names, which differ.
     pub fn len(&self) -> usize
         ensures length { result ≡ length (promised_fields self.now) }

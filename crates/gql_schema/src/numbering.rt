@@ -1,7 +1,7 @@
 //! A walk that numbers the places of a graph so that each stands above those to which it leads;
 //! places that lead to each other have one number. These are the strongly connected components of
 //! Tarjan's walk ("Depth-first search and linear graph algorithms", 1972). No contract rests on the
-//! numbers: who uses them tests them first.
+//! numbers: who takes them tests them first.
 use gql_base::{Items, Made};
 use std::alloc::Global;
 
@@ -24,9 +24,9 @@ struct Walk {
 
 /// A number from 1 for each place of a graph, whose lists tell to what places each leads: none leads
 /// to a higher number, and places that lead to each other have one. Nothing is proved of the numbers,
-/// so who uses them tests them first. A place past the end counts for nothing. Only want of memory
+/// so who takes them tests them first. A place past the end counts for nothing. Only want of memory
 /// fails.
-pub fn component_numbers(alloc: Global, graph: &[Items<usize>]) -> Made<Vec<usize>> {
+pub fn walk_numbers(alloc: Global, graph: &[Items<usize>]) -> Made<Vec<usize>> {
     let most = most_steps(graph);
     let mut walk = Walk::new(alloc, graph.len())?;
     for root in 0..graph.len() {

@@ -113,6 +113,13 @@ impl Object {
         self.fields.get(name)
     }
 
+    /// The fields, under their names.
+    pub(crate) fn fields(&self) -> &ByName<Field>
+        ensures { result.now ≡ fields_of self.now }
+    {
+        &self.fields
+    }
+
     /// The number of fields. Their keys are their own names, which differ.
     pub fn len(&self) -> usize
         ensures length { result ≡ length (fields_of self.now) }

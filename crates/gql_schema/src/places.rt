@@ -1,6 +1,7 @@
 //! The rules at single places: names, types, arguments and defaults.
 ghost use Rattle.std.specs.Prelude.{◌≡◌};
 ghost use Rattle.std.specs.Option.{option_copied};
+ghost use Rattle.gql_schema.specs.DeclaredField.{declared_behind};
 ghost use Rattle.gql_schema.specs.Faults.{Tells, argument_fault, arguments_fault, default_fault};
 ghost use Rattle.gql_schema.specs.Faults.{doubled_fault, field_fault, input_fault};
 ghost use Rattle.gql_schema.specs.Faults.{is_no_output, kind_fault, misplaced_fault, name_fault};
@@ -8,9 +9,11 @@ ghost use Rattle.gql_schema.specs.Faults.{output_fault, unsupported_fault};
 ghost use Rattle.gql_schema.specs.Table.{types_of};
 
 use crate::by_name::ByName;
+use crate::declared_field::DeclaredField;
 use crate::fits::{has_no_support, is_doubly_non_null, is_known_kind, value_fits};
 use crate::input_value::InputValue;
 use crate::schema_error::SchemaError;
+use crate::schema_rule::SchemaRule;
 use crate::schema_type::SchemaType;
 use crate::texts::{fault_where, join_names};
 use crate::types::Types;
@@ -24,7 +27,7 @@ pub fn check_support(alloc: Global, name: &str) -> Made<Option<SchemaError>>
     fault_where(
         alloc,
         has_no_support(name),
-        8,
+        SchemaRule::Unsupported,
         "Type \"",
         name,
         "\" is not supported",
@@ -40,7 +43,7 @@ pub fn check_name(alloc: Global, types: &Types, name: &str) -> Made<Option<Schem
         None => fault_where(
             alloc,
             !types.get(name).is_some(),
-            1,
+            SchemaRule::NotFound,
             "Type \"",
             name,
             "\" not found",
@@ -55,7 +58,7 @@ pub fn check_place(alloc: Global, misplaced: bool, name: &str) -> Made<Option<Sc
     fault_where(
         alloc,
         misplaced,
-        2,
+        SchemaRule::Misplaced,
         "Type \"",
         name,
         "\" cannot be used here",
@@ -72,7 +75,7 @@ fn check_doubled(alloc: Global, ty: &TypeRef) -> Made<Option<SchemaError>>
     fault_where(
         alloc,
         true,
-        3,
+        SchemaRule::DoublyNonNull,
         "Type \"",
         text.as_str(),
         "\" is doubly non-null",
@@ -138,7 +141,7 @@ pub fn check_default(
             fault_where(
                 alloc,
                 true,
-                9,
+                SchemaRule::Unfit,
                 "Default of \"",
                 path.as_str(),
                 "\" does not fit",
@@ -185,16 +188,16 @@ pub fn check_field(
     types: &Types,
     owner: &str,
     name: &str,
-    ty: &TypeRef,
-    arguments: &ByName<InputValue>,
+    field: DeclaredField<'_>,
 ) -> Made<Option<SchemaError>>
-    ensures { Tells result (field_fault (types_of types.now) owner.now name.now ty.now arguments.now) }
+    ensures { Tells result
+        (field_fault (types_of types.now) owner.now name.now (declared_behind field.entry)) }
 {
-    match check_output(alloc, types, ty)? {
+    match check_output(alloc, types, field.ty)? {
         Some(fault) => Ok(Some(fault)),
         None => {
             let path = join_names(alloc, owner, name)?;
-            check_arguments(alloc, types, path.as_str(), arguments)
+            check_arguments(alloc, types, path.as_str(), field.arguments)
         }
     }
 }

@@ -15,6 +15,7 @@ use crate::interface_field::InterfaceField;
 use crate::object::Object;
 use crate::places::{check_name, check_place};
 use crate::schema_error::SchemaError;
+use crate::schema_rule::SchemaRule;
 use crate::schema_type::SchemaType;
 use crate::texts::{fault_where, text_around};
 use crate::types::Types;
@@ -98,7 +99,7 @@ fn check_promise(
     fault_where(
         alloc,
         true,
-        5,
+        SchemaRule::Unsatisfied,
         "Object \"",
         object.type_name(),
         promise.as_str(),

@@ -10,7 +10,7 @@ ghost use Rattle.gql_schema.specs.Table.{types_of};
 use crate::containment::needed_type;
 use crate::input_object::InputObject;
 use crate::needs::needs_of;
-use crate::numbering::component_numbers;
+use crate::numbering::walk_numbers;
 use crate::schema_type::SchemaType;
 use crate::types::Types;
 use gql_base::Made;
@@ -22,7 +22,7 @@ pub fn ranks_of(alloc: Global, types: &Types) -> Made<Vec<usize>>
     ensures { IfOk result (λ ranks. AreRanks (types_of types.now) ranks.items) }
 {
     let needs = needs_of(alloc, types)?;
-    let numbers = component_numbers(alloc, needs.as_slice())?;
+    let numbers = walk_numbers(alloc, needs.as_slice())?;
     if are_ranks(types, numbers.as_slice()) {
         Ok(numbers)
     } else {

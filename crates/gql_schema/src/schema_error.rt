@@ -2,7 +2,8 @@ use crate::same::Same;
 use gql_base::{Copied, Made, Text};
 use std::alloc::Global;
 
-/// Why a table of types is refused: the number of the rule that it breaks, and a text for a reader.
+/// Why a table of types is refused: the number of the rule that it breaks (`SchemaRule`), and a text
+/// for a reader.
 #[derive(Debug, Drop)]
 pub struct SchemaError {
     pub rule: u8,

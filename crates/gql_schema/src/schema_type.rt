@@ -1,6 +1,6 @@
 ghost use Rattle.std.specs.Prelude.{◌≡◌, option_map};
 
-use crate::declared_field::DeclaredField;
+use crate::declared_field::{DeclaredField, Declares};
 use crate::enum_::Enum;
 use crate::input_object::InputObject;
 use crate::interface::Interface;
@@ -51,13 +51,9 @@ impl SchemaType {
         ensures { option_map declared_behind result ≡ declared_in name.now self.now }
     {
         match self {
-            SchemaType::Object(object) => Some(DeclaredField::of_object(object.get(name)?)),
-            SchemaType::Interface(interface) => {
-                Some(DeclaredField::of_interface(interface.get(name)?))
-            }
-            SchemaType::Subscription(subscription) => {
-                Some(DeclaredField::of_subscription(subscription.get(name)?))
-            }
+            SchemaType::Object(object) => Some(object.get(name)?.declared()),
+            SchemaType::Interface(interface) => Some(interface.get(name)?.declared()),
+            SchemaType::Subscription(subscription) => Some(subscription.get(name)?.declared()),
             SchemaType::Scalar(_)
             | SchemaType::InputObject(_)
             | SchemaType::Enum(_)

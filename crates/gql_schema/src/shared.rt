@@ -2,7 +2,8 @@
 //! can.
 use crate::{
     ByName, Enum, Field, InputObject, InputValue, Interface, InterfaceField, NameSet, Object,
-    Scalar, ScalarRule, SchemaError, SchemaType, Subscription, SubscriptionField, Types, Union,
+    Scalar, ScalarRule, SchemaError, SchemaRule, SchemaType, Subscription, SubscriptionField,
+    Types, Union,
 };
 
 fn shared<T: Send + Sync>() {}
@@ -16,6 +17,7 @@ fn public_types() {
     shared::<Scalar>();
     shared::<ScalarRule>();
     shared::<SchemaError>();
+    shared::<SchemaRule>();
     shared::<Union>();
 }
 

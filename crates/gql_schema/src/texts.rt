@@ -3,6 +3,7 @@ ghost use Rattle.gql_schema.specs.Faults.{Tells, fault_if};
 ghost use Rattle.gql_schema.specs.Texts.{around, dotted};
 
 use crate::schema_error::SchemaError;
+use crate::schema_rule::SchemaRule;
 use gql_base::{Made, Text};
 use std::alloc::Global;
 
@@ -28,7 +29,7 @@ pub fn join_names(alloc: Global, owner: &str, name: &str) -> Made<Text>
 pub fn fault_where(
     alloc: Global,
     broken: bool,
-    rule: u8,
+    rule: SchemaRule,
     front: &str,
     name: &str,
     back: &str,
@@ -39,5 +40,8 @@ pub fn fault_where(
         return Ok(None);
     }
     let text = text_around(alloc, front, name, back)?;
-    Ok(Some(SchemaError { rule, text }))
+    Ok(Some(SchemaError {
+        rule: rule.number(),
+        text,
+    }))
 }

@@ -1,8 +1,9 @@
 //! Tables of types, called as their users call them.
 use crate::schema_sample::table;
-use gql_base::{Copied, Made, Name, TypeRef};
+use gql_base::{Copied, Items, Made, Name, TypeRef};
 use gql_schema::{
     ByName, Field, InputObject, InputValue, NameSet, Object, Same, SchemaType, Types,
+    component_numbers, rank_at,
 };
 use std::alloc::Global;
 use std::test::Fail;
@@ -49,6 +50,37 @@ fn a_long_circle_is_refused_at_its_first(rt: HostRuntime) -> Result<(), Fail> {
     let text = "Input object \"I10000\" contains itself";
     let types = long_circle(rt.alloc())?;
     assert!(rt; is_refused(rt.alloc(), types, 7, text)?);
+    Ok(())
+}
+
+/// The list of these places.
+fn places(alloc: Global, places: &[usize]) -> Made<Items<usize>> {
+    let mut list = Items::new(alloc);
+    for place in places {
+        list.push(*place)?;
+    }
+    Ok(list)
+}
+
+/// The numbers of a graph whose place 0 leads to 1 and 2, and 1 to 2.
+fn numbers(alloc: Global) -> Made<Vec<usize>> {
+    let mut graph = Vec::new(alloc);
+    graph.push(places(alloc, &[1, 2])?)?;
+    graph.push(places(alloc, &[2])?)?;
+    graph.push(places(alloc, &[])?)?;
+    component_numbers(alloc, graph.as_slice())
+}
+
+/// Whether the numbers fall along the graph.
+fn numbers_fall(alloc: Global) -> Made<bool> {
+    let numbers = numbers(alloc)?;
+    let ranks = numbers.as_slice();
+    Ok(rank_at(ranks, 0) == 3 && rank_at(ranks, 1) == 2 && rank_at(ranks, 2) == 1)
+}
+
+#[test]
+fn places_of_a_graph_are_numbered(rt: HostRuntime) -> Result<(), Fail> {
+    assert!(rt; numbers_fall(rt.alloc())?);
     Ok(())
 }
 

@@ -4,8 +4,8 @@ use crate::schema_sample::table;
 use gql_base::{Copied, Made, Name, Number, Text, Value};
 use gql_schema::{
     DeclaredField, Enum, Field, InputObject, InputValue, Interface, InterfaceField, NameSet, Named,
-    Object, Same, Scalar, ScalarRule, SchemaError, SchemaType, Subscription, SubscriptionField,
-    Types, Union,
+    Object, Same, Scalar, ScalarRule, SchemaError, SchemaRule, SchemaType, Subscription,
+    SubscriptionField, Types, Union,
 };
 use std::alloc::Global;
 use std::test::Fail;
@@ -200,6 +200,7 @@ fn error_is_copied(alloc: Global) -> Made<bool> {
 fn copies_are_the_same(rt: HostRuntime) -> Result<(), Fail> {
     assert!(rt; table_is_copied(rt.alloc())?);
     assert!(rt; error_is_copied(rt.alloc())?);
+    assert!(rt; SchemaRule::Unfit.try_clone(rt.alloc())?.number() == 9);
     let types = table(rt.alloc())?;
     assert!(rt; object_is_copied(rt.alloc(), &types)?);
     Ok(())

@@ -1,18 +1,18 @@
-//! Numbers of places, by which most are known not to reach themselves without a walk for each.
+//! Numbers of the places of a graph, whose lists tell to what places each leads.
 ghost use Rattle.std.specs.Prelude.{◌≡◌, ◌<◌, true, length, IfOk};
-ghost use Rattle.gql_admit.specs.Circular.{led_to};
-ghost use Rattle.gql_admit.specs.Ranks.{AreRanks, all_at_most, rank_of};
+ghost use Rattle.gql_schema.specs.GraphRanks.{AreRanks, all_at_most, led_to, rank_of};
 
+use crate::numbering::walk_numbers;
 use gql_base::{Items, Made};
-use gql_schema::component_numbers;
 use std::alloc::Global;
 
-/// A number for each place, such that no place leads to one of a higher number.
-#[tactic(auto, using(crate::proofs::RankLemmas::ranked_none))]
-pub fn ranks_of(alloc: Global, graph: &[Items<usize>]) -> Made<Vec<usize>>
+/// A number for each place of a graph: no place leads to one of a higher number. Where a walk finds
+/// such numbers, places that lead to each other have one, and others have others; else all have 0.
+#[tactic(auto, using(crate::proofs::GraphRankLemmas::ranked_none))]
+pub fn component_numbers(alloc: Global, graph: &[Items<usize>]) -> Made<Vec<usize>>
     ensures { IfOk result (λ ranks. AreRanks graph.now ranks.items) }
 {
-    let numbers = component_numbers(alloc, graph)?;
+    let numbers = walk_numbers(alloc, graph)?;
     if are_ranks(graph, numbers.as_slice()) {
         Ok(numbers)
     } else {
@@ -28,7 +28,7 @@ pub fn rank_at(ranks: &[usize], place: usize) -> usize
 }
 
 /// True where no place leads to one of a higher number.
-#[tactic(auto, using(crate::proofs::RankLemmas::none_tested, crate::proofs::RankLemmas::tested_more))]
+#[tactic(auto, using(crate::proofs::GraphRankLemmas::none_tested, crate::proofs::GraphRankLemmas::tested_more))]
 fn are_ranks(graph: &[Items<usize>], ranks: &[usize]) -> bool
     ensures { result ≡ true → AreRanks graph.now ranks.now }
 {

@@ -1,8 +1,16 @@
--- Numbers of places, by which most are known not to reach themselves.
-use Rattle.std.specs.Prelude.{◌≡◌, ℕ, ◌≤◌, Bool, List, nat_le, slice_index_or}
-use Rattle.std.specs.Prelude.{true}
+-- Numbers of the places of a graph, whose lists tell to what places each leads.
+use Rattle.std.specs.Prelude.{◌≡◌, ℕ, ◌≤◌, Bool, true, false, ◌||◌, ◌==◌, List, [], ◌∷◌, nat_le}
+use Rattle.std.specs.Prelude.{slice_index_or}
 use Rattle.std.specs.List.{list_all}
-use Rattle.gql_admit.specs.Circular.{is_in, led_to}
+
+-- whether a number is among others
+abbrev pub is_in : ℕ → List ℕ → Bool
+is_in k [] = false
+is_in k (n ∷ ns) = (k == n) || is_in k ns
+
+-- the places to which a place leads
+abbrev pub led_to : List (List ℕ) → ℕ → List ℕ
+led_to graph place = slice_index_or graph place []
 
 -- the number of a place, and 0 where it has none
 abbrev pub rank_of : List ℕ → ℕ → ℕ

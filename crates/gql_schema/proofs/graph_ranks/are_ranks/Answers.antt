@@ -1,6 +1,6 @@
 use Rattle.std.proofs.Common.{◌≡◌, length, subst, arith}
-use Rattle.gql_admit.proofs.RankLemmas.{IsTested, all_tested}
-use Rattle.gql_admit.proofs.ranks.are_ranks.Goals as goal
+use Rattle.gql_schema.proofs.GraphRankLemmas.{IsTested, all_tested}
+use Rattle.gql_schema.proofs.graph_ranks.are_ranks.Goals as goal
 
 pub returns : goal.returns
 returns c = λ so.

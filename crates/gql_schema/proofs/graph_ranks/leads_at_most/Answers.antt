@@ -1,8 +1,7 @@
 use Rattle.std.proofs.Common.{◌≡◌, ap, ◌∙◌}
-use Rattle.gql_admit.specs.Circular.{led_to}
-use Rattle.gql_admit.specs.Ranks.{all_at_most}
-use Rattle.gql_admit.proofs.MarkLemmas.{led_is}
-use Rattle.gql_admit.proofs.ranks.leads_at_most.Goals as goal
+use Rattle.gql_schema.specs.GraphRanks.{all_at_most, led_to}
+use Rattle.gql_schema.proofs.GraphRankLemmas.{led_is}
+use Rattle.gql_schema.proofs.graph_ranks.leads_at_most.Goals as goal
 
 pub returns : goal.returns
 returns c =
