@@ -205,7 +205,7 @@ place_named name (other ∷ names) place found =
       | false ↦ λ same h. place_behind name other names place (place_of name names) (λ k is. place_named name names k is) h
     ]) (bytes_decides name other).0 found
 
--- nothing is met behind the first place of a chain
+-- nothing is met after the first place of a chain
 nowhere : (before : List (Option ℕ)) (at : Option ℕ) (place : ℕ) → Leads before at place → at ≡ None → ⊥
 nowhere before at place (here _) is = cc
 nowhere before at place (further _ _ _ _ _) is = cc

@@ -31,7 +31,7 @@ test-of-order : (a b : List ℕ) → bytes_eq a b ≡ is_eq (ordering_reverse (n
 test-of-order a b = texts_ties a b ∙ ap is_eq (reversed a b)
 
 module _ {T : Type 0} (name : List ℕ) where
-  -- ---- names behind this one
+  -- ---- names after this one
 
   none-before : (ps : List (List ℕ × T)) → AllByRecursion (λ q. name_order q.0 name ≡ Greater) ps → filter (λ p. precedes p.0 name) ps ≡ []
   none-before [] behind = refl
@@ -167,7 +167,7 @@ each-joined P (x ∷ xs) ys (here, first) second = (here, each-joined P xs ys fi
 is-less : (a b : List ℕ) → precedes a b ≡ true → name_order a b ≡ Less
 is-less a b = elim (name_order a b) as (λ o. is_lt o ≡ true → o ≡ Less) [ Less ↦ λ e. refl | Equal ↦ λ e. cc | Greater ↦ λ e. cc ]
 
--- names before one, that name, and names behind it
+-- names before one, that name, and names after it
 joined-in-order : (name : List ℕ) (front back : List (List ℕ)) → AllByRecursion (λ n. name_order n name ≡ Less) front
     → AllByRecursion (λ n. name_order name n ≡ Less) back → IsStrictlySortedBy name_order front → IsStrictlySortedBy name_order back
     → IsStrictlySortedBy name_order (front ++ name ∷ back)

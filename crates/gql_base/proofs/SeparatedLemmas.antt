@@ -1,4 +1,4 @@
--- One more part behind parts with a separator between them.
+-- One more part after parts with a separator between them.
 use Rattle.std.proofs.Common.{◌≡◌, ℕ, ◌+◌, ◌<◌, List, [], ◌∷◌, ◌++◌, map, take, length, get_or, ap, sym, ◌∙◌, arith, append_assoc}
 use Rattle.std.proofs.Common.{append-nil, length-take-le, slice_get, Some}
 use Rattle.std.proofs.lemmas.Grind.{flat_map-append}

@@ -16,12 +16,12 @@ name_order = slice_cmp nat_cmp
 abbrev pub precedes : List ℕ → List ℕ → Bool
 precedes name other = is_lt (name_order name other)
 
--- each name precedes those behind it
+-- each name precedes those after it
 abbrev pub IsInOrder : {T : Type 0} → List (List ℕ × T) → Type 0
 IsInOrder ps = IsStrictlySortedBy name_order (names_of ps)
 
 -- the pairs once this name has this value: those of the names before it, its own, and those of the
--- names behind it
+-- names after it
 abbrev pub set_in_order : {T : Type 0} → List (List ℕ × T) → List ℕ → T → List (List ℕ × T)
 set_in_order ps name value =
     filter (λ p. precedes p.0 name) ps ++ (name, value) ∷ filter (λ p. precedes name p.0) ps
@@ -31,7 +31,7 @@ abbrev pub unset_in : {T : Type 0} → List (List ℕ × T) → List ℕ → Lis
 unset_in ps name = filter (λ p. not (bytes_eq name p.0)) ps
 
 -- the pair at this place has the name, between those of the names before it and those of the names
--- behind it
+-- after it
 abbrev pub StandsAt : {T : Type 0} → List ℕ → List (List ℕ × T) → ℕ → Type 0
 StandsAt name [] place = ⊥
 StandsAt name (p ∷ ps) zero = (p.0 ≡ name) × AllByRecursion (λ q. name_order q.0 name ≡ Greater) ps

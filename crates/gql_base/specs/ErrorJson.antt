@@ -23,7 +23,7 @@ abbrev pub segment_json : PathSegment → List ℕ
 segment_json (Field key) = quoted key
 segment_json (Index place) = decimal place
 
--- the members behind the message, each if there is something in it
+-- the members after the message, each if there is something in it
 abbrev pub locations_member : List Pos → List ℕ
 locations_member [] = []
 locations_member (pos ∷ others) = codes ",\"locations\":" ++ list_json location_json (pos ∷ others)

@@ -70,7 +70,7 @@ abbrev mutual
       if is_marked form members then enum_in members
       else and_then (members_in form [] members) (λ read. Ok (value.Object read))
 
-  -- behind the items that were read before
+  -- after the items that were read before
   pub items_in : EnumForm → List Value → Items → Reading (List Value)
   items_in form earlier no_items = Ok earlier
   items_in form earlier (item json items) =

@@ -63,7 +63,7 @@ impl Chains {
         None
     }
 
-    /// Adds the place of one name more, behind the others.
+    /// Adds the place of one name more, after the others.
     pub(crate) fn add(&mut self, names: &[Name], name: &str) -> Made<()>
         requires { AreChained self.old names.now }
         ensures ok { OnOk result (AreChained self.new (names.now ++ name.now ∷ [])) }

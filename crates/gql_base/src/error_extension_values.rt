@@ -46,7 +46,7 @@ impl ErrorExtensionValues {
         }
     }
 
-    /// Sets the value under a name, in place of one that is there. Where memory is wanting the
+    /// Sets the value under a name, in place of one that is there. Where memory runs out the
     /// values stay as they were.
     pub fn set(&mut self, name: &str, value: Value) -> Made<()>
         ensures ok { OnOk result (self.new ≡ set_in_order self.old name.now value) }

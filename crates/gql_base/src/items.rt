@@ -107,7 +107,7 @@ impl<T> Items<T> {
 }
 
 impl<T: Drop> Items<T> {
-    /// Adds an item at the end. Where memory is wanting the list stays as it was.
+    /// Adds an item at the end. Where memory runs out the list stays as it was.
     pub fn push(&mut self, item: T) -> Made<()>
         ensures ok { OnOk result (self.new ≡ self.old ++ item ∷ []) }
         ensures err { OnErr result (self.new ≡ self.old) }

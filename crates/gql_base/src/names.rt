@@ -164,7 +164,7 @@ impl Names {
         &self.as_slice()[place]
     }
 
-    /// Adds a name that isn't there, at the end, and looks no name up. Where memory is wanting the
+    /// Adds a name that isn't there, at the end, and looks no name up. Where memory runs out the
     /// names stay as they were.
     #[tactic(auto, using(crate::proofs::NamesLemmas::distinct_added, crate::proofs::NamesLemmas::distinct_pushed))]
     pub fn add_fresh(&mut self, name: Name) -> Made<()>

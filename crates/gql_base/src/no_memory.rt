@@ -1,6 +1,6 @@
 use std::alloc::AllocError;
 
-/// The want of memory of an execution.
+/// Out of memory in an execution.
 #[derive(Clone, Copy, PartialEq, Eq, Debug)]
 pub struct NoMemory {
     /// The number of root keys of a mutation whose effect stands. It is 0 for queries and refused
@@ -8,7 +8,7 @@ pub struct NoMemory {
     pub roots: u64,
 }
 
-/// Where memory is wanting before an execution, no effect stands.
+/// Where memory runs out before an execution, no effect stands.
 impl From<AllocError> for NoMemory {
     ghost use Rattle.std.specs.Prelude.{◌≡◌};
 

@@ -197,7 +197,7 @@ impl<T: Drop> Pairs<T> {
     }
 
     /// Sets the value under a name. A name that is there keeps its place, and its old value is
-    /// answered; another goes to the end. Where memory is wanting the pairs stay as they were.
+    /// answered; another goes to the end. Where memory runs out the pairs stay as they were.
     pub fn insert(&mut self, name: Name, value: T) -> Made<Option<T>>
         ensures put { OnOk result (self.new ≡ put self.old name value) }
         ensures replaced { IfOk result (λ old. old ≡ under name self.old) }

@@ -38,7 +38,7 @@ impl Places {
         }
     }
 
-    /// Adds the place of one name more, behind the others.
+    /// Adds the place of one name more, after the others.
     pub(crate) fn add(&mut self, alloc: Global, names: &[Name], name: &str) -> Made<()>
         requires fresh { place_of name.now names.now ≡ None }
         requires distinct { AreDistinct names.now }

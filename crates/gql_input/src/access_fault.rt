@@ -19,7 +19,7 @@ pub enum AccessFault<'k> {
     NoKey(&'k str),
     /// A list has no item at this place.
     NoIndex(usize),
-    /// A part of a list begins behind its end, or ends behind the list.
+    /// A part of a list begins after its end, or ends after the list.
     BadSlice,
     /// What a resolver gave is no value.
     NotValue,

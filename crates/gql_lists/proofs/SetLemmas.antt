@@ -28,7 +28,7 @@ module _ {A : Type 0} (same : A → A → Bool) where
   all-append ns [] ys = refl
   all-append ns (x ∷ xs) ys = all-append (with_one same ns x) xs ys
 
-  -- they are added behind those there
+  -- they are added after those there
   pub grows : (ns xs : List A) → (rest : List A) × (with_all same ns xs ≡ ns ++ rest)
   grows ns [] = ([], sym (append-nil ns))
   grows ns (n ∷ xs) =

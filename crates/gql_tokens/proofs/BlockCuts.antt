@@ -13,7 +13,7 @@ use Rattle.gql_tokens.proofs.CutLemmas.{cut_behind, each_ascii, cut_front, cut_a
 use Rattle.gql_tokens.proofs.Lists.{Each, begins_so, run_passes}
 use Rattle.gql_tokens.proofs.BlockLaws.{IsWithin, within_start, within_quotes, within_itself, within_bare, within_body, within_unended, starts_gives}
 
--- no character behind ASCII ends a run of characters that stand for themselves
+-- no character beyond ASCII ends a run of characters that stand for themselves
 wide_bare : (c : ℕ) → 128 ≤ c → is_bare c ≡ true
 wide_bare c h = grind (arith, nat_tests)
 
@@ -45,7 +45,7 @@ pub record IsBodyTo (bytes raw : List ℕ) (at : ℕ) : Type 0 where
   pub within : IsWithin (chars bytes) characters count
 
 module _ (bytes : List ℕ) (u : IsUtf8 bytes) where
-  -- behind the quotes that open it nothing is read yet
+  -- after the quotes that open it nothing is read yet
   pub body_start : starts_with nat_eq bytes three_quotes ≡ true → (raw : List ℕ) → raw ≡ [] → IsBodyTo bytes raw 3
   body_start first raw e = record {
     count = 3;

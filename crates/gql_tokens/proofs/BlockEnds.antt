@@ -1,4 +1,4 @@
--- Where one block string has no end, none that begins behind it has.
+-- Where one block string has no end, none that begins after it has.
 use Rattle.std.proofs.Common.{◌≡◌, ℕ, ◌≤◌, Bool, true, false, ◌⊎◌, List, [], ◌∷◌, ◌++◌, nat_eq, drop, length, refl, sym, ap, ◌∙◌, inl, inr, arith, subst, append_assoc, ap₂, take, take-append-drop, length-append}
 use Rattle.std.proofs.lemmas.List.{drop-append-le}
 use Rattle.std.specs.List.{starts_with}
@@ -71,7 +71,7 @@ ends_more c f x source closed behind skipped = go (starts_with nat_eq (c ∷ f +
       );
     }
 
--- where a block string's end stands behind some characters, it has one from them on
+-- where a block string's end stands after some characters, it has one from them on
 ends_later : (front x : List ℕ) → Each is_source front → IsClosed front → Ends x → Ends (front ++ x)
 ends_later [] x h k e = e
 ends_later (a ∷ []) x h k e = ends_more a [] x h.0 k.0 e (λ g is. cc)
@@ -95,7 +95,7 @@ closed_behind : (a b : List ℕ) → IsClosed (a ++ b) → IsClosed b
 closed_behind [] b h = h
 closed_behind (c ∷ a) b h = closed_behind a b h.1
 
--- behind a block string with no end none has an end
+-- after a block string with no end none has an end
 pub no_block_ends : (text behind : List ℕ) → text ≡ three_quotes ++ behind → IsUnended behind → NoBlockEnds text
 no_block_ends text behind e unended front rest source is pieces more text_is are_pieces =
     let whole = front ++ three_quotes in

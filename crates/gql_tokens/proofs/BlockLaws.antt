@@ -46,7 +46,7 @@ starts_before c ps x word h =
     ap (λ l. starts_with nat_eq (c ∷ l) word) (sym (append_assoc (written ps) three_quotes x))
     ∙ starts_same (c ∷ written ps ++ three_quotes) x word (omega (arith, length-append (written ps) three_quotes))
 
--- behind the quotes that end the pieces anything may follow
+-- after the quotes that end the pieces anything may follow
 pub pieces_before : (ps : List Piece) (x : List ℕ) → ArePieces ps three_quotes → ArePieces ps (three_quotes ++ x)
 pieces_before [] x p = tt
 pieces_before (itself c ∷ ps) x p =
@@ -125,7 +125,7 @@ unended_behind text x ps e h ends qs rest f k = go more.0 more.2 more.3
     go (itself c ∷ us) is w = let b = sym ends ∙ ap (begins is_source) is in let s = w.0 in cc
     go (quotes ∷ us) is w = let b = sym ends ∙ ap (begins is_source) is in cc
 
--- the characters behind the word that a text begins with
+-- the characters after the word that a text begins with
 pub starts_gives : (text word : List ℕ) → starts_with nat_eq text word ≡ true → text ≡ word ++ drop (length word) text
 starts_gives text word h =
     sym (take-append-drop (length word) text) ∙ ap (λ l. l ++ drop (length word) text) (sym ((bytes_decides word (take (length word) text)).0 h))

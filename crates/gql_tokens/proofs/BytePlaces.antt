@@ -19,7 +19,7 @@ bytes_place-append place (c ∷ a) b rest =
     ap (λ l. bytes_place (byte_place place c l) (a ++ b) rest) (append_assoc a b rest)
     ∙ bytes_place-append (byte_place place c (a ++ (b ++ rest))) a b rest
 
--- the place behind one byte more
+-- the place after one byte more
 pub bytes_place_more : (place : Pos) (text : List ℕ) (i : ℕ) → i < length text
     → bytes_place place (take (i + 1) text) (drop (i + 1) text) ≡ byte_place (bytes_place place (take i text) (drop i text)) (get_or text i 0) (drop (i + 1) text)
 bytes_place_more place text i h =
@@ -38,7 +38,7 @@ stays place (b ∷ bs) rest h =
 abbrev next_column : Pos → Pos
 next_column place = record { line = place.line; column = place.column + 1 }
 
--- what is behind ASCII ends no line
+-- what is beyond ASCII ends no line
 wide_place : (place : Pos) (c : ℕ) (rest : List ℕ) → 128 ≤ c → next_place place c rest ≡ next_column place
 wide_place place c rest h =
     let e : ends_line c rest ≡ false = grind (arith, nat_tests) in

@@ -33,7 +33,7 @@ cut_length bytes k n cut = ap length cut.front ∙ length-take-le n (chars bytes
 pub cut_none : (bytes : List ℕ) → IsUtf8 bytes → IsCut bytes 0 0
 cut_none bytes h = cut_at bytes 0 0 h (IsCharBoundary-start bytes h) (ap length chars-nil)
 
--- one cut behind another
+-- one cut after another
 pub cut_behind : (bytes : List ℕ) (k n j m : ℕ) → IsUtf8 bytes → IsCut bytes k n → IsCut (drop k bytes) j m → IsCut bytes (k + j) (n + m)
 cut_behind bytes k n j m h one other =
     let front = IsUtf8-take bytes k h one.boundary in
@@ -95,7 +95,7 @@ pub both_hold : (a b : Bool) → (a && b) ≡ true → (a ≡ true) × (b ≡ tr
 both_hold true b h = (refl, h)
 both_hold false b h = absurd cc
 
--- no byte of a character behind ASCII is ASCII
+-- no byte of a character beyond ASCII is ASCII
 pub wide_byte : (c : ℕ) → 128 ≤ c → (k : ℕ) → k < length (encode_utf8 c) → 128 ≤ get_or (encode_utf8 c) k 0
 wide_byte c h k within = go (or_wide (get_or (encode_utf8 c) k 0))
   where
@@ -103,12 +103,12 @@ wide_byte c h k within = go (or_wide (get_or (encode_utf8 c) k 0))
     go (inl small) = let e = inside_one c [] (encode_utf8 c) k (sym (append-nil (encode_utf8 c))) within small in absurd (omega (arith, e))
     go (inr wide) = wide
 
--- bytes that all pass come before the run behind them
+-- bytes that all pass come before the run after them
 run_behind : (test : ℕ → Bool) (front rest : List ℕ) → Each test front → prefix_len test (front ++ rest) ≡ length front + prefix_len test rest
 run_behind test [] rest h = omega arith
 run_behind test (c ∷ front) rest h = rw h.0 (omega (arith, run_behind test front rest h.1))
 
--- bytes that all pass a test, which no byte behind ASCII fails, are characters that all pass it
+-- bytes that all pass a test, which no byte beyond ASCII fails, are characters that all pass it
 pub cut_run : (test : ℕ → Bool) → ((c : ℕ) → 128 ≤ c → test c ≡ true) → (bytes : List ℕ) → IsUtf8 bytes
     → IsCut bytes (prefix_len test bytes) (prefix_len test (chars bytes))
 cut_run test wide bytes h =
@@ -143,7 +143,7 @@ cut_run test wide bytes h =
             subst₂ (IsCut (encode_utf8 c ++ more)) (sym (stops e (or_wide c))) (ap (λ b. cond b (1 + prefix_len test cs) 0) (sym e))
             (cut_none (encode_utf8 c ++ more) (c ∷ cs, (s, refl)))
 
--- the first byte passes a test, which is the same for all behind ASCII, where the first character does
+-- the first byte passes a test, which is the same for all beyond ASCII, where the first character does
 pub begins_is : (test : ℕ → Bool) (wide : Bool) → ((c : ℕ) → 128 ≤ c → test c ≡ wide) → (bytes : List ℕ) → IsUtf8 bytes
     → begins test (chars bytes) ≡ begins test bytes
 begins_is test wide same bytes h = ap (begins test) (sym (chars_from_encodes h.0 bytes h h.1.1)) ∙ firsts h.0 ∙ ap (begins test) h.1.1
@@ -162,7 +162,7 @@ begins_is test wide same bytes h = ap (begins test) (sym (chars_from_encodes h.0
     firsts [] = refl
     firsts (c ∷ cs) = by c (encode_utf8_all cs) (or_wide c)
 
--- bytes that all pass a test, which each byte behind ASCII fails, are as many characters
+-- bytes that all pass a test, which each byte beyond ASCII fails, are as many characters
 pub cut_narrow : (test : ℕ → Bool) → ((c : ℕ) → 128 ≤ c → test c ≡ false) → (bytes : List ℕ) → IsUtf8 bytes
     → IsCut bytes (prefix_len test bytes) (prefix_len test bytes) × (prefix_len test (chars bytes) ≡ prefix_len test bytes)
 cut_narrow test narrow bytes h =
@@ -210,6 +210,6 @@ starts_is word bytes small h =
 pub cut_bytes : (bytes : List ℕ) (k n : ℕ) → IsUtf8 bytes → IsCut bytes k n → take k bytes ≡ encode_utf8_all (take n (chars bytes))
 cut_bytes bytes k n h cut = sym (encodes-chars (take k bytes) (IsUtf8-take bytes k h cut.boundary)) ∙ ap encode_utf8_all cut.front
 
--- what is left behind a cut is a text
+-- what is left after a cut is a text
 pub utf8_behind : (bytes : List ℕ) (k n : ℕ) → IsUtf8 bytes → IsCut bytes k n → IsUtf8 (drop k bytes)
 utf8_behind bytes k n h cut = IsUtf8-drop bytes k h cut.boundary

@@ -168,7 +168,7 @@ module _ (bytes : List ℕ) (h : IsUtf8 bytes) (first : starts_with nat_eq bytes
   pub known_unended : NoBlockEnds (chars bytes) → IsUnended (drop 3 (chars bytes))
   known_unended known = known [] (drop 3 (chars bytes)) tt quotes_whole
 
-  -- a block string without an end, which none behind it has
+  -- a block string without an end, which none after it has
   pub unended_known : IsUnended (drop 3 (chars bytes)) → NoBlockEnds (chars bytes)
   unended_known unended = no_block_ends (chars bytes) (drop 3 (chars bytes)) quotes_whole unended
 

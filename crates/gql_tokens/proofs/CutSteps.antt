@@ -1,4 +1,4 @@
--- One token of a text's bytes, and those behind it.
+-- One token of a text's bytes, and those after it.
 use Rattle.std.proofs.Common.{◌≡◌, ℕ, ◌+◌, ◌≤◌, Bool, true, false, List, [], ◌∷◌, ◌++◌, length, take, drop, sym, ap, ◌∙◌, inl, inr, arith, drop-drop, length-take-le, subst, append_assoc}
 use Rattle.std.specs.Str.{chars, IsUtf8, IsCharBoundary}
 use Rattle.std.proofs.lemmas.Str.{IsCharBoundary-from_rest}
@@ -24,7 +24,7 @@ spelled_small l cs h (inl e) = each_same is_small (sym (subst (λ k. Spells k cs
 spelled_small l cs h (inr (inl e)) = name_small cs (subst (λ k. Spells k cs) e.1 h).0
 spelled_small l cs h (inr (inr e)) = integer_small cs (subst (λ k. Spells k cs) e.1 h).0
 
--- the place behind the bytes of a punctuator, a name or a number
+-- the place after the bytes of a punctuator, a name or a number
 pub place_unbroken : (pos : Pos) (l : Lexeme) (bytes : List ℕ) (k n : ℕ) → IsUtf8 bytes → k ≤ length bytes → IsUnbroken l → IsCut bytes k n
     → Spells l (take n (chars bytes)) → at_column pos (pos.column + k) ≡ place_after pos (take n (chars bytes)) (drop n (chars bytes))
 place_unbroken pos l bytes k n h within unbroken cut spelled =
@@ -33,11 +33,11 @@ place_unbroken pos l bytes k n h within unbroken cut spelled =
     sym (length-take-le k bytes within) ∙ ap length (cut_bytes bytes k n h cut ∙ small_bytes cs (spelled_small l cs spelled unbroken)) in
     ap (λ c. at_column pos (pos.column + c)) count ∙ sym (place_after_unbroken pos l cs (drop n (chars bytes)) spelled unbroken)
 
--- what is known of block strings behind what is ignored
+-- what is known of block strings after what is ignored
 pub known_behind_gap_in : (place : Pos) (bytes : List ℕ) (k : ℕ) (pos : Pos) → IsGapIn place bytes k pos → NoBlockEnds (chars bytes) → NoBlockEnds (chars (drop k bytes))
 known_behind_gap_in place bytes k pos gap known = subst NoBlockEnds (sym gap.1.behind) (known_behind_gap (chars bytes) gap.0 gap.2 known)
 
--- the place behind a token of so many bytes at the front of a text
+-- the place after a token of so many bytes at the front of a text
 abbrev pub IsPlaceBehind : Lexeme → Pos → List ℕ → ℕ → Pos → Type 0
 IsPlaceBehind lexeme pos bytes j behind =
     (n : ℕ) → IsCut bytes j n → Spells lexeme (take n (chars bytes)) → behind ≡ place_after pos (take n (chars bytes)) (drop n (chars bytes))
@@ -48,7 +48,7 @@ module _ (place : Pos) (bytes : List ℕ) (lexeme : Lexeme) (k j : ℕ) (pos : P
   stands_behind : StandsAt lexeme stands.0 (drop gap.0 (chars bytes))
   stands_behind = subst (StandsAt lexeme stands.0) gap.1.behind stands.2
 
-  -- the last token, behind what is ignored
+  -- the last token, after what is ignored
   pub last_step_in : is_final lexeme ≡ true → IsStepIn place bytes (record { lexeme = lexeme; pos = pos }) k pos
   last_step_in final = (gap.0, gap.1, last_step place (chars bytes) lexeme gap.0 stands.0 pos gap.1.within gap.2 gap.3 stands_behind final)
 
@@ -64,14 +64,14 @@ module _ (place : Pos) (bytes : List ℕ) (lexeme : Lexeme) (k j : ℕ) (pos : P
         subst NoBlockEnds (sym step_cut.behind)
         (known_behind_token place (chars bytes) lexeme gap.0 stands.0 pos gap.1.within gap.2 gap.3 stands_behind more (subst NoBlockEnds gap.1.behind known))
 
-    -- a token that isn't the last, behind what is ignored
+    -- a token that isn't the last, after what is ignored
     pub step_in : (behind : Pos) → IsPlaceBehind lexeme pos (drop k bytes) j behind → IsStepIn place bytes (record { lexeme = lexeme; pos = pos }) (k + j) behind
     step_in behind exact =
         let m = stands.0 in
         let is = exact m stands.1 spelled ∙ ap (λ l. place_after pos (take m l) (drop m l)) gap.1.behind in
         (gap.0 + m, step_cut, step_is place (chars bytes) lexeme gap.0 m pos gap.1.within gap.2 gap.3 stands_behind more behind is)
 
--- a step behind bytes that were read
+-- a step after bytes that were read
 module _ (bytes : List ℕ) (at : ℕ) (here : Pos) (token : Token) (k : ℕ) (behind : Pos) (step : IsStepIn here (drop at bytes) token k behind) where
   pub boundary_behind : IsCharBoundary bytes at → IsCharBoundary bytes (at + k)
   boundary_behind boundary = IsCharBoundary-from_rest bytes at k boundary.0 step.1.boundary
@@ -80,7 +80,7 @@ module _ (bytes : List ℕ) (at : ℕ) (here : Pos) (token : Token) (k : ℕ) (b
   pub step_more : is_final token.lexeme ≡ false → (tokens : List Token) → Lexes behind (left bytes (at + k)) tokens → Lexes here (left bytes at) (token ∷ tokens)
   step_more more tokens h = step.2.more more tokens (subst (λ l. Lexes behind l tokens) (ap chars (sym (drop-drop k at bytes)) ∙ step.1.behind) h)
 
-  -- the tokens so far, one more and those behind it
+  -- the tokens so far, one more and those after it
   pub more_tokens : (start : Pos) (tokens : List Token) → is_final token.lexeme ≡ false
       → ((more : List Token) → Lexes here (left bytes at) more → Lexes start (chars bytes) (tokens ++ more))
       → (more : List Token) → Lexes behind (left bytes (at + k)) more → Lexes start (chars bytes) ((tokens ++ token ∷ []) ++ more)

@@ -1,4 +1,4 @@
--- What is ignored, one piece behind the other.
+-- What is ignored, one piece after the other.
 use lib.Utf8.{encode}
 use Rattle.std.proofs.Common.{◌≡◌, ℕ, ◌+◌, ◌<◌, ◌≤◌, Bool, true, false, ◌||◌, ◌==◌, List, [], ◌∷◌, ◌++◌, length, take, drop, get_or, encode_utf8_all, nat_eq, refl, sym, ap, ap₂, subst, subst₂, ◌∙◌, arith, eqb-true, append_assoc, take-add, drop-drop, take-append-drop}
 use Rattle.std.proofs.lemmas.Bool.Decides.{nat_tests}
@@ -28,7 +28,7 @@ ignored_none place bytes h = record {
   column = omega arith;
 }
 
--- what is ignored behind what was ignored
+-- what is ignored after what was ignored
 module _ (place here behind : Pos) (bytes : List ℕ) (k j : ℕ) (h : IsUtf8 bytes) (one : IsIgnoredIn place bytes k here)
     (other : IsIgnoredIn here (drop k bytes) j behind) where
   abbrev cs : List ℕ
@@ -120,14 +120,14 @@ ignored_mark place bytes more h e =
     place_is : behind ≡ place_after place (take 1 (chars (encode byte_order_mark ++ more))) (drop 1 (chars (encode byte_order_mark ++ more)))
     place_is = sym (ap (λ l. place_after place (take 1 l) (drop 1 l)) is)
 
--- behind a comment's last character goes on what is ignored behind it
+-- after a comment's last character goes on what is ignored after it
 from_comment : (more rest : List ℕ) → begins is_comment_character (more ++ rest) ≡ false → IsGap false more rest → IsGap true more rest
 from_comment [] [] ends gap = refl
 from_comment [] (c ∷ rest) ends gap = grind (arith, nat_tests)
 from_comment (c ∷ more) rest ends (false, passes, gap) = (false, (grind (arith, nat_tests)), gap)
 from_comment (c ∷ more) rest ends (true, passes, gap) = absurd (grind (arith, nat_tests))
 
--- the characters of a comment, with what is ignored behind it
+-- the characters of a comment, with what is ignored after it
 in_comment : (run more rest : List ℕ) → Each is_comment_character run → IsGap true more rest → IsGap true (run ++ more) rest
 in_comment [] more rest h gap = gap
 in_comment (c ∷ run) more rest h gap = (true, h.0, in_comment run more rest h.1 gap)

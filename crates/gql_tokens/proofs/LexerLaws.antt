@@ -53,7 +53,7 @@ finish_unique l (lexemes.String p) text h k = absurd k
 same_token : (t u : Token) → t.lexeme ≡ u.lexeme → t.pos ≡ u.pos → t ≡ u
 same_token t u p q = λ i. record { lexeme = p i; pos = q i }
 
--- what stands at a token's place, and behind it
+-- what stands at a token's place, and after it
 abbrev Continues : Token → List Token → List ℕ → Type 0
 Continues t ts text =
     (Finishes t.lexeme text × (ts ≡ []))

@@ -263,7 +263,7 @@ value_encoded cs =
     ∙ ap (join_with_byte line_feed) (last_blank_encoded (without_first_blank (without_indent (lines_of cs))))
     ∙ join_encoded (without_last_blank (without_first_blank (without_indent (lines_of cs))))
 
--- a text may be cut behind its first line
+-- a text may be cut after its first line
 pub line_cut : (text : List ℕ) (n : ℕ) → n ≡ prefix_len is_line_character text → n ≤ length text → IsCharBoundary text n
 line_cut text n e within = go (cases_lt n (length text))
   where
@@ -276,7 +276,7 @@ line_cut text n e within = go (cases_lt n (length text))
         IsCharBoundary-before_ascii text n less (line_end_is_ascii (get_or text n 0) stops)
     go (inr more) = let last : length text ≡ n = omega arith in subst (IsCharBoundary text) last (IsCharBoundary-end text)
 
--- and behind the line's end, of which the last byte is ASCII
+-- and after the line's end, of which the last byte is ASCII
 pub next_cut : (text : List ℕ) (line m : ℕ) → IsUtf8 text → line ≤ length text → 0 < m → m ≤ length (take (length text - line) (drop line text))
     → slice_index (take (length text - line) (drop line text)) (m - 1) < 128 → IsCharBoundary text (line + m)
 next_cut text line m u within some fits small =
@@ -297,7 +297,7 @@ blank_at (c ∷ line) i h = go (is_blank c) refl i h (blank_at line)
     go true e (suc i) k more = more i (omega arith)
     go false e i k more = absurd (omega arith)
 
--- a line may be cut behind an indent that fits it
+-- a line may be cut after an indent that fits it
 pub indent_cut : (line : List ℕ) (indent k : ℕ) → IsUtf8 line → Fits indent line → k ≡ min indent (length line) → 0 < k → IsCharBoundary line k
 indent_cut line indent k u fits e some =
     let within : k ≤ length line = omega arith in
@@ -320,6 +320,6 @@ line_fits indent text line next h fits =
     let (others, is) = first_is text line next h in
     let all = subst (AllFit indent) is fits in all.0
 
--- and those behind it
+-- and those after it
 pub next_fit : (indent : ℕ) (text : List ℕ) (line next : ℕ) → IsFirstLine text line (Some next) → AllFit indent (lines_of text) → AllFit indent (lines_of (drop next text))
 next_fit indent text line next h fits = let all = subst (AllFit indent) h.1.2 fits in all.1

@@ -50,7 +50,7 @@ module _ (text : List ℕ) (n : ℕ) (e : n ≡ prefix_len is_line_character tex
         ),
       )
 
--- one line more, behind blank ones
+-- one line more, after blank ones
 first_blank-more : (lines : List (List ℕ)) (line : List ℕ) → without_first_blank lines ≡ [] → without_first_blank (lines ++ line ∷ []) ≡ without_first_blank (line ∷ [])
 first_blank-more [] line e = refl
 first_blank-more (l ∷ lines) line e = go (is_blank_line l) e (first_blank-more lines line)
@@ -61,7 +61,7 @@ first_blank-more (l ∷ lines) line e = go (is_blank_line l) e (first_blank-more
     go true none more = more none
     go false none more = absurd cc
 
--- one line more, behind one that isn't blank
+-- one line more, after one that isn't blank
 first_kept-more : (lines kept : List (List ℕ)) (first line : List ℕ) → without_first_blank lines ≡ first ∷ kept
     → without_first_blank (lines ++ line ∷ []) ≡ first ∷ kept ++ line ∷ []
 first_kept-more [] kept first line e = cc
@@ -149,7 +149,7 @@ module _ (text : List ℕ) (n : ℕ) (lines : List (List ℕ)) (line : List ℕ)
     | inr k ↦ k
   ]
 
-  -- a blank line behind none that is kept
+  -- a blank line after none that is kept
   pub kept_none : text ≡ [] → is_blank_line line ≡ true → IsKept text n (lines ++ line ∷ [])
   kept_none e blank =
       let none = none_kept e in
@@ -187,7 +187,7 @@ module _ (text : List ℕ) (n : ℕ) (lines : List (List ℕ)) (line : List ℕ)
       let (first, kept, is) = some_kept some in
       first_kept-more lines kept first line is ∙ ap (λ ls. ls ++ line ∷ []) (sym is)
 
-  -- a blank line behind others
+  -- a blank line after others
   pub kept_blank : (text ≡ [] → ⊥) → is_blank_line line ≡ true → IsKept (text ++ line_feed ∷ line) n (lines ++ line ∷ [])
   kept_blank some blank = record {
     text_is = longer some;
@@ -198,7 +198,7 @@ module _ (text : List ℕ) (n : ℕ) (lines : List (List ℕ)) (line : List ℕ)
     boundary = boundary_more text n line h.boundary;
   }
 
-  -- a line that isn't blank behind others
+  -- a line that isn't blank after others
   pub kept_more : (text ≡ [] → ⊥) → is_blank_line line ≡ false → (m : ℕ) → m ≡ length (text ++ line_feed ∷ line) → IsKept (text ++ line_feed ∷ line) m (lines ++ line ∷ [])
   kept_more some full m e = record {
     text_is = longer some;
@@ -209,7 +209,7 @@ module _ (text : List ℕ) (n : ℕ) (lines : List (List ℕ)) (line : List ℕ)
     boundary = subst (IsCharBoundary (text ++ line_feed ∷ line)) (sym e) (IsCharBoundary-end (text ++ line_feed ∷ line));
   }
 
--- behind the first line that is left, the others are
+-- after the first line that is left, the others are
 pub others_step : (n start line next : ℕ) (text : List ℕ) (done : List (List ℕ)) → IsFirstLine (drop start text) line (Some next)
     → done ++ map (drop n) (lines_of (drop start text)) ≡ map (drop n) (lines_of text)
     → (done ++ drop n (take line (drop start text)) ∷ []) ++ map (drop n) (lines_of (drop (start + next) text)) ≡ map (drop n) (lines_of text)

@@ -88,16 +88,16 @@ run_stops test (c ∷ cs) =
       | false ↦ λ e. e
     ] refl
 
--- behind a run no character passes
+-- after a run no character passes
 pub run_stops_behind : (test : ℕ → Bool) (text : List ℕ) (at k : ℕ) → k ≡ prefix_len test (drop at text) → begins test (drop (at + k) text) ≡ false
 run_stops_behind test text at k e =
     ap (begins test) (sym (drop-drop k at text) ∙ ap (λ n. drop n (drop at text)) e) ∙ run_stops test (drop at text)
 
--- the slice behind a place, of a list that equals another
+-- the slice after a place, of a list that equals another
 pub rest_is : (text bytes : List ℕ) (at : ℕ) → bytes ≡ text → take (length bytes - at) (drop at bytes) ≡ drop at text
 rest_is text bytes at same = take_rest bytes at ∙ ap (drop at) same
 
--- what a list begins with behind its first elements
+-- what a list begins with after its first elements
 pub drop_at_item : (text : List ℕ) (i c : ℕ) → i < length text → c ≡ get_or text i c → drop i text ≡ c ∷ drop (i + 1) text
 drop_at_item text i c h e = drop_more text i c h ∙ ap (λ d. d ∷ drop (i + 1) text) (sym e)
 

@@ -28,7 +28,7 @@ sign_no_digit c h k = grind (arith, nat_tests)
 abbrev pub Found : (List ℕ → Type 0) → (ℕ → Bool) → List ℕ → Type 0
 Found Form bad text = (found : Option ℕ) × OnlyFront Form bad text found
 
--- more may be bad behind a form
+-- more may be bad after a form
 weaker_found : (Form : List ℕ → Type 0) (p q : ℕ → Bool) → ((c : ℕ) → p c ≡ true → q c ≡ true) → (text : List ℕ) → Found Form p text → Found Form q text
 weaker_found Form p q f text (None, none) = (None, λ cs rest is h ends. none cs rest is h (fewer p q f rest ends))
 weaker_found Form p q f text (Some n, h) = (Some n, (h.0, h.1, λ cs rest is form ends. h.2 cs rest is form (fewer p q f rest ends)))
@@ -40,7 +40,7 @@ converted Inner Form bad text to from (None, none) = (None, λ cs rest is h ends
 converted Inner Form bad text to from (Some n, h) =
     (Some n, (h.0, to (take n text) (drop n text) (sym (take-append-drop n text)) h.1, λ cs rest is w ends. h.2 cs rest is (from cs rest is w) ends))
 
--- a form that is another one behind this character
+-- a form that is another one after this character
 prefixed : (Inner Form : List ℕ → Type 0) (bad : ℕ → Bool) (c : ℕ) (more : List ℕ) → ((cs : List ℕ) → Inner cs → Form (c ∷ cs))
     → ((cs rest : List ℕ) → c ∷ more ≡ cs ++ rest → Form cs → begins bad rest ≡ false → (inner : List ℕ) × (cs ≡ c ∷ inner) × Inner inner)
     → Found Inner bad more → Found Form bad (c ∷ more)

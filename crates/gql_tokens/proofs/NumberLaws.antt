@@ -58,7 +58,7 @@ integer_not_float cs h k = go k.1 k.5 (float_part_begins k.1 k.4) (each_back _ k
 abbrev pub Sequence : (List ℕ → Type 0) → (List ℕ → Type 0) → List ℕ → Type 0
 Sequence First Second cs = (first : List ℕ) × (second : List ℕ) × (cs ≡ first ++ second) × First first × Second second
 
--- what may stand behind the first form, where the second stands there and nothing bad behind it
+-- what may stand behind the first form, where the second stands there and nothing bad after it
 abbrev pub Follows : (List ℕ → Type 0) → (ℕ → Bool) → (ℕ → Bool) → Type 0
 Follows Second between bad = (cs rest : List ℕ) → Second cs → begins bad rest ≡ false → begins between (cs ++ rest) ≡ false
 
@@ -115,7 +115,7 @@ pub fewer : (p q : ℕ → Bool) → ((c : ℕ) → p c ≡ true → q c ≡ tru
 fewer p q f [] h = refl
 fewer p q f (c ∷ cs) h = false_from_ne_true (p c) (λ e. let k = f c e in cc)
 
--- an exponent's power stands behind its `e`
+-- an exponent's power stands after its `e`
 pub exponent_some : (e : ℕ) (power : List ℕ) (n : ℕ) → begins_exponent e ≡ true → OnlyFront IsPower is_ascii_digit power (Some n)
     → OnlyFront (Optional IsExponent) is_bad_after_number (e ∷ power) (Some (1 + n))
 exponent_some e power n h k = rw one-add (
@@ -142,7 +142,7 @@ fraction_bad c h = grind (arith, nat_tests)
 exponent_no_fraction : (c : ℕ) → begins_exponent c ≡ true → is_bad_after_fraction c ≡ false
 exponent_no_fraction c h = grind (arith, nat_tests)
 
--- behind a fraction stands an exponent or what may follow a number
+-- after a fraction stands an exponent or what may follow a number
 pub exponent_follows : Follows (Optional IsExponent) is_bad_after_fraction is_bad_after_number
 exponent_follows cs rest (inl none) ends = ap (λ l. begins is_bad_after_fraction (l ++ rest)) none ∙ fewer is_bad_after_fraction is_bad_after_number fraction_bad rest ends
 exponent_follows cs rest (inr h) ends = ap (λ l. begins is_bad_after_fraction (l ++ rest)) h.2 ∙ exponent_no_fraction h.0 h.3
@@ -150,7 +150,7 @@ exponent_follows cs rest (inr h) ends = ap (λ l. begins is_bad_after_fraction (
 pub fraction_digit : (c : ℕ) → is_ascii_digit c ≡ true → is_bad_after_fraction c ≡ true
 fraction_digit c h = grind (arith, nat_tests)
 
--- behind an integer stands a fraction, an exponent or what may follow a number
+-- after an integer stands a fraction, an exponent or what may follow a number
 pub part_follows : Follows IsFloatPart is_ascii_digit is_bad_after_number
 part_follows cs rest (fraction, exponent, is, inl none, k) ends =
     let exponent_is : cs ≡ exponent = is ∙ ap (λ l. l ++ exponent) none in
@@ -158,7 +158,7 @@ part_follows cs rest (fraction, exponent, is, inl none, k) ends =
     (ap (λ l. begins is_bad_after_fraction (l ++ rest)) exponent_is ∙ exponent_follows exponent rest k ends)
 part_follows cs rest (fraction, exponent, is, inr h, k) ends = ap (λ l. begins is_ascii_digit (l ++ rest)) (is ∙ ap (λ l. l ++ exponent) h.1)
 
--- digits behind a number make it no smaller
+-- digits after a number make it no smaller
 natural-le-fold : (n : ℕ) (digits : List ℕ) → n ≤ fold (λ m c. 10 * m + (c - 48)) n digits
 natural-le-fold n [] = le_refl n
 natural-le-fold n (c ∷ digits) = let h = natural-le-fold (10 * n + (c - 48)) digits in omega arith
@@ -171,7 +171,7 @@ natural_more digits i h =
     let grows = natural-le-fold (10 * natural_of (take i digits) + (get_or digits i 0 - 48)) (drop (i + 1) digits) in
     omega arith
 
--- the slice behind the first characters
+-- the slice after the first characters
 pub left_is : (Form : List ℕ → Type 0) (bad : ℕ → Bool) (text : List ℕ) (n : ℕ) (found : Option ℕ)
     → OnlyFront Form bad (take (length text - n) (drop n text)) found → OnlyFront Form bad (drop n text) found
 left_is Form bad text n found h = subst (λ l. OnlyFront Form bad l found) (take_rest text n) h

@@ -26,7 +26,7 @@ exponent_of_numeral c h = grind (arith, nat_tests)
 digit_no_exponent : (c : ℕ) → is_ascii_digit c ≡ true → begins_exponent c ≡ true → ⊥
 digit_no_exponent c h k = grind (arith, nat_tests)
 
--- behind the character `before` a sign stands behind `e` alone
+-- after the character `before` a sign stands after `e` alone
 abbrev SignsBehind : ℕ → List ℕ → Type 0
 SignsBehind before [] = Unit {0}
 SignsBehind before (c ∷ cs) = ((of_numeral c ≡ true) ⊎ (begins_exponent before ≡ true)) × SignsBehind c cs
@@ -66,7 +66,7 @@ fraction_numeral cs (inr h) = each_same of_numeral (sym h.1) (refl, digits_numer
 part_signs : (cs : List ℕ) → IsFloatPart cs → (q : ℕ) → SignsBehind q cs
 part_signs cs h q = signs_same q (sym h.2) (signs_append h.0 h.1 q (fraction_numeral h.0 h.3) (exponent_signs h.1 h.4))
 
--- the first character of an integer, and the digits behind it
+-- the first character of an integer, and the digits after it
 integer_first : (cs : List ℕ) → IsInteger cs → (c : ℕ) × (digits : List ℕ) × (cs ≡ c ∷ digits) × Each of_numeral digits
 integer_first [] (inl (inl e)) = absurd cc
 integer_first [] (inl (inr h)) = let k = h.0.0 in absurd cc

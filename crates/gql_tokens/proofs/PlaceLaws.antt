@@ -1,4 +1,4 @@
--- Places behind one piece of text after another.
+-- Places after one piece of text after another.
 use Rattle.std.proofs.Common.{◌≡◌, ℕ, ℤ, ◌+◌, ◌≤◌, Bool, true, false, if◌then◌else◌, ◌⊎◌, List, [], ◌∷◌, ◌++◌, refl, sym, ap, subst, ◌∙◌, inl, inr, arith, append_assoc, length}
 use Rattle.std.proofs.lemmas.Bool.Decides.{nat_tests}
 use Rattle.gql_base.specs.declared.pos.Pos.{Pos}
@@ -20,7 +20,7 @@ place_after-append place (c ∷ a) b rest =
     ap (λ l. place_after (next_place place c l) (a ++ b) rest) (append_assoc a b rest)
     ∙ place_after-append (next_place place c (a ++ (b ++ rest))) a b rest
 
--- behind one character a place has at most one line or column more
+-- after one character a place has at most one line or column more
 next_place_bound : (place : Pos) (c : ℕ) (rest : List ℕ)
     → ((next_place place c rest).line ≤ place.line + 1) × ((next_place place c rest).column ≤ place.column + 1)
 next_place_bound place c rest = go (ends_line c rest)
@@ -32,7 +32,7 @@ next_place_bound place c rest = go (ends_line c rest)
     go true = (omega arith, omega arith)
     go false = (omega arith, omega arith)
 
--- behind so many characters a place has at most as many lines and columns more
+-- after so many characters a place has at most as many lines and columns more
 pub place_after_bound : (place : Pos) (cs rest : List ℕ)
     → ((place_after place cs rest).line ≤ place.line + length cs) × ((place_after place cs rest).column ≤ place.column + length cs)
 place_after_bound place [] rest = (omega arith, omega arith)
@@ -48,7 +48,7 @@ at_column place column = record { line = place.line; column = column }
 ends_no_line : (c : ℕ) (rest : List ℕ) → is_line_character c ≡ true → ends_line c rest ≡ false
 ends_no_line c rest h = grind (arith, nat_tests)
 
--- the place behind characters of which none ends a line
+-- the place after characters of which none ends a line
 place_after_plain : (place : Pos) (cs rest : List ℕ) → Each is_line_character cs → place_after place cs rest ≡ at_column place (place.column + length cs)
 place_after_plain place [] rest h = ap (at_column place) (omega arith)
 place_after_plain place (c ∷ cs) rest h =
@@ -83,7 +83,7 @@ integer_plain c h = grind (arith, nat_tests)
 abbrev pub IsUnbroken : Lexeme → Type 0
 IsUnbroken l = ((p : Punctuator) × (l ≡ lexemes.Punctuator p)) ⊎ (((name : List ℕ) × (l ≡ lexemes.Name name)) ⊎ ((number : ℤ) × (l ≡ lexemes.Number number)))
 
--- the place behind a punctuator, a name or a number
+-- the place after a punctuator, a name or a number
 pub place_after_unbroken : (place : Pos) (l : Lexeme) (cs rest : List ℕ) → Spells l cs → IsUnbroken l
     → place_after place cs rest ≡ at_column place (place.column + length cs)
 place_after_unbroken place l cs rest h (inl e) =

@@ -1,4 +1,4 @@
--- One token of a text, and those behind it.
+-- One token of a text, and those after it.
 use Rattle.std.proofs.Common.{◌≡◌, ℕ, ◌+◌, ◌≤◌, true, false, List, [], ◌∷◌, length, take, drop, refl, sym, ap, inl, inr, arith, take-append-drop, drop-drop, length-drop, length-take-le, subst, subst₂}
 use Rattle.gql_base.specs.declared.pos.Pos.{Pos}
 use Rattle.gql_tokens.specs.declared.token.Lexeme.{Lexeme}
@@ -30,21 +30,21 @@ no_block_ends_left : (n : ℕ) (text : List ℕ) → Each is_source (take n text
 no_block_ends_left n text source h =
     no_block_ends_behind (take n text) (drop n text) source (subst NoBlockEnds (sym (take-append-drop n text)) h)
 
--- what is known of block strings behind what is ignored
+-- what is known of block strings after what is ignored
 pub known_behind_gap : (text : List ℕ) (gap : ℕ) → IsGap false (take gap text) (drop gap text) → NoBlockEnds text → NoBlockEnds (drop gap text)
 known_behind_gap text gap h known = no_block_ends_left gap text (gap_source false (take gap text) (drop gap text) h) known
 
 module _ (place : Pos) (text : List ℕ) (lexeme : Lexeme) (gap n : ℕ) (pos : Pos) (within : gap ≤ length text)
     (ignored : IsGap false (take gap text) (drop gap text)) (pos_is : pos ≡ place_after place (take gap text) (drop gap text))
     (stands : StandsAt lexeme n (drop gap text)) where
-  -- the place behind what is ignored
+  -- the place after what is ignored
   pos_bound : (pos.line ≤ place.line + gap) × (pos.column ≤ place.column + gap)
   pos_bound =
       let bound = place_after_bound place (take gap text) (drop gap text) in
       let count = length-take-le gap text within in
       (omega (arith, ap (λ (p : Pos). p.line) pos_is, bound.0, count), omega (arith, ap (λ (p : Pos). p.column) pos_is, bound.1, count))
 
-  -- the last token, behind what is ignored
+  -- the last token, after what is ignored
   pub last_step : is_final lexeme ≡ true → IsStep place text (record { lexeme = lexeme; pos = pos }) gap pos
   last_step final = record {
     within = within;
@@ -66,7 +66,7 @@ module _ (place : Pos) (text : List ℕ) (lexeme : Lexeme) (gap n : ℕ) (pos : 
     known_behind_token known =
         subst NoBlockEnds (drop-drop n gap text) (no_block_ends_left n (drop gap text) (spelling_source lexeme (take n (drop gap text)) token.1.spelled) known)
 
-    -- a token that isn't the last, behind what is ignored
+    -- a token that isn't the last, after what is ignored
     pub step_is : (behind : Pos) → behind ≡ place_after pos (take n (drop gap text)) (drop n (drop gap text))
         → IsStep place text (record { lexeme = lexeme; pos = pos }) (gap + n) behind
     step_is behind is = record {

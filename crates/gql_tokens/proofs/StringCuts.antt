@@ -13,7 +13,7 @@ use Rattle.gql_tokens.proofs.CutLemmas.{cut_behind, each_ascii, cut_front, cut_a
 use Rattle.gql_tokens.proofs.Lists.{Each, begins_so, run_passes}
 use Rattle.gql_tokens.proofs.StringLaws.{one_written, plain_written, string_more, string_ends, no_string_behind}
 
--- no character behind ASCII ends a run of plain ones
+-- no character beyond ASCII ends a run of plain ones
 wide_plain : (c : ℕ) → 128 ≤ c → is_plain c ≡ true
 wide_plain c h = grind (arith, nat_tests)
 
@@ -44,7 +44,7 @@ pub record IsReadTo (bytes value : List ℕ) (at : ℕ) : Type 0 where
   pub written : WritesCharacters characters (take (count - 1) (drop 1 (chars bytes)))
 
 module _ (bytes : List ℕ) (u : IsUtf8 bytes) where
-  -- behind the quote nothing is read yet
+  -- after the quote nothing is read yet
   pub read_start : begins (λ c. c == quote) bytes ≡ true → (value : List ℕ) → value ≡ [] → IsReadTo bytes value 1
   read_start first value e =
       let (c, more, is, test) = begins_so (λ c. c == quote) bytes first in

@@ -88,7 +88,7 @@ string_unique v w p q x y h k e =
     ended (u ∷ us) rest a b c d =
         absurd (written_not_quote u d.0 (d.1 ++ quote ∷ y) x d.3 (sym (append_assoc d.0 d.1 (quote ∷ y)) ∙ ap (λ l. l ++ quote ∷ y) (sym d.2) ∙ sym c))
 
--- characters behind others
+-- characters after others
 characters_append : (vs ws cs ds : List ℕ) → WritesCharacters vs cs → WritesCharacters ws ds → WritesCharacters (vs ++ ws) (cs ++ ds)
 characters_append [] ws cs ds h k = subst (λ l. WritesCharacters ws (l ++ ds)) (sym h) k
 characters_append (v ∷ vs) ws cs ds h k =
@@ -107,7 +107,7 @@ plain_written (c ∷ cs) h = (c ∷ [], cs, refl, inl (refl, h.0), plain_written
 behind_body : (text : List ℕ) (at : ℕ) → 0 < at → drop (at - 1) (drop 1 text) ≡ drop at text
 behind_body text at h = let e : 1 + (at - 1) ≡ at = omega arith in drop-drop (at - 1) 1 text ∙ ap (λ n. drop n text) e
 
--- more characters behind the front of a string's body
+-- more characters after the front of a string's body
 pub string_more : (text : List ℕ) (at n : ℕ) (vs ws : List ℕ) → 0 < at → WritesCharacters vs (take (at - 1) (drop 1 text))
     → WritesCharacters ws (take n (drop at text)) → WritesCharacters (vs ++ ws) (take (at + n - 1) (drop 1 text))
 string_more text at n vs ws h k w =

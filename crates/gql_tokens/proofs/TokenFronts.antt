@@ -146,22 +146,22 @@ pub tokens_from_are : (place : Pos) (text : List ℕ) → Lexes place text (toke
 unfolding tokens_from
 tokens_from_are place text = (tokens_below (suc (length text)) place text (omega arith)).1
 
--- those behind a token, which may be the last
+-- those after a token, which may be the last
 abbrev pub tokens_behind : (last : Bool) → Pos → List ℕ → List Token
 tokens_behind true place text = []
 tokens_behind false place text = tokens_from place text
 
--- a token that was read, if there is one, and those behind it
+-- a token that was read, if there is one, and those after it
 abbrev pub tokens_left : Option Token → Pos → List ℕ → List Token
 tokens_left None place text = []
 tokens_left (Some token) place text = token ∷ tokens_behind (is_final token.lexeme) place text
 
--- no token stands behind this one
+-- no token stands after this one
 abbrev pub is_last : Option Token → Bool
 is_last None = true
 is_last (Some token) = is_final token.lexeme
 
--- the tokens from a place on are the next one and those behind it
+-- the tokens from a place on are the next one and those after it
 pub next_is : (text : List ℕ) (here behind : Reached) (token : Token) → IsNext text here token behind
     → tokens_from here.place (left text here.at) ≡ tokens_left (Some token) behind.place (left text behind.at)
 next_is text here behind token next =
@@ -172,14 +172,14 @@ next_is text here behind token next =
     go true e = next.last e
     go false e = next.more e (tokens_from behind.place (left text behind.at)) (tokens_from_are behind.place (left text behind.at))
 
--- those of a whole text are the first one and those behind it
+-- those of a whole text are the first one and those after it
 pub all_are : (text : List ℕ) (here behind : Reached) (token : Token) → here.at ≡ 0 → here.place ≡ text_start → IsNext text here token behind
     → Lexes text_start (chars text) (tokens_left (Some token) behind.place (left text behind.at))
 all_are text here behind token at place next =
     subst₂ (λ p l. Lexes p l (tokens_left (Some token) behind.place (left text behind.at))) place (ap (left text) at)
     (subst (Lexes here.place (left text here.at)) (next_is text here behind token next) (tokens_from_are here.place (left text here.at)))
 
--- those that are left are a token and those behind it
+-- those that are left are a token and those after it
 pub taken_is : (before : Option Token) (token : Token) (last : Bool) (place : Pos) (text : List ℕ) (others : List Token) → before ≡ Some token → last ≡ is_last before
     → tokens_behind last place text ≡ others → tokens_left before place text ≡ token ∷ others
 taken_is before token last place text others is is_last_is behind =

@@ -57,7 +57,7 @@ is_line_character c = not (is_line_end c)
 abbrev pub is_source : ℕ → Bool
 is_source c = (c == tab || is_line_end c) || nat_le space c
 
--- what stands in a comment behind its `#` (section 2.1.4)
+-- what stands in a comment after its `#` (section 2.1.4)
 abbrev pub is_comment_character : ℕ → Bool
 is_comment_character c = is_source c && not (is_line_end c)
 

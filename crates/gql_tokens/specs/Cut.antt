@@ -16,19 +16,19 @@ pub record IsCut (bytes : List ℕ) (k n : ℕ) : Type 0 where
   pub within : n ≤ length (chars bytes)
   pub fewer : n ≤ k
 
--- the first k bytes are what is ignored, and this is the place behind them
+-- the first k bytes are what is ignored, and this is the place after them
 abbrev pub IsGapIn : Pos → List ℕ → ℕ → Pos → Type 0
 IsGapIn place bytes k behind =
     (n : ℕ) × IsCut bytes k n × IsGap false (take n (chars bytes)) (drop n (chars bytes))
     × (behind ≡ place_after place (take n (chars bytes)) (drop n (chars bytes)))
 
--- characters that are ignored with whatever is ignored behind them
+-- characters that are ignored with whatever is ignored after them
 abbrev pub AreIgnored : List ℕ → List ℕ → Type 0
 AreIgnored cs behind =
     (more rest : List ℕ) → behind ≡ more ++ rest → IsGap false more rest
     → IsGap false (cs ++ more) rest
 
--- The first k bytes are ignored with whatever is ignored behind them, and this is the place behind
+-- The first k bytes are ignored with whatever is ignored after them, and this is the place after
 -- them.
 pub record IsIgnoredIn (place : Pos) (bytes : List ℕ) (k : ℕ) (behind : Pos) : Type 0 where
   pub count : ℕ

@@ -10,7 +10,7 @@ abbrev pub goes_on : (in_comment : Bool) → ℕ → Bool
 goes_on false c = is_ignored c || c == hash
 goes_on true c = is_source c
 
--- An ignored character, with a comment behind it or none: a `#` begins a comment (section 2.1.4), a
+-- An ignored character, with a comment after it or none: a `#` begins a comment (section 2.1.4), a
 -- line's end ends it.
 abbrev pub Passes : (in_comment : Bool) → ℕ → (comment_behind : Bool) → Type 0
 Passes false c false = is_ignored c ≡ true

@@ -33,7 +33,7 @@ Lexes place text (token ∷ tokens) =
     ⊎ ((cs : List ℕ) × (rest : List ℕ) × (behind ≡ cs ++ rest) × IsToken token.lexeme cs rest
     × (is_final token.lexeme ≡ false) × Lexes (place_after token.pos cs rest) rest tokens))
 
--- the last token behind this one is final, or this one where none stands behind it, and no other is
+-- the last token after this one is final, or this one where none stands after it, and no other is
 abbrev pub EndFinallyFrom : Token → List Token → Type 0
 EndFinallyFrom token [] = is_final token.lexeme ≡ true
 EndFinallyFrom token (next ∷ tokens) = (is_final token.lexeme ≡ false) × EndFinallyFrom next tokens

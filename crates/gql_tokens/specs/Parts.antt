@@ -32,7 +32,7 @@ IsNumeral cs =
     (integer : List ℕ) × (part : List ℕ) × (cs ≡ integer ++ part) × IsInteger integer
     × IsFloatPart part
 
--- The fronts of a text that have this form and no bad character behind them: there is none, or none
+-- The fronts of a text that have this form and no bad character after them: there is none, or none
 -- but the one of this length.
 abbrev pub OnlyFront : (List ℕ → Type 0) → (bad : ℕ → Bool) → List ℕ → Option ℕ → Type 0
 OnlyFront Form bad text (Some n) =
@@ -62,7 +62,7 @@ abbrev pub IsStringAt : List ℕ → List ℕ → ℕ → Type 0
 IsStringAt text bytes n = (n ≤ length text) × ((value : List ℕ) × IsString value (take n text)
     × (bytes ≡ encode_utf8_all value))
 
--- The text behind the quotes that open a block string has no end of one.
+-- The text after the quotes that open a block string has no end of one.
 abbrev pub IsUnended : List ℕ → Type 0
 IsUnended text =
     (pieces : List Piece) (rest : List ℕ) → text ≡ written pieces ++ (three_quotes ++ rest)
@@ -133,7 +133,7 @@ StandsAt lexeme n text =
     ⊎ ((n ≤ length text) × IsToken lexeme (take n text) (drop n text) × (is_final lexeme ≡ false))
 
 -- The first token of a text that begins at `place`, how far it reaches with what is ignored before
--- it, and the place behind it: it is the last, or whatever tokens stand behind it stand behind it
+-- it, and the place after it: it is the last, or whatever tokens stand after it stand after it
 -- in the text too.
 pub record IsStep (place : Pos) (text : List ℕ) (token : Token) (n : ℕ) (behind : Pos) : Type 0
   where

@@ -11,13 +11,13 @@ abbrev pub ends_line : ℕ → List ℕ → Bool
 ends_line c rest =
     c == line_feed || (c == carriage_return && not (begins (λ d. d == line_feed) rest))
 
--- the place behind a character, which `rest` follows
+-- the place after a character, which `rest` follows
 abbrev pub next_place : Pos → ℕ → List ℕ → Pos
 next_place place c rest =
     if ends_line c rest then record { line = place.line + 1; column = 1 }
     else record { line = place.line; column = place.column + 1 }
 
--- the place behind some characters, which `rest` follows
+-- the place after some characters, which `rest` follows
 abbrev pub place_after : Pos → List ℕ → List ℕ → Pos
 place_after place [] rest = place
 place_after place (c ∷ cs) rest = place_after (next_place place c (cs ++ rest)) cs rest

@@ -7,11 +7,11 @@ use Rattle.gql_tokens.specs.Token.{is_final}
 use Rattle.gql_tokens.specs.Lexer.{Lexes}
 use Rattle.gql_tokens.specs.Parts.{NoBlockEnds}
 
--- the characters that are left behind so many bytes
+-- the characters that are left after so many bytes
 abbrev pub left : List ℕ → ℕ → List ℕ
 left text at = chars (drop at text)
 
--- so many bytes of the text were read, and the place is the one behind them
+-- so many bytes of the text were read, and the place is the one after them
 pub record IsReached (text : List ℕ) (reached : Reached) : Type 0 where
   pub boundary : IsCharBoundary text reached.at
   pub line : reached.place.line ≤ 1 + reached.at
@@ -19,7 +19,7 @@ pub record IsReached (text : List ℕ) (reached : Reached) : Type 0 where
   pub known : reached.blocks_end ≡ false → NoBlockEnds (left text reached.at)
 
 -- the token that follows, and what is reached with it: it is the last, or whatever tokens stand
--- behind it follow it
+-- after it follow it
 pub record IsNext (text : List ℕ) (here : Reached) (token : Token) (behind : Reached) : Type 0
   where
     pub last : is_final token.lexeme ≡ true → Lexes here.place (left text here.at) (token ∷ [])

@@ -11,7 +11,7 @@ use Rattle.gql_tokens.specs.Characters.{is_line_end, is_source}
 abbrev pub is_plain : ℕ → Bool
 is_plain c = (is_source c && not (is_line_end c)) && not (c == quote || c == backslash)
 
--- what a character behind a backslash stands for
+-- what a character after a backslash stands for
 abbrev pub escaped : ℕ → Option ℕ
 escaped c =
     if c == quote || (c == backslash || c == 47) then Some c

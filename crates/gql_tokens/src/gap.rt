@@ -12,7 +12,7 @@ use crate::characters::{is_blank, is_comment_character, is_line_end};
 use crate::place::{next_place, place_after};
 use gql_base::Pos;
 
-/// How many bytes at the front of a text are ignored, and the place behind them.
+/// How many bytes at the front of a text are ignored, and the place after them.
 #[derive(Clone, Copy, Debug)]
 pub struct Gap {
     pub length: usize,

@@ -106,7 +106,7 @@ fn empty_string(alloc: Global) -> Reading
 }
 
 /// The string at three quotes. `blocks_end` is false once a block string has no end: then none
-/// behind it has.
+/// after it has.
 fn block_token(alloc: Global, text: &str, blocks_end: &mut bool) -> Made<Reading>
     requires first { starts_with nat_eq text.now three_quotes ≡ true }
     requires known { blocks_end.old ≡ false → NoBlockEnds (chars text.now) }
@@ -234,7 +234,7 @@ pub fn is_final(lexeme: &Lexeme) -> bool
     )
 }
 
-/// The place behind a token of so many bytes. No line ends in a punctuator, a name or a number, and
+/// The place after a token of so many bytes. No line ends in a punctuator, a name or a number, and
 /// each of their characters is one byte.
 fn place_behind(pos: Pos, lexeme: &Lexeme, text: &[u8], count: usize) -> Pos
     requires utf8 { IsUtf8 text.now }
@@ -256,7 +256,7 @@ fn place_behind(pos: Pos, lexeme: &Lexeme, text: &[u8], count: usize) -> Pos
     }
 }
 
-/// A token, how many bytes far it and what is ignored before it reach, and the place behind it.
+/// A token, how many bytes far it and what is ignored before it reach, and the place after it.
 #[derive(Drop)]
 pub struct Step {
     pub token: Token,

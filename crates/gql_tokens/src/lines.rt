@@ -88,7 +88,7 @@ fn common_indent(text: &[u8]) -> Option<usize>
 }
 
 /// The lines of a block string so far, joined, without the first blank ones. The last blank ones
-/// stand behind `length`.
+/// stand after `length`.
 #[derive(Drop)]
 struct Kept {
     text: String,

@@ -107,14 +107,14 @@ fn is_bad_after_number(c: u8) -> bool
 }
 
 /// A number at the front of a text: how long its integer is, and the fraction and the exponent
-/// behind it.
+/// after it.
 #[derive(Clone, Copy, Debug)]
 pub struct Numeral {
     pub integer: usize,
     pub part: usize,
 }
 
-/// The number at the text's front, with nothing behind it that may not follow a number.
+/// The number at the text's front, with nothing after it that may not follow a number.
 pub fn numeral_at(text: &[u8]) -> Option<Numeral>
     ensures { MatchOption result (OnlyFront IsNumeral is_bad_after_number text.now None)
         (λ numeral. IsNumeralAt text.now numeral.integer numeral.part) }

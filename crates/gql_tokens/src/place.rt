@@ -13,7 +13,7 @@ fn goes_on_with(b: u8) -> bool
     b >= 128 && b < 192
 }
 
-/// The place behind the byte `b`, which `more` follows.
+/// The place after the byte `b`, which `more` follows.
 pub fn next_place(place: Pos, b: u8, more: &[u8]) -> Pos
     requires line { place.line + 1 < 2 ^ 64 }
     requires column { place.column + 1 < 2 ^ 64 }
@@ -41,7 +41,7 @@ pub fn next_place(place: Pos, b: u8, more: &[u8]) -> Pos
     }
 }
 
-/// The place behind the first `count` bytes of a text that begins at `place`. A column is one
+/// The place after the first `count` bytes of a text that begins at `place`. A column is one
 /// character: bytes that go on with one aren't counted.
 pub fn place_after(place: Pos, text: &[u8], count: usize) -> Pos
     requires utf8 { IsUtf8 text.now }

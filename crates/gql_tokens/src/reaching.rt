@@ -9,8 +9,8 @@ use crate::token::Token;
 use gql_base::{Made, Pos};
 use std::alloc::Global;
 
-/// How far a text was read: so many bytes, and the place behind them. `blocks_end` is false
-/// once a block string has no end: then none behind it has.
+/// How far a text was read: so many bytes, and the place after them. `blocks_end` is false
+/// once a block string has no end: then none after it has.
 #[derive(Clone, Copy, Debug)]
 pub struct Reached {
     pub at: usize,
@@ -33,7 +33,7 @@ impl Reached {
     }
 }
 
-/// Reads the token that follows what was reached. Where memory is wanting nothing more is reached.
+/// Reads the token that follows what was reached. Where memory runs out nothing more is reached.
 pub fn next_token(alloc: Global, text: &str, reached: &mut Reached) -> Made<Token>
     requires { IsReached text.now reached.old }
     ensures reached { IsReached text.now reached.new }

@@ -32,7 +32,7 @@ fn begins_with_quote(text: &[u8]) -> bool
     matches!(text, [b'"', ..])
 }
 
-/// What a character behind a backslash stands for.
+/// What a character after a backslash stands for.
 fn escaped(b: u8) -> Option<char>
     ensures { result ≡ escaped b }
 {

@@ -13,7 +13,7 @@ use Rattle.gql_tokens.proofs.block.body_at.Goals as goal
 bare_is : (text bytes : List ℕ) (at k : ℕ) → bytes ≡ text → k ≡ prefix_len is_bare (take (length bytes - at) (drop at bytes)) → k ≡ prefix_len is_bare (drop at text)
 bare_is text bytes at k same e = e ∙ ap (prefix_len is_bare) (rest_is text bytes at same)
 
--- behind these characters
+-- after these characters
 behind_bare : (text bytes raw longer : List ℕ) (at k : ℕ) → bytes ≡ text → IsUtf8 text → IsBodyTo text raw at
     → k ≡ prefix_len is_bare (take (length bytes - at) (drop at bytes)) → longer ≡ raw ++ take (at + k - at) (drop at text)
     → IsBodyTo text longer (at + k)

@@ -13,7 +13,7 @@ use Rattle.gql_tokens.proofs.string.string_at.Goals as goal
 plain_is : (text bytes : List ℕ) (at k : ℕ) → bytes ≡ text → k ≡ prefix_len is_plain (take (length bytes - at) (drop at bytes)) → k ≡ prefix_len is_plain (drop at text)
 plain_is text bytes at k same e = e ∙ ap (prefix_len is_plain) (rest_is text bytes at same)
 
--- behind the plain characters at a place
+-- after the plain characters at a place
 behind_plain : (text bytes value longer : List ℕ) (at k : ℕ) → bytes ≡ text → IsUtf8 text → IsReadTo text value at
     → k ≡ prefix_len is_plain (take (length bytes - at) (drop at bytes)) → longer ≡ value ++ take (at + k - at) (drop at text)
     → IsReadTo text longer (at + k)
