@@ -255,7 +255,7 @@ fn telling_error(alloc: Global, truth: bool) -> Made<Error> {
     Ok(error)
 }
 
-/// The message of an error, and behind it what it tells, if anything.
+/// The message of an error, and after it what it tells, if anything.
 fn error_text(alloc: Global, error: &Error) -> Made<Text> {
     let mut out = String::from_str(alloc, error.message.as_str())?;
     if let Some(values) = &error.extensions {

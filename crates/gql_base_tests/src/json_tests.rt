@@ -53,7 +53,7 @@ fn numbers(rt: HostRuntime) -> Result<(), Fail> {
     Ok(())
 }
 
-/// The steps to a place, each behind a blank.
+/// The steps to a place, each after a blank.
 fn place_text(alloc: Global, place: JsonPlace) -> Made<Text> {
     let mut out = String::from_str(alloc, "bad")?;
     let mut place = place.try_clone(alloc)?;
@@ -169,7 +169,7 @@ fn types(rt: HostRuntime) -> Result<(), Fail> {
     Ok(())
 }
 
-/// A type's text behind its innermost name, and whether it is nullable and its copy equals it.
+/// A type's text after its innermost name, and whether it is nullable and its copy equals it.
 fn type_parts(alloc: Global, ty: TypeRef) -> Made<Text> {
     let nullable = ty.is_nullable();
     let same = copies(alloc, &ty)?;

@@ -103,7 +103,7 @@ fn inserted(alloc: Global, pairs: &mut Pairs<i64>, name: &str, value: i64) -> Ma
     pairs.insert(Name::new(alloc, name)?, value)
 }
 
-/// Whether pairs begin with the number 3 under the name b, and one more stands behind it.
+/// Whether pairs begin with the number 3 under the name b, and one more stands after it.
 fn begin_with_three(pairs: &Pairs<i64>) -> bool {
     pairs.len() == 2 && pairs.pair_at(0).0.as_str() == "b" && *pairs.at(0).1 == 3
 }

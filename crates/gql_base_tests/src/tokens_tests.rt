@@ -53,7 +53,7 @@ fn show_token(out: &mut String, token: &Token) -> Made<()> {
     }
 }
 
-/// The tokens of a text, each behind a blank but the first.
+/// The tokens of a text, each after a blank but the first.
 fn shown(alloc: Global, text: &str) -> Made<String> {
     let tokens = tokens_of(alloc, text)?;
     let mut out = String::new(alloc);
@@ -172,7 +172,7 @@ fn tokens_have_their_places(rt: HostRuntime) -> Result<(), Fail> {
     Ok(())
 }
 
-/// The second token of a text, which is read behind the first.
+/// The second token of a text, which is read after the first.
 fn second_of(alloc: Global, text: &str) -> Made<Token> {
     let mut reached = Reached::start();
     drop(next_token(alloc, text, &mut reached)?);
@@ -235,7 +235,7 @@ fn is_string(token: &Token, value: &str) -> bool {
     }
 }
 
-/// Whether a block string is one token of this value, behind which its text ends.
+/// Whether a block string is one token of this value, after which its text ends.
 fn has_value(alloc: Global, raw: &str, value: &str) -> Made<bool> {
     let text = format!(in alloc; "\"\"\"{raw}\"\"\"")?;
     let tokens = tokens_of(alloc, text.as_str())?;

@@ -4,7 +4,7 @@ use Rattle.gql_collect.specs.Collecting.{ReadsAlike, setting_by}
 use Rattle.gql_collect.specs.declared.collector.Collector.{Collector}
 
 module _ (collector : Collector) where
-  -- what is possible beneath fields counts for nothing
+  -- what is possible under fields counts for nothing
   other_beneath : ReadsAlike collector (record (setting_by collector) { beneath = λ object name. object ∷ [] })
   other_beneath = record { fragments_are = refl; levels_are = refl; covers_are = refl }
 

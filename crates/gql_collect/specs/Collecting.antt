@@ -13,7 +13,7 @@ use Rattle.gql_select.specs.Collected.{Setting, collect, collect_within, fields_
 use Rattle.gql_select.specs.Collected.{fields_of_spread}
 use Rattle.gql_collect.specs.declared.collector.Collector.{Collector}
 
--- what a collector reads sets by; which objects are possible beneath a field is nothing to it
+-- what a collector reads sets by; which objects are possible under a field is nothing to it
 abbrev pub setting_by : Collector → Setting
 setting_by collector = record {
   fragments = collector.fragments.now;

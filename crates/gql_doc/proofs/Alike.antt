@@ -35,7 +35,7 @@ is_value (Err other) = false
 never : {C X : Type 0} → (c : C) (trouble : Trouble) (s t : Tokens) → gives c s ≡ stopped trouble t → X
 never c trouble s t e = absurd (let k : true ≡ false = ap (λ reading. is_value reading.0) e in cc)
 
--- what is made of what two readers read, one behind the other
+-- what is made of what two readers read, one after the other
 pub regroup : {A B C : Type 0} → (f : Reader A) (g : A → Reader B) (u : B → C) (tokens : Tokens) → mapped u (f then g) tokens ≡ (f then (λ a. mapped u (g a))) tokens
 regroup {A} {B} {C} f g u tokens = go (f tokens).0 (f tokens).1
   where
@@ -55,7 +55,7 @@ module _ {A B C : Type 0} (h : A → C) (k : B → C) where
     then_alike f g tokens e = go (f tokens).0 (f tokens).1 (g tokens).0 (g tokens).1 e
 
   module _ {X Y Z : Type 0} (u : X → Z) (v : Y → Z) where
-    -- one reader behind another
+    -- one reader after another
     pub bind_alike : (f : Reader A) (g : Reader B) (F : A → Reader X) (G : B → Reader Y) (tokens : Tokens) → mapped h f tokens ≡ mapped k g tokens
         → ((a : A) (b : B) (rest : Tokens) → h a ≡ k b → mapped u (F a) rest ≡ mapped v (G b) rest) → mapped u (f then F) tokens ≡ mapped v (g then G) tokens
     bind_alike f g F G tokens e same =
@@ -73,7 +73,7 @@ module _ {A B C : Type 0} (h : A → C) (k : B → C) where
       regroup f (λ a. gives (F a)) u tokens
       ∙ then_alike (λ a. gives (u (F a))) (λ b. gives (v b)) (λ a b rest i. ap (λ z. (Ok z, rest)) (same a b i)) f g tokens e
 
-  -- with a close behind
+  -- with a close after
   pub ended_alike : {D : Type 0} → (f : Reader A) (g : Reader B) (closes : Reader D) (tokens : Tokens) → mapped h f tokens ≡ mapped k g tokens
       → mapped h (ended f closes) tokens ≡ mapped k (ended g closes) tokens
   ended_alike f g closes tokens e =
@@ -125,7 +125,7 @@ module _ {A B C : Type 0} (u : A → C) (v : B → C) where
   choose_alike false f f' g g' tokens one other = other
 
   module _ (sign : Punctuator) where
-    -- behind a sign
+    -- after a sign
     pub sign_first : (g : Pos → Reader B) (tokens : Tokens) → begins (is_sign sign) tokens ≡ true → mapped v (take_sign sign then g) tokens ≡ mapped v (g (place_of tokens)) (behind_first tokens)
     sign_first g tokens next = regroup (take_sign sign) g v tokens ∙ ap (λ reading. go_on reading.0 reading.1 (λ pos. mapped v (g pos))) (sign_taken sign tokens next)
 

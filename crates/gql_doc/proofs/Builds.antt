@@ -16,7 +16,7 @@ abbrev pub doubled_in_member : List (List ℕ) → MemberTree → Option Pos
 doubled_in_member names member =
     option_or (if_doubled names member.name) (doubled_in_value member.value)
 
--- the first fault of members, behind those of these names
+-- the first fault of members, after those of these names
 abbrev pub doubled_among_members : List (List ℕ) → List MemberTree → Option Pos
 doubled_among_members names [] = None
 doubled_among_members names (x ∷ xs) =

@@ -29,7 +29,7 @@ pub are_end : (ts : Tokens) → EndFinally ts → Ends ts
 are_end [] none = absurd none
 are_end (t ∷ ts) more = ends_behind t ts more
 
--- nothing stands behind a final token
+-- nothing stands after a final token
 pub final_last : (front : Tokens) (t : Token) (rest : Tokens) → EndFinally (front ++ t ∷ rest) → is_final t.lexeme ≡ true → rest ≡ []
 final_last [] t [] are final = refl
 final_last [] t (u ∷ us) (other, more) final = absurd (cc (other, final))

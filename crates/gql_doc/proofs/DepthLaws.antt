@@ -54,7 +54,7 @@ module _ (fragments : Fragments) where
       (λ inner. deep_less less more inner (omega arith)))
       (selections_of set) none
 
-  -- the sets beneath a set that nests within one level more
+  -- the sets under a set that nests within one level more
   pub nests_beneath : (left : ℕ) (set : Positioned SelectionSet) (selection : Positioned Selection) (inner : Positioned SelectionSet)
       → deep_from fragments (suc left) set ≡ None → Contains (selections_of set) selection → set_beneath fragments selection ≡ Some inner
       → deep_from fragments left inner ≡ None

@@ -1,4 +1,4 @@
--- What stands behind a part of the grammar, as far as one token of sight shows it.
+-- What stands after a part of the grammar, as far as one token of sight shows it.
 use Rattle.std.proofs.Common.{◌≡◌, ℕ, true, false, not, List, [], ◌∷◌, ◌++◌, Some, None, refl, sym, ap, ◌∙◌, subst, append_assoc}
 use denote.Enum.Bare.{sameb}
 use Rattle.gql_base.specs.declared.pos.Pos.{Pos}
@@ -64,7 +64,7 @@ pub name_is_other : (other : Punctuator) (rest : Tokens) → NextIsName rest →
 name_is_other other [] next = absurd (cc next)
 name_is_other other (t ∷ rest) next = ap not (no_sign other t.lexeme next)
 
--- A word, and what follows it: where the one stands behind, the other begins.
+-- A word, and what follows it: where the one stands after, the other begins.
 abbrev pub Before : {A : Type 0} → (A → Language) → (Tokens → Type 0) → (Tokens → Type 0) → Type 0
 Before {A} D G F = (v : A) (ms : Word) (rest : Tokens) → D v ms → G rest → F (tokens_of ms ++ rest)
 

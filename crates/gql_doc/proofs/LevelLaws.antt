@@ -90,7 +90,7 @@ unfolding type_at list_type_at
 type_step zero tokens = refl
 type_step (suc n) tokens = refl
 
--- One reader behind another, where the second is the same.
+-- One reader after another, where the second is the same.
 pub then_same : {A B : Type 0} → (f : Reader A) (g h : A → Reader B) → ((a : A) (rest : Tokens) → g a rest ≡ h a rest) → (tokens : Tokens) → (f then g) tokens ≡ (f then h) tokens
 then_same {A} {B} f g h same tokens = go (f tokens).0 (f tokens).1
   where

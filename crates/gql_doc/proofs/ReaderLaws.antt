@@ -14,7 +14,7 @@ abbrev pub deep_token : Token → Marked
 deep_token token = record { token = token; deep = true }
 
 -- The tokens up to the rest are the front of a word, in which nothing is too deep; a value has them for its word, an
--- unexpected token stands behind them, and a token that opens too deep goes on in a word.
+-- unexpected token stands after them, and a token that opens too deep goes on in a word.
 abbrev pub Explains : {A : Type 0} → (A → Language) → Tokens → Result A Trouble → Tokens → Type 0
 Explains D tokens (Ok v) rest = (c : Word) × (tokens ≡ tokens_of c ++ rest) × NoneDeep c × D v c
 Explains {A} D tokens (Err Unexpected) rest =
@@ -313,7 +313,7 @@ module _ {A : Type 0} (test : Token → Bool) (f g : Reader A) where
 -- Repetition.
 
 module _ {A : Type 0} (test : Token → Bool) (f : Reader A) where
-  -- one more, and those behind it
+  -- one more, and those after it
   another : ℕ → Reader (List A)
   another n = f then (λ a. mapped (λ more. a ∷ more) (many_at n test f))
 

@@ -87,7 +87,7 @@ module _ (levels : ℕ) where
       (choice (is_sign sign.OpenBracket) list (mapped (λ (name : PlacedName). type.Named name.node) take_name) IsListType IsNamedType Always Always Always lists named_reads bracket_next named_apart (λ rest g. g) (λ rest g. g))
       nullable_to nullable_from (λ rest g. g)
 
-  -- A `!` behind it.
+  -- A `!` after it.
 
   abbrev Behind : TypeRef → TypeRef → Language
   Behind t = Either (Map (λ _. type.NonNull t) (SignAt sign.Bang)) (Pure t)

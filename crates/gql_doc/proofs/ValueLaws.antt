@@ -159,7 +159,7 @@ member_starts variables levels member ms rest (x, y, e, n, h) =
 
 -- Lists, objects and all values.
 
--- closing behind many
+-- closing after many
 pub closed_reads : {A : Type 0} → (close : Punctuator) (f : Reader A) (D : A → Language) → Reads f D Always → Starts (other_than close) D → Reads (ended (many (other_than close) f) (take_sign close)) (λ vs. Each D vs ▸ SomeOf (SignAt close)) Always
 closed_reads close f D reads starts =
     ended_reads (many (other_than close) f) (Each D) (take_sign close) (SignAt close) (NextIs close) Always

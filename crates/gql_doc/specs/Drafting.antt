@@ -65,7 +65,7 @@ unfoldable pub open_at : Punctuator → ℕ → Reader (Option Opened)
 open_at mark levels tokens =
     choose (begins (is_sign mark) tokens) (opened levels) (gives None) tokens
 
--- what is behind a bracket, or else
+-- what is after a bracket, or else
 abbrev pub if_open : {A : Type 0} → Option Opened → (Opened → Reader A) → Reader A → Reader A
 if_open None inner other = other
 if_open (Some here) inner other = inner here
@@ -74,7 +74,7 @@ if_open (Some here) inner other = inner here
 abbrev pub stopped : {A : Type 0} → Trouble → Reader A
 stopped trouble tokens = (Err trouble, tokens)
 
--- a bracket that is next, with a reader of what is behind it, unless no level is left
+-- a bracket that is next, with a reader of what is after it, unless no level is left
 abbrev pub behind : {A : Type 0} → Option (Pos → Reader A) → Reader A
 behind None tokens = (Err TooDeep, tokens)
 behind (Some inner) tokens = inner (place_of tokens) (behind_first tokens)
@@ -148,8 +148,8 @@ unfoldable pub value_draft : Variables → ℕ → Reader (Draft DocValue)
 value_draft variables zero tokens = value_by variables None tokens
 value_draft variables (suc n) tokens = value_by variables (Some (value_draft variables n)) tokens
 
--- the values of a list, a list behind its bracket, a member, the members of an object and an object
--- behind its brace, where so many levels are left within
+-- the values of a list, a list after its bracket, a member, the members of an object and an object
+-- after its brace, where so many levels are left within
 unfoldable pub values_draft : Variables → ℕ → Reader (Draft (List DocValue))
 values_draft variables n = items_by (other_than sign.CloseBracket) (value_draft variables n)
 
@@ -211,7 +211,7 @@ directives_draft variables = items_by (is_sign sign.At) (directive_draft variabl
 
 -- Types (section 2.11).
 
--- a list type behind its bracket
+-- a list type after its bracket
 abbrev pub list_type_behind : Reader TypeRef → Reader TypeRef
 list_type_behind inner = mapped type.List (ended inner (take_sign sign.CloseBracket))
 
@@ -297,7 +297,7 @@ inline_of pos condition directives set =
       doubled = option_or directives.doubled set.doubled;
     }
 
--- what is behind the brace of a set, if a level is left
+-- what is after the brace of a set, if a level is left
 abbrev pub Inner : Type 0
 Inner = Option (Pos → Reader SetDraft)
 
@@ -340,7 +340,7 @@ behind_brace item pos =
     mapped (remade (set_of pos))
     (ended (some_by (other_than sign.CloseBrace) item) (take_sign sign.CloseBrace))
 
--- what is behind the brace of a set, where so many levels are left
+-- what is after the brace of a set, where so many levels are left
 unfoldable pub inner_at : ℕ → Inner
 inner_at zero = None
 inner_at (suc n) = Some (behind_brace (selection_by (inner_at n)))

@@ -20,7 +20,7 @@ plain part = record { part = part; doubled = None }
 abbrev pub remade : {A B : Type 0} → (A → B) → Draft A → Draft B
 remade make draft = record { part = make draft.part; doubled = draft.doubled }
 
--- one more behind those of a list
+-- one more after those of a list
 abbrev pub added : {A : Type 0} → Draft (List A) → Draft A → Draft (List A)
 added list item =
     record { part = list.part ++ item.part ∷ []; doubled = option_or list.doubled item.doubled }
@@ -34,7 +34,7 @@ abbrev pub with_fresh : {A : Type 0} → List (List ℕ × A) → List ℕ → A
 with_fresh pairs name part =
     if is_among name (names_of pairs) then pairs else pairs ++ (name, part) ∷ []
 
--- one more member behind those of an object
+-- one more member after those of an object
 abbrev pub with_member : {A : Type 0} → Draft (List (List ℕ × A)) → PlacedName × Draft A
     → Draft (List (List ℕ × A))
 with_member members member =

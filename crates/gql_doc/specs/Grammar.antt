@@ -117,7 +117,7 @@ IsDirective variables directive =
 abbrev pub AreDirectives : Variables → List DirectiveTree → Language
 AreDirectives variables = Each (IsDirective variables)
 
--- Type (section 2.11): the type in a box is the one type of its row, and a `!` stands behind a type
+-- Type (section 2.11): the type in a box is the one type of its row, and a `!` stands after a type
 -- that has none
 abbrev mutual
   pub IsType : ℕ → TypeRef → Language

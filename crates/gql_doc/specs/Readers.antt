@@ -1,5 +1,5 @@
 -- Readers: what recursive descent with one token of sight answers for the tokens that are left. A
--- reading is a value or the trouble, with the tokens behind the value, or those from the trouble
+-- reading is a value or the trouble, with the tokens after the value, or those from the trouble
 -- on.
 use Rattle.std.specs.Prelude.{◌≡◌, ℕ, zero, suc, Bool, true, false, List, [], ◌∷◌, length, Option}
 use Rattle.std.specs.Prelude.{Some, None}
@@ -19,7 +19,7 @@ Reading A = Result A Trouble × Tokens
 abbrev pub Reader : Type 0 → Type 0
 Reader A = Tokens → Reading A
 
--- goes on behind a value, and stops at trouble
+-- goes on after a value, and stops at trouble
 abbrev pub go_on : {A B : Type 0} → Result A Trouble → Tokens → (A → Reader B) → Reading B
 go_on (Ok a) rest next = next a rest
 go_on (Err trouble) rest next = (Err trouble, rest)
@@ -35,11 +35,11 @@ gives a tokens = (Ok a, tokens)
 abbrev pub mapped : {A B : Type 0} → (A → B) → Reader A → Reader B
 mapped h f = f then (λ a. gives (h a))
 
--- the second, behind the first
+-- the second, after the first
 abbrev pub past : {A B : Type 0} → Reader A → Reader B → Reader B
 past f g = f then (λ _. g)
 
--- the first, with the second behind it
+-- the first, with the second after it
 abbrev pub ended : {A B : Type 0} → Reader A → Reader B → Reader A
 ended f g = f then (λ a. mapped (λ _. a) g)
 
@@ -53,7 +53,7 @@ abbrev pub first : Tokens → Option Token
 first [] = None
 first (token ∷ tokens) = Some token
 
--- the tokens behind the next
+-- the tokens after the next
 abbrev pub behind_first : Tokens → Tokens
 behind_first [] = []
 behind_first (token ∷ tokens) = tokens
@@ -108,7 +108,7 @@ abbrev pub too_deep : {A : Type 0} → (Token → Bool) → Reader A
 too_deep opens tokens = choose (begins opens tokens) (λ here. (Err TooDeep, here))
     (λ here. (Err Unexpected, here)) tokens
 
--- What a function returned, and the tokens that it left, are the reading; but want of memory says
+-- What a function returned, and the tokens that it left, are the reading; but out of memory says
 -- nothing.
 abbrev pub Leaves : {A : Type 0} → Result A ReadError → Tokens → Reading A → Type 0
 Leaves (Ok a) left reading = reading ≡ (Ok a, left)

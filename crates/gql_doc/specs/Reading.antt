@@ -447,7 +447,7 @@ parsed (Err trouble) rest = Err (record { kind = kind_at trouble rest; pos = pla
 abbrev pub parsed_by : {A : Type 0} → Reader A → Tokens → Result A ParseFault
 parsed_by f tokens = parsed (f tokens).0 (f tokens).1
 
--- the fault at the next token, unless memory is wanting
+-- the fault at the next token, unless memory runs out
 abbrev pub IsFaultAt : Tokens → ReadError → Result ParseFault AllocError → Type 0
 IsFaultAt rest Memory answer = IsErr answer
 IsFaultAt rest (Stopped trouble) answer =

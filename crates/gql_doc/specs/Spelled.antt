@@ -49,7 +49,7 @@ pub record IsDocumentFault (text : List ℕ) (fault : ParseFault) : Type 0 where
   pub lexed : AreTokensOf text tokens
   pub first : IsFault IsDocument tokens fault ⊎ BreaksRule tokens fault
 
--- the text spells the type, and nothing behind it
+-- the text spells the type, and nothing after it
 pub record SpellsType (text : List ℕ) (type : TypeRef) : Type 0 where
   pub tokens : Tokens
   pub lexed : AreTokensOf text tokens

@@ -32,7 +32,7 @@ module _ {A : Type 0} (D : A → Language) where
     pub derived : D tree word
     pub same : tokens_of word ≡ front ++ more
 
-  -- behind these tokens, which open nothing too deep, this token does
+  -- after these tokens, which open nothing too deep, this token does
   pub record OpensTooDeep (front : Tokens) (token : Token) : Type 0 where
     pub tree : A
     pub before : Word
@@ -41,7 +41,7 @@ module _ {A : Type 0} (D : A → Language) where
     pub same : tokens_of before ≡ front
     pub within : NoneDeep before
 
-  -- what is wrong with a token behind these
+  -- what is wrong with a token after these
   abbrev pub IsWrong : Tokens → Token → ParseKind → Type 0
   IsWrong front token kind.Nesting = OpensTooDeep front token
   IsWrong front token kind.Operations = ⊥

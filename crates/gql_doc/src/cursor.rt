@@ -26,7 +26,7 @@ use std::alloc::Global;
 use std::marker::Model;
 use std::mem;
 
-/// The tokens that are left to read. The next one is at hand, and those behind it are read from the
+/// The tokens that are left to read. The next one is at hand, and those after it are read from the
 /// text as they are asked for. Contracts see them all, in their order.
 #[derive(Drop)]
 pub struct Cursor<'a> {
@@ -57,7 +57,7 @@ pub struct Opened {
     pub levels: usize,
 }
 
-/// Whether no token stands behind this one.
+/// Whether no token stands after this one.
 fn is_last(next: &Option<Token>) -> bool
     ensures { result ≡ is_last next.now }
 {

@@ -36,7 +36,7 @@ pub fn read_set(
     }
 }
 
-/// Reads a set behind its brace. So many levels may open within.
+/// Reads a set after its brace. So many levels may open within.
 #[cycle(set)]
 #[tactic(auto, unfolding(crate::specs::Drafting::set_behind))]
 fn read_set_behind(
@@ -182,7 +182,7 @@ fn read_set_or_none(
     }))
 }
 
-/// Reads the spread of a fragment, or an inline fragment, behind its dots.
+/// Reads the spread of a fragment, or an inline fragment, after its dots.
 #[cycle(set)]
 #[tactic(auto, unfolding(crate::specs::Drafting::spread_draft))]
 fn read_spread(
@@ -200,7 +200,7 @@ fn read_spread(
     }
 }
 
-/// Reads the spread of a fragment behind its dots.
+/// Reads the spread of a fragment after its dots.
 #[tactic(auto, unfolding(crate::specs::Drafting::spread_behind))]
 fn read_spread_behind(
     alloc: Global,
@@ -222,7 +222,7 @@ fn read_spread_behind(
     })
 }
 
-/// Reads an inline fragment behind its dots.
+/// Reads an inline fragment after its dots.
 #[cycle(set)]
 #[tactic(auto, unfolding(crate::specs::Drafting::inline_behind))]
 fn read_inline_behind(

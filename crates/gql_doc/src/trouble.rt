@@ -9,7 +9,7 @@ pub enum Trouble {
     TooDeep,
 }
 
-/// Why a reader has no value: memory is wanting, or there is trouble at the next token.
+/// Why a reader has no value: memory runs out, or there is trouble at the next token.
 #[derive(Clone, Copy, PartialEq, Eq)]
 pub enum ReadError {
     Memory,

@@ -39,7 +39,7 @@ pub fn read_type(
     read_bang(alloc, cursor, bare)
 }
 
-/// Reads the `!` behind a type, if one is there.
+/// Reads the `!` after a type, if one is there.
 #[tactic(auto, using(crate::proofs::LevelLaws::bang_step))]
 fn read_bang(alloc: Global, cursor: &mut Cursor<'_>, bare: TypeRef) -> Result<TypeRef, ReadError>
     ensures { Leaves result cursor.new (null_or_not bare cursor.old) }
@@ -67,7 +67,7 @@ fn read_bare_type(
     Ok(TypeRef::Named(name.node))
 }
 
-/// Reads a list type behind its bracket. So many levels may open within.
+/// Reads a list type after its bracket. So many levels may open within.
 #[cycle(ty)]
 fn read_list_type(
     alloc: Global,

@@ -82,7 +82,7 @@ fn read_variable_or_scalar(cursor: &mut Cursor<'_>) -> Result<DocValue, ReadErro
     Ok(DocValue::Variable(name.node))
 }
 
-/// Reads a list behind its bracket. So many levels may open within.
+/// Reads a list after its bracket. So many levels may open within.
 #[cycle(value)]
 #[tactic(auto, unfolding(crate::specs::Drafting::list_draft))]
 fn read_list(
@@ -119,7 +119,7 @@ fn read_values(
     Ok(values)
 }
 
-/// Reads an object behind its brace. So many levels may open within.
+/// Reads an object after its brace. So many levels may open within.
 #[cycle(value)]
 #[tactic(auto, unfolding(crate::specs::Drafting::object_draft))]
 fn read_object(

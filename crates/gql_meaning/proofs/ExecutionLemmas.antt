@@ -27,7 +27,7 @@ use Rattle.gql_select.specs.Grouped.{grouped, world_behind}
 use Rattle.gql_select.specs.Reading.{merged, over}
 
 module _ {V : Type 0} (is_root : Bool) (execution : Execution) (answer : Call V → Answer V) where
-  -- what a field comes to has objects alone that are possible beneath it
+  -- what a field comes to has objects alone that are possible under it
   number_fits : (declared : Declared) (parent : FieldValue V) (arguments : List (List ℕ × Value)) (number : Option ℕ) (inner : List ℕ)
       → Contains (objects_in (answered_outcome is_root execution answer (asking_at is_root execution parent arguments (record declared { number = number }))).shape) inner
       → Contains (objects_of execution.schema.table (Some declared)) inner

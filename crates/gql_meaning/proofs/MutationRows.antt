@@ -53,7 +53,7 @@ cells = over_table cells_table []
 abbrev by : Call ℕ → ℕ
 by call = unwrap_or (option_and_then unsigned_number_of (under (codes "by") call.arguments)) 1
 
--- the cell behind a call: `bump` raises it
+-- the cell after a call: `bump` raises it
 abbrev effect : Call ℕ → ℕ → ℕ
 effect call cell = if call.resolver == 1 then cell + by call else cell
 
@@ -97,7 +97,7 @@ bumped = record {
   headers = [];
 }
 
--- the doubled key is answered once, and each key sees the world behind those before it
+-- the doubled key is answered once, and each key sees the world after those before it
 doubled_roots : response (at 1) (mutation_merged cells effect answer 4 bumping 0) ≡ bumped
 unfolding out-Selection out-Field out-InlineFragment roll-Field roll-InlineFragment out roll shown-the_row-SelectionSet-items-2-0 shown hidden
 doubled_roots = ap (response (at 1)) members_are

@@ -40,7 +40,7 @@ one_if None = 0
 one_if (Some asking) = 1
 
 module _ {V : Type 0} (execution : Execution) (answer : Call V → Answer V) where
-  -- what is asked for a field, as a root of a mutation or as another, and for all beneath it
+  -- what is asked for a field, as a root of a mutation or as another, and for all under it
   abbrev pub count_as : Bool → List ℕ → FieldValue V → Positioned Field
       → Beneath (List ℕ) (FieldValue V) ℕ
       → ℕ
@@ -66,7 +66,7 @@ module _ {V : Type 0} (execution : Execution) (answer : Call V → Answer V) whe
 
 module _ {V W : Type 0} (execution : Execution) (answer : Call V → W → Answer V)
     (effect : Call V → W → W) where
-  -- how the root keys of a mutation become numbers, each in the world so far, and what is beneath
+  -- how the root keys of a mutation become numbers, each in the world so far, and what is under
   -- them in the world that they leave
   abbrev pub counting_in_turn : Asked V
       → Mutating (List ℕ) (FieldValue V) (Positioned Field) (Positioned Selection) ℕ W

@@ -47,7 +47,7 @@ MutationApartIsMerged V W E =
     → mutation_apart execution effect answer levels asked world
     ≡ mutation_merged execution effect answer levels asked world
 
--- the world behind all root keys that ask an answer is the last one: the others leave the world as
+-- the world after all root keys that ask an answer is the last one: the others leave the world as
 -- it was
 abbrev pub OnlyAnswersChangeWorlds : (V W : Type 0) → Type 0
 OnlyAnswersChangeWorlds V W =

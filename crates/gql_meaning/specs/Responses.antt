@@ -47,7 +47,7 @@ abbrev pub kept_in : {V : Type 0} → Execution → Asked V → List (Positioned
 kept_in execution asked = kept execution.known asked.selections
 
 module _ {V : Type 0} (execution : Execution) where
-  -- the place of an occurrence with an answer of its own, given what is beneath its objects
+  -- the place of an occurrence with an answer of its own, given what is under its objects
   abbrev pub placed : Bool → (Call V → Answer V) → List ℕ → FieldValue V → Positioned Field
       → Beneath (List ℕ) (FieldValue V) Place → Place
   placed is_root answer = answered (λ field. field.pos) (field_outcome is_root execution answer)
@@ -91,16 +91,16 @@ module _ {V : Type 0} (execution : Execution) where
     abbrev pub world_after : Asked V → W → Positioned Field → W
     world_after asked world field = world_of world (root_asking asked field)
 
-    -- the world behind the whole mutation
+    -- the world after the whole mutation
     abbrev pub last_world : Asked V → W → W
     last_world asked world = world_behind (world_after asked) world (root_keys asked)
 
-    -- the world behind so many of its root keys that ask an answer
+    -- the world after so many of its root keys that ask an answer
     abbrev pub world_behind_first : ℕ → Asked V → W → W
     world_behind_first count asked world =
         world_behind (world_after asked) world (take count (asking_keys asked))
 
-    -- how a mutation is answered: the root in each world, and what is beneath it
+    -- how a mutation is answered: the root in each world, and what is under it
     abbrev pub mutating : (Call V → W → Answer V) → Asked V
         → Mutating (List ℕ) (FieldValue V) (Positioned Field) (Positioned Selection) Place W
     mutating answer asked = record {

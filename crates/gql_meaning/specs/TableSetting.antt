@@ -61,7 +61,7 @@ abbrev pub objects_of : TypeTable → Option DeclaredField → List (List ℕ)
 objects_of table None = []
 objects_of table (Some declared) = possible table (innermost declared.ty)
 
--- a condition lets the objects of its type in, and beneath a field are the objects of its own type
+-- a condition lets the objects of its type in, and under a field are the objects of its own type
 abbrev pub setting_of : Schema → Fragments → ℕ → Setting
 setting_of schema fragments levels = record {
   fragments = fragments;

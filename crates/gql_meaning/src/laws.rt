@@ -22,7 +22,7 @@ pub fn mutation_apart_is_merged<V, W, E>()
     ensures { MutationApartIsMerged V W E }
 {}
 
-/// The world behind a mutation is the one behind all of its root keys that ask an answer.
+/// The world after a mutation is the one after all of its root keys that ask an answer.
 pub fn only_answers_change_worlds<V, W>()
     ensures { OnlyAnswersChangeWorlds V W }
 {}

@@ -1,4 +1,4 @@
--- Completed answers, with what is beneath their objects.
+-- Completed answers, with what is under their objects.
 use Rattle.std.proofs.Common.{rules, ◌≡◌, ℕ, Bool, List, [], ◌∷◌, map, refl, ap, sym, ◌∙◌, subst}
 use Rattle.std.specs.List.{Contains, flat_map}
 use Rattle.std.proofs.lemmas.List.Elements.{Contains-append_left, Contains-append_right}
@@ -95,7 +95,7 @@ module _ {O P : Type 0} (pos : Pos) (b c : O → P → List (List ℕ × Place))
         fold-roll-Shape O P Tree (fill_step pos b) x
         ∙ same_middle y (subst Same (fold-roll-Shape O P (List O) objects_step x) same) ∙ sym (fold-roll-Shape O P Tree (fill_step pos c) x)
 
-  -- a completed answer hangs on what is beneath its own objects alone
+  -- a completed answer hangs on what is under its own objects alone
   pub filled_same : (s : Shape O P) → ((object : O) (parent : P) → Contains (objects_in s) object → b object parent ≡ c object parent) → fill pos b s ≡ fill pos c s
   unfolding Same
   filled_same =

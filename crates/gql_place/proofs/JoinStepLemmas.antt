@@ -7,7 +7,7 @@ use Rattle.gql_place.specs.declared.place.Place.{Place}
 use Rattle.gql_place.specs.Join.{join, join_items, placed_onto}
 use Rattle.gql_place.proofs.JoinLemmas.{alone, put_under}
 
--- what is left behind it
+-- what is left after it
 pub next_left : (all rest left : List Place) (index : ℕ) (other : Place) → rest ≡ drop index all → rest ≡ other ∷ left → left ≡ drop (index + 1) all
 next_left [] rest left zero other at next = absurd (cc)
 next_left [] rest left (suc index) other at next = absurd (cc)

@@ -163,7 +163,7 @@ place_ops : (pos : Pos) (non_null : Bool) (added : List Error) (headers : List H
     → ops_of (record { pos = pos; non_null = non_null; added = added; headers = headers; tree = t }) ≡ headers ++ tree_ops t
 place_ops pos non_null added headers t = search (rules, the_lemmas)
 
--- places with the same beneath them
+-- places with the same under them
 pub place_same : (whole : Bool) (pos : Pos) (non_null : Bool) (added : List Error) (headers : List HeaderOp) (t u : Tree) → SameTree whole t u
     → Same whole (record { pos = pos; non_null = non_null; added = added; headers = headers; tree = t })
     (record { pos = pos; non_null = non_null; added = added; headers = headers; tree = u })
@@ -177,7 +177,7 @@ place_same false pos non_null added headers t u is = record {
   ops_are = place_ops pos non_null added headers t ∙ ap (λ rest. headers ++ rest) is.ops_are ∙ sym (place_ops pos non_null added headers u);
 }
 
--- items with the same beneath them
+-- items with the same under them
 pub item_same : (whole : Bool) (pos : Pos) (non_null : Bool) (t u : Tree) → SameTree whole t u → Same whole (item_of pos non_null t) (item_of pos non_null u)
 item_same whole pos non_null t u is = place_same whole pos non_null [] [] t u is
 

@@ -60,7 +60,7 @@ told_item :
     ≡ located field_pos (Field (codes "values") ∷ Index 1 ∷ []) bad ∷ []
 told_item = search (rules, the_lemmas)
 
--- an added error nulls nothing, and stands before the fault beneath
+-- an added error nulls nothing, and stands before the fault under it
 added_first : raised (record (root []) { added = bad ∷ [] }) ≡ value.Object []
 added_first = search (rules, the_lemmas)
 
@@ -68,7 +68,7 @@ added_first = search (rules, the_lemmas)
 kept_headers : (op : HeaderOp) → ops_of (root ((codes "a", record (non_null (tree.Fault bad)) { headers = op ∷ [] }) ∷ [])) ≡ op ∷ []
 kept_headers op = search (rules, the_lemmas)
 
--- of two places under one key the first stays, and a key that is new comes behind
+-- of two places under one key the first stays, and a key that is new comes after
 joined_members :
     join (root ((codes "a", nullable (number 1)) ∷ [])) (root ((codes "a", nullable (number 2)) ∷ (codes "b", nullable (number 3)) ∷ []))
     ≡ root ((codes "a", nullable (number 1)) ∷ (codes "b", nullable (number 3)) ∷ [])

@@ -7,7 +7,7 @@ use Rattle.gql_select.specs.Grouped.{Beneath, Mutating, Placing}
 use Rattle.gql_select.specs.Reading.{Reading}
 use Rattle.gql_place.specs.declared.place.Place.{Place}
 
--- the place of a field on an object, with what is beneath its objects
+-- the place of a field on an object, with what is under its objects
 abbrev pub answered : {O P F : Type 0} → (F → Pos) → (O → P → F → Outcome O P) → O → P → F
     → Beneath O P Place → Place
 answered pos outcome object parent field below =
@@ -18,7 +18,7 @@ abbrev pub answering : {O P F X : Type 0} → Reading O F X → (F → Pos) → 
     → Placing O P F X Place
 answering reading pos outcome = record { reading = reading; place = answered pos outcome }
 
--- how a mutation is answered by what answers come to at its root, and beneath it, in each world
+-- how a mutation is answered by what answers come to at its root, and under it, in each world
 abbrev pub mutating : {O P F X W : Type 0} → Reading O F X → (W → F → W) → (F → Pos)
     → (W → O → P → F → Outcome O P)
     → (W → O → P → F → Outcome O P) → Mutating O P F X Place W
@@ -31,7 +31,7 @@ mutating reading effect pos root outcome = record {
 
 module _ {O P F X : Type 0} (reading : Reading O F X) (pos : F → Pos)
     (outcome : O → P → F → Outcome O P) where
-  -- answers hang on what a field asks alone, and come to objects that are possible beneath it
+  -- answers hang on what a field asks alone, and come to objects that are possible under it
   pub record IsAnswering : Type 0 where
     pub pos_of_both : (f g : F) → pos (reading.both f g) ≡ pos f
     pub outcome_of_both : (object : O) (parent : P) (f g : F)

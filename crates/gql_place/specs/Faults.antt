@@ -35,7 +35,7 @@ beneath_items index [] path = []
 beneath_items index (item ∷ items) path =
     item (path ++ Index index ∷ []) ++ beneath_items (index + 1) items path
 
--- the errors of what stands at a place at this position: its fault, or those beneath it
+-- the errors of what stands at a place at this position: its fault, or those under it
 abbrev pub tree_step : Tree-F (Pos → AtPath) AtPath → Pos → AtPath
 tree_step Tree-F.Absent pos path = []
 tree_step (Tree-F.Leaf leaf) pos path = []
@@ -43,11 +43,11 @@ tree_step (Tree-F.Fault error) pos path = located pos path error ∷ []
 tree_step (Tree-F.Object members) pos path = beneath_members members path
 tree_step (Tree-F.List items) pos path = beneath_items 0 items path
 
--- the added errors of a place, then its fault or the errors beneath it
+-- the added errors of a place, then its fault or the errors under it
 abbrev pub place_step : Place-F (Pos → AtPath) AtPath → AtPath
 place_step place path = map (located place.pos path) place.added ++ place.tree place.pos path
 
--- the errors of a place and of all beneath it
+-- the errors of a place and of all under it
 abbrev pub faults_at : Place → AtPath
 faults_at = fold-Place (Pos → AtPath) AtPath tree_step place_step
 

@@ -1,4 +1,4 @@
--- The tree of a completed answer: each object in it has the members that are found beneath it
+-- The tree of a completed answer: each object in it has the members that are found under it
 -- (GraphQL, October 2021, section 6.4.3).
 use Rattle.std.specs.Prelude.{ℕ, Bool, List, [], ◌∷◌, map}
 use Rattle.std.specs.List.{flat_map}
@@ -18,7 +18,7 @@ item_of pos non_null tree =
     record { pos = pos; non_null = non_null; added = []; headers = []; tree = tree }
 
 module _ {O P : Type 0} where
-  -- one level of a shape: an object has the members beneath it, and items have places of their own
+  -- one level of a shape: an object has the members under it, and items have places of their own
   abbrev pub fill_step : Pos → (O → P → List (List ℕ × Place)) → Shape-F O P Tree → Tree
   fill_step pos below Shape-F.Absent = tree.Absent
   fill_step pos below (Shape-F.Leaf leaf) = tree.Leaf leaf
@@ -26,7 +26,7 @@ module _ {O P : Type 0} where
   fill_step pos below (Shape-F.Object object parent) = tree.Object (below object parent)
   fill_step pos below (Shape-F.List non_null items) = tree.List (map (item_of pos non_null) items)
 
-  -- the tree, given what is beneath each object
+  -- the tree, given what is under each object
   abbrev pub fill : Pos → (O → P → List (List ℕ × Place)) → Shape O P → Tree
   fill pos below = fold-Shape O P Tree (fill_step pos below)
 
@@ -42,7 +42,7 @@ module _ {O P : Type 0} where
   abbrev pub objects_in : Shape O P → List O
   objects_in = fold-Shape O P (List O) objects_step
 
--- what the answer to a field comes to: all of its place but what is beneath its objects
+-- what the answer to a field comes to: all of its place but what is under its objects
 pub record Outcome (O P : Type 0) : Type 0 where
   pub non_null : Bool
   pub added : List Error

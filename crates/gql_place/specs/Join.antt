@@ -11,7 +11,7 @@ use Rattle.gql_place.specs.declared.place.Tree.TheVariants as tree
 use Rattle.gql_place.specs.declared.place.Tree.TheOpen.{Tree-F, Place-F}
 use Rattle.gql_place.specs.declared.place.Tree.TheFolds.{fold-Place, fold-Tree}
 
--- what a place comes to behind the one that stands there, if any does: alone it is itself
+-- what a place comes to after the one that stands there, if any does: alone it is itself
 abbrev pub OntoPlace : Type 0
 OntoPlace = Option Place → Place
 

@@ -13,7 +13,7 @@ abbrev pub names_apart : List (List ℕ) → Bool
 names_apart [] = true
 names_apart (name ∷ names) = not (list_any (bytes_eq name) names) && names_apart names
 
--- one level of what stands at a place: the keys of an object are apart, and all beneath is so
+-- one level of what stands at a place: the keys of an object are apart, and all under is so
 abbrev pub tree_step : Tree-F Bool Bool → Bool
 tree_step (Tree-F.Object members) =
     names_apart (names_of members) && list_all (λ member. member.1) members

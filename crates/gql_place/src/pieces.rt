@@ -42,7 +42,7 @@ impl Pieces {
         }
     }
 
-    /// Adds a place at the end. Where memory is wanting the places stay as they were.
+    /// Adds a place at the end. Where memory runs out the places stay as they were.
     pub fn push(&mut self, alloc: Global, piece: Piece) -> Made<()>
         ensures ok { OnOk result (places_in self.new ≡ places_in self.old ++ place_in piece ∷ []) }
         ensures err { OnErr result (places_in self.new ≡ places_in self.old) }
@@ -178,7 +178,7 @@ fn places_of(alloc: Global, values: Vec<Value>) -> Made<Vec<Place>>
     Ok(places)
 }
 
-/// Places of data and one more behind them, in a list that has room for them.
+/// Places of data and one more after them, in a list that has room for them.
 fn places_before(alloc: Global, room: Vec<Place>, values: Vec<Value>, last: Place) -> Vec<Place>
     requires empty { room.items ≡ [] }
     requires room { length values.items < vec_capacity room }

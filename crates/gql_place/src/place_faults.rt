@@ -15,8 +15,8 @@ pub enum Step<'a> {
     Index(usize),
 }
 
-/// The errors of a response: of each place the added ones, then its fault, then those beneath it in
-/// their order, also beneath what is null. Each has the path of its place and the position of its
+/// The errors of a response: of each place the added ones, then its fault, then those under it in
+/// their order, also under what is null. Each has the path of its place and the position of its
 /// field (GraphQL, October 2021, section 7.1.2).
 pub fn faults(alloc: Global, place: &Place) -> Made<Items<ServerError>>
     ensures { IfOk result (λ errors. errors ≡ faults_of place.now) }

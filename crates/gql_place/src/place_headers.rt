@@ -8,7 +8,7 @@ use gql_request::HeaderOp;
 use std::alloc::Global;
 
 /// What all places of a response do to the headers of the HTTP response, a place before those
-/// beneath it, nulled or not.
+/// under it, nulled or not.
 pub fn header_ops(alloc: Global, place: &Place) -> Made<Items<HeaderOp>>
     ensures { IfOk result (λ ops. ops ≡ ops_of place.now) }
 {

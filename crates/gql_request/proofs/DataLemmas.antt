@@ -86,7 +86,7 @@ pub inserts : {T : Type 0} (sought : ℕ) (ks ks' : List ℕ) (vs vs' : List T) 
 inserts sought ks ks' vs vs' ps v made past same keys values =
     (λ i. zip (keys i) (values i)) ∙ zipped-push sought ks vs sought v same ∙ sym (put-absent sought ks vs v same past) ∙ ap (λ qs. put_key qs sought v) made
 
--- one pair of the others is put, and those behind it are left
+-- one pair of the others is put, and those after it are left
 pub puts_more : {T : Type 0} (ks : List ℕ) (place : ℕ) (k : ℕ) (v : T) (rest rest' : List T) (ps ps' whole : List (ℕ × T)) → place < length ks
     → k ≡ slice_index_or ks place k → rest ≡ v ∷ rest' → ps' ≡ put_key ps k v → put_keys ps (zip (drop place ks) rest) ≡ whole
     → put_keys ps' (zip (drop (place + 1) ks) rest') ≡ whole

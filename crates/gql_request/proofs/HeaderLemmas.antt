@@ -18,7 +18,7 @@ pub folded_append : (map : Headers) (ops left : List HeaderOp) → folded map (o
 folded_append map [] left = refl
 folded_append map (op ∷ ops) left = folded_append (after map op) ops left
 
--- an operation that meets a full map still does so where others come behind it
+-- an operation that meets a full map still does so where others come after it
 pub overflows_more : (map : Headers) (ops left : List HeaderOp) → Overflows map ops → Overflows map (ops ++ left)
 overflows_more map [] left over = absurd over
 overflows_more map (op ∷ ops) left (inl full) = inl full

@@ -24,7 +24,7 @@ first = Insert a (v 1) ∷ Append a (v 2) ∷ Insert b (v 3) ∷ []
 abbrev with_ops : List HeaderOp → Response
 with_ops ops = record { result = Null; extensions = []; errors = []; headers = ops }
 
--- one value is set and one added, and another name comes behind
+-- one value is set and one added, and another name comes after
 added : folded [] first ≡ (a, v 1 ∷ v 2 ∷ []) ∷ (b, v 3 ∷ []) ∷ []
 added = refl
 

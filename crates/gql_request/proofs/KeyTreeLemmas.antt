@@ -65,7 +65,7 @@ module _ (keys : List ℕ) (links : List (Option ℕ)) (tree : IsKeyTree keys li
         let first : first_place key keys ≡ length keys = position_or_len_is (λ k. key == k) keys (length keys) 0 (omega arith) before (λ w. absurd (omega arith)) in
         omega arith
 
-    -- the keys that are left lie behind the next place
+    -- the keys that are left lie after the next place
     pub leads_on : (next : ℕ) → (slice_get keys place ≡ Some key → ⊥) → end_of links (link_at place bits) ≡ Some next
         → (goal : ℕ) → slice_get keys goal ≡ Some key → Leads links goal next (bits / 2)
     leads_on next other end goal stands = way-on links goal place bits next end (λ e. other (ap (slice_get keys) e ∙ stands)) (leads goal stands)

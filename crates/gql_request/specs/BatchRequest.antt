@@ -24,7 +24,7 @@ abbrev pub with_request : BatchRequest → ℕ → Request → BatchRequest
 with_request (Single _) place request = Single request
 with_request (Batch requests) place request = Batch (slice_set requests place request)
 
--- the requests of values, behind those that were read before
+-- the requests of values, after those that were read before
 abbrev pub requests_in : List Request → List Value → Reading (List Request)
 requests_in earlier [] = Ok earlier
 requests_in earlier (value ∷ values) = do

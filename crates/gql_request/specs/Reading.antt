@@ -33,7 +33,7 @@ reason_text NoVariables = codes "variables must be an object or null"
 reason_text NoExtensions = codes "extensions must be an object or null"
 reason_text NoRequest = codes "expected a non-empty list"
 
--- that a reader answers what there is to read, unless memory is wanting
+-- that a reader answers what there is to read, unless memory runs out
 abbrev pub IsRead : {A : Type 0} → Result A Fault → Reading A → Type 0
 IsRead (Ok value) read = read ≡ Ok value
 IsRead (Err (Refused reason)) read = read ≡ Err (reason_text reason)

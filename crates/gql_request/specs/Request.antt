@@ -45,7 +45,7 @@ GivesParsed (Some document) query outcome = outcome ≡ Ok document
 GivesParsed None query outcome = GivesDocument (chars query) outcome
 
 -- the request once its document was asked for: it has the document that was given, and after a
--- refusal or want of memory it is as before
+-- refusal or out of memory it is as before
 abbrev pub IsAfterParsing : Request → Result (Result (Bor ExecutableDocument) ParseFault) AllocError
     → Request → Type 0
 IsAfterParsing before result after = MatchResult result

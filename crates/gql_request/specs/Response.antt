@@ -5,7 +5,7 @@ use Rattle.gql_base.specs.Json.{json}
 use Rattle.gql_base.specs.declared.server_error.ServerError.{ServerError}
 use Rattle.gql_request.specs.declared.response.Response.{Response}
 
--- the errors behind the data, if there are any
+-- the errors after the data, if there are any
 abbrev pub errors_member : List ServerError → List ℕ
 errors_member [] = []
 errors_member (error ∷ others) = codes ",\"errors\":" ++ list_json error_json (error ∷ others)

@@ -1,7 +1,7 @@
 use gql_base::{Copied, Made};
 use std::alloc::{AllocError, Global};
 
-/// The want of memory of a batch.
+/// Out of memory in a batch.
 #[derive(Clone, Copy, PartialEq, Eq, Debug)]
 pub struct BatchNoMemory {
     /// The number of requests that were executed whole, from the first one on.
@@ -10,7 +10,7 @@ pub struct BatchNoMemory {
     pub roots: u64,
 }
 
-/// Where memory is wanting before a batch, nothing is done.
+/// Where memory runs out before a batch, nothing is done.
 impl From<AllocError> for BatchNoMemory {
     ghost use Rattle.std.specs.Prelude.{◌≡◌};
 

@@ -71,7 +71,7 @@ impl Data {
     }
 
     /// Sets the value under a key. A key that is there keeps its place, and another goes to the
-    /// end. Where memory is wanting the data stay as they were.
+    /// end. Where memory runs out the data stay as they were.
     #[tactic(auto, using(crate::proofs::DataLemmas::put_found, crate::proofs::DataLemmas::inserts))]
     pub fn insert(&mut self, key: DataKey, value: Value) -> Made<()>
         ensures ok { OnOk result (self.new ≡ put_key self.old key.0 value) }
@@ -111,7 +111,7 @@ impl Data {
     }
 
     /// Sets the values of the others in their order, each as `insert` does. Room for all of them is
-    /// made first: where memory is wanting, no value is set, and the data stay as they were.
+    /// made first: where memory runs out, no value is set, and the data stay as they were.
     pub fn merge(&mut self, other: Data) -> Made<()>
         ensures ok { OnOk result (self.new ≡ put_keys self.old other) }
         ensures err { OnErr result (self.new ≡ self.old) }

@@ -64,7 +64,7 @@ impl<'a> QueryPathNode<'a> {
         Text::from_string(out)
     }
 
-    /// Appends the texts of the segments, joined by dots. Where memory is wanting, some of that may
+    /// Appends the texts of the segments, joined by dots. Where memory runs out, some of that may
     /// stand behind the text already.
     #[tactic(auto, using(gql_base::proofs::SeparatedLemmas::separated_more))]
     pub fn push_text(&self, out: &mut String) -> Made<()>

@@ -47,7 +47,7 @@ fn response(alloc: Global, ops: &[Op]) -> Result<Response, HeaderFault> {
     Ok(Response::new(alloc, Value::Null).with_headers(headers))
 }
 
-/// The pairs, one behind another.
+/// The pairs, one after another.
 fn pairs_text(alloc: Global, mut pairs: HeaderPairs) -> Result<Text, HeaderFault> {
     let mut out = String::new(alloc);
     while let Some((name, value)) = pairs.next() {
@@ -79,7 +79,7 @@ fn headers_are_folded(rt: HostRuntime) -> Result<(), Fail> {
     Ok(())
 }
 
-/// The values under a name, each behind a blank.
+/// The values under a name, each after a blank.
 fn values_text(alloc: Global, map: &HeaderMap, name: &str) -> Result<Text, HeaderFault> {
     let mut out = String::new(alloc);
     for value in map.get_all(name) {

@@ -1,4 +1,4 @@
--- A field of a name is found beneath another exactly where one stands in its set.
+-- A field of a name is found under another exactly where one stands in its set.
 use Rattle.std.proofs.Common.{◌≡◌, ℕ, zero, suc, ◌+◌, ◌<◌, ◌⊎◌, ◌↔◌, inl, inr, Bool, true, false, cond, List, [], ◌∷◌, ◌++◌, length, map, filter, Option, Some, None, refl, ap, sym, subst, ◌∙◌, arith}
 use Rattle.std.proofs.lemmas.List.{append-nil, map-append, length-append}
 use Rattle.std.proofs.lemmas.List.Elements.{filter-append}
@@ -138,7 +138,7 @@ module _ (env : QueryEnv) (name : List ℕ) where
       (subst (λ o. 0 < length (hits (here left o))) (sym is)
       (subst (λ o. 0 < length (hits (fields_of_spread (setting_of env) [] (collect_within (setting_of env) left []) o))) (sym known) found))
 
--- a field of a name is found beneath another exactly where one stands in its set
+-- a field of a name is found under another exactly where one stands in its set
 pub found_where_it_stands : (env : QueryEnv) (field : Field) (name : List ℕ) → NestsIn env (out-Field field).selection_set
     → ((0 < length (named name (fields_beneath (record { field = field; env = env })))) ↔ Stands env.fragments name (selections_in field))
 found_where_it_stands env field name nests = (

@@ -1,4 +1,4 @@
--- How deep the selections lie that are left of a set, and the sets beneath them.
+-- How deep the selections lie that are left of a set, and the sets under them.
 use Rattle.std.proofs.Common.{◌≡◌, ℕ, zero, suc, ◌-◌, ◌<◌, ◌≤◌, List, [], ◌∷◌, Option, Some, None, refl, ap, sym, subst, ◌∙◌, arith}
 use Rattle.std.specs.Prelude.{option_and_then}
 use Rattle.std.specs.Option.{option_map, option_or}
@@ -31,7 +31,7 @@ pub set_nests : (fragments : Fragments) (left : ℕ) (set : Positioned Selection
 set_nests fragments zero set none = cc
 set_nests fragments (suc left) set none = none
 
--- that what stands beneath a selection nests within one level less
+-- that what stands under a selection nests within one level less
 abbrev pub FirstNests : Fragments → ℕ → Positioned Selection → Type 0
 FirstNests fragments left selection = option_and_then (deep_from fragments (left - 1)) (set_beneath fragments selection) ≡ None
 

@@ -1,4 +1,4 @@
--- Fields of a query, what is beneath them and what was looked at may go to other threads, and threads may read them at once.
+-- Fields of a query, what is under them and what was looked at may go to other threads, and threads may read them at once.
 use denote.Param.Send.{IsSend, IsSync, sendable}
 use denote.Ref.{NamedLft}
 use Rattle.gql_base.proofs.SendLemmas.{value_send, value_sync}

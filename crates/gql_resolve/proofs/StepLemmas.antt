@@ -22,7 +22,7 @@ use Rattle.gql_resolve.specs.declared.open_set.OpenSet.{OpenSet}
 use Rattle.gql_resolve.specs.declared.selection_field.SelectionField.{SelectionField}
 
 module _ (env : QueryEnv) (left : ℕ) where
-  -- what a selection stands for, with so many levels beneath it
+  -- what a selection stands for, with so many levels under it
   abbrev fields_here : Selection-F Selection Field InlineFragment SelectionSet → List (Positioned Field)
   fields_here selection = fields_of (setting_of env) [] (collect_within (setting_of env) left []) selection
 

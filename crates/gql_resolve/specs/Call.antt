@@ -1,5 +1,5 @@
 -- What a resolver's answer may depend on. A task's number, the path, the alias and what is selected
--- beneath are no part of it.
+-- under are no part of it.
 use Rattle.std.specs.Prelude.{ℕ, Bool, true, false, ◌&&◌, List, [], ◌∷◌}
 use Rattle.gql_base.specs.declared.value.Value.{Value}
 use Rattle.gql_doc.specs.declared.document.OperationType.{OperationType}

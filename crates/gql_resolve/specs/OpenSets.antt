@@ -1,4 +1,4 @@
--- How the fields beneath a field are gone through: sets that are open, the innermost last.
+-- How the fields under a field are gone through: sets that are open, the innermost last.
 use Rattle.std.specs.Prelude.{◌≡◌, ℕ, zero, suc, ◌+◌, ◌<◌, List, [], ◌∷◌, ◌++◌, length, Option, Some}
 use Rattle.std.specs.Prelude.{None, Result, Ok, Err}
 use Rattle.std.specs.List.{flat_map}
@@ -77,7 +77,7 @@ abbrev pub TakesFirst : List Seen → Option SelectionField → List Seen → Ty
 TakesFirst old None new = (old ≡ []) × (new ≡ [])
 TakesFirst old (Some field) new = old ≡ seen_of field ∷ new
 
--- that one look at open sets gave a field or brought the end nearer; where memory was wanting, no
+-- that one look at open sets gave a field or brought the end nearer; where memory ran out, no
 -- field was lost
 abbrev pub Advances : {E : Type 0} → List OpenSet → Result (Option SelectionField) E
     → List OpenSet → Type 0

@@ -7,7 +7,7 @@ use gql_input::AccessFault;
 use std::alloc::Global;
 
 /// What a resolver gives for a field: a value, a value of the resolver's own kind, which the fields
-/// beneath get as their parent, a list, or any of them with the name of its object type.
+/// under get as their parent, a list, or any of them with the name of its object type.
 #[derive(Debug, Drop)]
 pub enum FieldValue<V> {
     Value(Value),

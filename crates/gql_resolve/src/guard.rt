@@ -27,7 +27,7 @@ pub trait GuardExt<V>: Guard<V> + Sized {
     ghost use Rattle.std.specs.Prelude.{◌≡◌};
 
     /// The guard that passes exactly where both pass, and else has the error of the first that
-    /// fails. The other is asked behind this one, where this one passes.
+    /// fails. The other is asked after this one, where this one passes.
     final fn and<R: Guard<V>>(self, other: R) -> And<Self, R>
         ensures { (result.0 ≡ self) × (result.1 ≡ other) }
     {
@@ -35,7 +35,7 @@ pub trait GuardExt<V>: Guard<V> + Sized {
     }
 
     /// The guard that passes exactly where one of both passes, and else has the error of the other
-    /// guard. The other is asked behind this one, where this one fails.
+    /// guard. The other is asked after this one, where this one fails.
     final fn or<R: Guard<V>>(self, other: R) -> Or<Self, R>
         ensures { (result.0 ≡ self) × (result.1 ≡ other) }
     {

@@ -7,7 +7,7 @@ use crate::selection_field::SelectionField;
 use gql_base::{Items, Made};
 use std::alloc::Global;
 
-/// Fields of a query of which more is to be known: which fields stand beneath them.
+/// Fields of a query of which more is to be known: which fields stand under them.
 #[derive(Drop)]
 pub struct Lookahead<'a> {
     pub(crate) fields: Items<SelectionField<'a>>,
@@ -18,7 +18,7 @@ impl<'a> Lookahead<'a> {
     ghost use Rattle.gql_resolve.specs.Lookahead.{covered};
     ghost use Rattle.gql_resolve.specs.SelectionField.{all_seen, seen_of};
 
-    /// A look at what is beneath a field.
+    /// A look at what is under a field.
     pub fn from_field(alloc: Global, field: SelectionField<'a>) -> Made<Lookahead<'a>>
         ensures { IfOk result (λ ahead. covered ahead ≡ seen_of field.entry ∷ []) }
     {
@@ -27,7 +27,7 @@ impl<'a> Lookahead<'a> {
         Ok(Lookahead { fields })
     }
 
-    /// A look at what is beneath these fields, or none where there is no field.
+    /// A look at what is under these fields, or none where there is no field.
     pub fn from_fields(alloc: Global, fields: &[SelectionField<'a>]) -> Made<Option<Lookahead<'a>>>
         ensures { IfOk result (λ made. MatchOption made (fields.entry.now ≡ [])
             (λ ahead. (covered ahead ≡ all_seen fields.entry.now)
@@ -40,7 +40,7 @@ impl<'a> Lookahead<'a> {
         Ok(Some(Lookahead { fields }))
     }
 
-    /// The fields of a name that stand beneath, through fragments in place and known spreads,
+    /// The fields of a name that stand under, through fragments in place and known spreads,
     /// whatever their conditions. Aliases don't count.
     pub fn field(&self, alloc: Global, name: &str) -> Made<Lookahead<'a>>
         ensures { IfOk result (λ deeper. covered deeper

@@ -1,4 +1,4 @@
-//! Fields of a name beneath others.
+//! Fields of a name under others.
 ghost use Rattle.std.specs.Prelude.{◌≡◌, ◌++◌, ◌∷◌, [], OnOk};
 ghost use Rattle.gql_resolve.specs.Beneath.{fields_beneath, named};
 ghost use Rattle.gql_resolve.specs.SelectionField.{all_seen, seen_of};
@@ -7,7 +7,7 @@ use crate::selection_field::SelectionField;
 use gql_base::{Items, Made};
 use std::alloc::Global;
 
-/// Adds the fields of a name that stand beneath a field.
+/// Adds the fields of a name that stand under a field.
 pub(crate) fn add_named<'a>(
     alloc: Global,
     found: &mut Items<SelectionField<'a>>,

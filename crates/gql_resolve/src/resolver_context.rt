@@ -74,7 +74,7 @@ impl<'a, V> ResolverContext<'a, V> {
     ghost use Rattle.gql_resolve.specs.Parameter.{IsParameter};
     ghost use Rattle.gql_resolve.specs.SelectionField.{seen_of};
 
-    /// A look at what is selected beneath the field: a field of a name is found exactly where one
+    /// A look at what is selected under the field: a field of a name is found exactly where one
     /// stands in the field's set.
     #[tactic(auto, using(crate::proofs::BeneathLaws::found_of_one))]
     pub fn look_ahead(&self, alloc: Global) -> Made<Lookahead<'a>>

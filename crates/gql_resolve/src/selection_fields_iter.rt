@@ -27,7 +27,7 @@ impl<'a> SelectionFieldsIter<'a> {
         Ok(SelectionFieldsIter { sets })
     }
 
-    /// The next field, or none where all are given. Where memory is wanting, no field is lost.
+    /// The next field, or none where all are given. Where memory runs out, no field is lost.
     pub fn next(&mut self) -> Made<Option<SelectionField<'a>>>
         ensures ok { IfOk result
             (λ given. TakesFirst (fields_left self.old) given (fields_left self.new)) }

@@ -6,9 +6,9 @@ use crate::selection_field::SelectionField;
 pub(crate) enum Step<'a> {
     /// None is left.
     Done,
-    /// A field, and what is left behind it.
+    /// A field, and what is left after it.
     Gives(SelectionField<'a>, OpenSet<'a>),
-    /// A set that is to be gone through first, and what is left behind it.
+    /// A set that is to be gone through first, and what is left after it.
     Enters(OpenSet<'a>, OpenSet<'a>),
     /// No field, and what is left.
     Passes(OpenSet<'a>),

@@ -106,7 +106,7 @@ fn not_defined_message(alloc: Global, name: &str) -> Made<String>
 }
 
 /// A value of the document, with what its variables stand for (section 6.4.1). A variable that is
-/// neither given nor has a default is null. Only want of memory fails.
+/// neither given nor has a default is null. Only out of memory fails.
 #[cycle(resolve)]
 pub fn resolved_value(alloc: Global, env: &QueryEnv, value: &DocValue) -> Made<Value>
     ensures { IfOk result (λ made. made ≡ resolved (known_in env.now) value.now) }

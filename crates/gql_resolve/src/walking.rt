@@ -20,7 +20,7 @@ pub(crate) fn step(opened: OpenSet<'_>) -> Step<'_>
     }
 }
 
-/// Looks at a selection, behind which others are left.
+/// Looks at a selection, after which others are left.
 fn look<'a>(
     opened: OpenSet<'a>,
     first: &'a Positioned<Selection>,

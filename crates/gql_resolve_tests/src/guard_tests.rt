@@ -66,7 +66,7 @@ fn composed_told(alloc: Global, context: &ResolverContext<'_, u64>, task: u64) -
     told(alloc, &guard, context)
 }
 
-/// The errors of two such guards, one behind another.
+/// The errors of two such guards, one after another.
 fn compositions_told(alloc: Global, parts: &Parts) -> Made<Text> {
     let context = parts.context();
     let mut out = String::new(alloc);

@@ -1,4 +1,4 @@
-//! Tests of `gql_resolve`: resolver sets, what a context reads, what is selected beneath a field,
+//! Tests of `gql_resolve`: resolver sets, what a context reads, what is selected under a field,
 //! guards and parameters.
 #![tactic(auto)]
 

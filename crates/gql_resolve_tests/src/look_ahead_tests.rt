@@ -1,12 +1,12 @@
-//! What is selected beneath a field, looked at ahead, and the fields themselves.
+//! What is selected under a field, looked at ahead, and the fields themselves.
 use crate::queries::{Ground, query};
 use gql_base::{Made, Text};
 use gql_resolve::{Lookahead, SelectionField};
 use std::alloc::Global;
 use std::test::Fail;
 
-/// Whether a field stands beneath the fields of some names, each beneath the one before, of which
-/// the first stands beneath the first field of a query.
+/// Whether a field stands under the fields of some names, each under the one before, of which
+/// the first stands under the first field of a query.
 fn stands(alloc: Global, text: &str, names: &[&str]) -> Made<bool> {
     match query(alloc, text)? {
         Some(ground) => stands_in(alloc, &ground, names),

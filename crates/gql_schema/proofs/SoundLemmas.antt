@@ -11,7 +11,7 @@ use Rattle.gql_schema.specs.declared.schema_error.SchemaError.{SchemaError}
 use Rattle.gql_schema.specs.declared.schema_type.SchemaType.{SchemaType}
 
 module _ (table : TypeTable) where
-  -- a type with a fault behind types without
+  -- a type with a fault after types without
   pub refuses_here : (place : ℕ) (ty : SchemaType) (found : Option SchemaError) (there : Bool) → AreFaultFree table place
       → slice_get (values_of table) place ≡ Some ty → IsFaultOf table ty found → there ≡ is_some found → there ≡ true → IsFaultOfAll table found
   refuses_here place ty found there before at fault test so =

@@ -58,7 +58,7 @@ takes_bare (rules.OneOf texts) value = is_string (λ text. is_among text texts) 
 abbrev pub takes : ScalarRule → Value → Bool
 takes rule value = takes_bare rule (bare_of value)
 
--- the last whole number of 32 bits, and the first behind it
+-- the last whole number of 32 bits, and the first after it
 pub last_int : takes_bare rules.Int (Value-F.Number (pos 2147483647)) ≡ true
 last_int = refl
 

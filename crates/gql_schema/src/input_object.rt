@@ -46,7 +46,7 @@ impl InputObject {
         }
     }
 
-    /// Adds a field, whose name isn't there yet, behind the others.
+    /// Adds a field, whose name isn't there yet, after the others.
     pub fn field(self, alloc: Global, field: InputValue) -> Made<InputObject>
         requires { under (input_name field) (input_fields self) ≡ None }
         ensures { IfOk result (λ input. input ≡ with_field self field) }

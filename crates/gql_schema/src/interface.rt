@@ -41,7 +41,7 @@ impl Interface {
         }
     }
 
-    /// Adds a field, whose name isn't there yet, behind the others.
+    /// Adds a field, whose name isn't there yet, after the others.
     pub fn field(self, alloc: Global, field: InterfaceField) -> Made<Interface>
         requires { under (promised_name field) (promised_fields self) ≡ None }
         ensures { IfOk result (λ interface. interface ≡ with_field self field) }

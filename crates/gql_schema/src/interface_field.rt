@@ -42,7 +42,7 @@ impl InterfaceField {
         }
     }
 
-    /// This field with an argument, in place of one of the same name or behind the others.
+    /// This field with an argument, in place of one of the same name or after the others.
     pub fn argument(self, alloc: Global, argument: InputValue) -> Made<InterfaceField>
         ensures { IfOk result (λ field. field ≡ with_argument self argument) }
     {

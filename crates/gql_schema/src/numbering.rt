@@ -24,7 +24,7 @@ struct Walk {
 
 /// A number from 1 for each place of a graph, whose lists tell to what places each leads: none leads
 /// to a higher number, and places that lead to each other have one. Nothing is proved of the numbers,
-/// so who takes them tests them first. A place past the end counts for nothing. Only want of memory
+/// so who takes them tests them first. A place past the end counts for nothing. Only out of memory
 /// fails.
 pub fn walk_numbers(alloc: Global, graph: &[Items<usize>]) -> Made<Vec<usize>> {
     let most = most_steps(graph);

@@ -53,7 +53,7 @@ impl Object {
         }
     }
 
-    /// Adds a field, whose name isn't there yet, behind the others.
+    /// Adds a field, whose name isn't there yet, after the others.
     pub fn field(self, alloc: Global, field: Field) -> Made<Object>
         requires { under (field_name field) (fields_of self) ≡ None }
         ensures { IfOk result (λ object. object ≡ with_field self field) }

@@ -41,7 +41,7 @@ impl Subscription {
         }
     }
 
-    /// Adds a field, whose name isn't there yet, behind the others.
+    /// Adds a field, whose name isn't there yet, after the others.
     pub fn field(self, alloc: Global, field: SubscriptionField) -> Made<Subscription>
         requires { under (event_name field) (event_fields self) ≡ None }
         ensures { IfOk result (λ subscription. subscription ≡ with_field self field) }

@@ -46,7 +46,7 @@ impl SubscriptionField {
         }
     }
 
-    /// This field with an argument, in place of one of the same name or behind the others.
+    /// This field with an argument, in place of one of the same name or after the others.
     pub fn argument(self, alloc: Global, argument: InputValue) -> Made<SubscriptionField>
         ensures { IfOk result (λ field. field ≡ with_argument self argument) }
     {

@@ -202,7 +202,7 @@ module _ {R Own World Future L H P : Type 0} {e : Parts R Own World Future L H P
     completed_with plan given made holding keeps =
         record { made = made t.pick.task t.pick.task_is; count_is = refl; holding = holding; keeps = keeps }
 
-    -- the tasks beneath are no roots of a mutation
+    -- the tasks under are no roots of a mutation
     abbrev pub NeverRoots : Type 0
     NeverRoots = (task : e.plan.Task) (answer : Answer Own) (place : ℕ) (below : e.plan.Task)
         → slice_get (e.plan.beneath task answer) place ≡ Some below → (e.plan.asks below).call.is_root ≡ false
@@ -280,7 +280,7 @@ module _ {R Own World Future L H P : Type 0} {e : Parts R Own World Future L H P
           (told_is calm) (paid pace calm) made.made (states_is ∙ ap (λ ss. ss ++ fresh_states count) (set_set old.states number now state.Done));
     }
 
-    -- memory was wanting before the entry of the turn
+    -- memory ran out before the entry of the turn
     pub ended_before : (new : Moment R Future L H P)
         → EntersAtMost (map (event_of e.hooks) (enters_now context info was)) (e.hooks.told old.hooks) (e.hooks.told new.hooks)
         → (e.hooks.are_quiet old.hooks → e.set.told new.set ≡ with_more (e.set.told old.set) [])
@@ -297,7 +297,7 @@ module _ {R Own World Future L H P : Type 0} {e : Parts R Own World Future L H P
       paces = λ pace calm. so_far_none old new.set (told_is calm);
     }
 
-    -- memory was wanting after it
+    -- memory ran out after it
     pub ended_after : (new : Moment R Future L H P)
         → e.hooks.told new.hooks ≡ with_more (e.hooks.told old.hooks) (map (event_of e.hooks) (enters_now context info was))
         → (e.set.is_paced old.set → e.hooks.are_quiet old.hooks → to_come e.set.number (delay_by e.set old.set context.resolver) was ≡ true ∷ [])

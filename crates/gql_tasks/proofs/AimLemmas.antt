@@ -75,7 +75,7 @@ module _ {R Own World Future L H P : Type 0} {e : Parts R Own World Future L H P
       before : (number : ℕ) (task : e.plan.Task) → slice_get (e.plan.tasks plan) number ≡ Some task → slice_get (e.plan.tasks old.plan) number ≡ Some task
       before number task is = ap (λ ts. slice_get ts number) (sym tasks_is) ∙ is
 
-  -- memory was wanting before the turn
+  -- memory ran out before the turn
   pub ended_none : (old new : Moment R Future L H P) → new.set ≡ old.set → new.hooks ≡ old.hooks → Ended e old new
   ended_none old new set_is hooks_is = record {
     enters = subst (EntersSoFar e old) (sym hooks_is) (so_far_enters_none old);

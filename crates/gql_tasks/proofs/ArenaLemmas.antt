@@ -73,7 +73,7 @@ waiting_kept first (untold ∷ marks) (suc place) m is unanswered = ap (λ ns. f
 waiting_kept first (begun ∷ marks) (suc place) m is unanswered = ap (λ ns. first ∷ ns) (waiting_kept (suc first) marks place m is unanswered)
 waiting_kept first (ready ∷ marks) (suc place) m is unanswered = waiting_kept (suc first) marks place m is unanswered
 
--- a new task waits behind the others
+-- a new task waits after the others
 pub waiting_more : (first : ℕ) (marks : List Mark) → waiting_from first (marks ++ untold ∷ []) ≡ waiting_from first marks ++ (first + length marks) ∷ []
 waiting_more first [] = ap (λ n. n ∷ []) (omega arith)
 waiting_more first (untold ∷ marks) = ap (λ ns. first ∷ ns) (waiting_more (suc first) marks ∙ ap (λ n. waiting_from (suc first) marks ++ n ∷ []) (omega arith))
@@ -85,7 +85,7 @@ module _ (F : Type 0) where
   fresh_more zero = refl
   fresh_more (suc n) = ap (λ ss. state.Fresh ∷ ss) (fresh_more n)
 
-  -- one more fresh task at the end waits behind the others
+  -- one more fresh task at the end waits after the others
   one_more : (numbers : List ℕ) (states : List (State F)) (n : ℕ) → numbers ≡ waiting_from 0 (marks_of states) → n ≡ length states
       → numbers ++ n ∷ [] ≡ waiting_from 0 (marks_of (states ++ state.Fresh ∷ []))
   one_more numbers states n waits is =
@@ -115,7 +115,7 @@ module _ (F : Type 0) where
       unanswered (state.Waiting f) differs = tt
       unanswered state.Done differs = absurd (differs refl)
 
-  -- fresh tasks at the end wait behind the others
+  -- fresh tasks at the end wait after the others
   more_wait : (numbers : List ℕ) (states : List (State F)) (first count : ℕ) → numbers ≡ waiting_from 0 (marks_of states) → first ≡ length states
       → numbers ++ range_with_len first count ≡ waiting_from 0 (marks_of (states ++ fresh_states count))
   more_wait numbers states first zero waits is =

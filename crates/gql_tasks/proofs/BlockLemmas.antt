@@ -67,7 +67,7 @@ last-grows (c ∷ d ∷ bs) zero b new more size is grown = absurd (omega arith)
 last-grows (c ∷ d ∷ bs) (suc last) b new more size is grown =
     ap (λ xs. c.items ++ xs) (last-grows (d ∷ bs) last b new more (omega arith) is grown) ∙ sym (append_assoc c.items (all_in (d ∷ bs)) more)
 
--- the way to a spot: the place is behind the blocks that were passed, and what is left is more than the index
+-- the way to a spot: the place is after the blocks that were passed, and what is left is more than the index
 pub record IsSought (blocks : List Block) (place block index : ℕ) : Type 0 where
   pub place_is : place ≡ length (all_in (take block blocks)) + index
   pub left : index < length (all_in (drop block blocks))
@@ -130,7 +130,7 @@ split-numbers first (suc m) n =
     let f : suc (m + n) ≡ suc m + n = omega arith in
     ap (λ k. first ∷ (range_with_len (first + 1) m ++ range_with_len k n)) e ∙ ap (λ ns. first ∷ ns) (split-numbers (first + 1) m n) ∙ ap (range_with_len first) f
 
--- numbers, and those behind them
+-- numbers, and those after them
 between-more : (first next stop : ℕ) → first ≤ next → next ≤ stop → numbers_between first next ++ numbers_between next stop ≡ numbers_between first stop
 between-more first next stop start more =
     let e : first + (next - first) ≡ next = omega arith in
@@ -138,7 +138,7 @@ between-more first next stop start more =
     ap (λ k. numbers_between first next ++ range_with_len k (stop - next)) (sym e)
     ∙ split-numbers first (next - first) (stop - next) ∙ ap (range_with_len first) f
 
--- numbers and those behind them are added
+-- numbers and those after them are added
 pub numbers_added : (old now new : List ℕ) (first next stop : ℕ) → first ≤ next → next ≤ stop → now ≡ old ++ numbers_between first next
     → new ≡ now ++ numbers_between next stop → new ≡ old ++ numbers_between first stop
 numbers_added old now new first next stop start more front back =

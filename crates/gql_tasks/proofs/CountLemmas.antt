@@ -1,4 +1,4 @@
--- How many tasks a record makes: as many as there are beneath those that it begins with, these among them.
+-- How many tasks a record makes: as many as there are under those that it begins with, these among them.
 use Rattle.std.proofs.Common.{◌≡◌, ◌+◌, ℕ, zero, suc, Bool, true, false, List, [], ◌∷◌, ◌++◌, map, length, Option, Some, None, slice_get, slice_set, refl, ap, sym, subst, ◌∙◌, arith}
 use Rattle.std.specs.List.{AllByRecursion}
 use Rattle.gql_resolve.specs.declared.record_entry.RecordEntry.{RecordEntry}
@@ -22,7 +22,7 @@ all_both : {A : Type 0} (P : A → Type 0) (xs ys : List A) → AllByRecursion P
 all_both P [] ys h k = k
 all_both P (x ∷ xs) ys h k = (h.0, all_both P xs ys h.1 k)
 
--- a count of tasks, of those that stay within some bound: each counts itself and those beneath it
+-- a count of tasks, of those that stay within some bound: each counts itself and those under it
 module _ {Task : Type 0} (story : Story Task) (count : Task → ℕ) (Within : Task → Type 0) where
   pub record IsCount : Type 0 where
     pub counts : (task : Task) → Within task → count task ≡ 1 + sum (map count (story.beneath task))

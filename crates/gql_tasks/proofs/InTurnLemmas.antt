@@ -24,7 +24,7 @@ use Rattle.gql_tasks.proofs.RecordLemmas.{with_more_none}
 use Rattle.gql_tasks.proofs.RoundLemmas.{enter_more, enters_none, enters_trans, so_far_enters_trans, so_far_enters_whole}
 use Rattle.gql_tasks.proofs.RunLemmas.{all_answered, all_done}
 
--- one more of those that wait, behind the others
+-- one more of those that wait, after the others
 waiting_more : (first : ℕ) (marks : List Mark) → waiting_from first marks ≡ [] → waiting_from first (marks ++ untold ∷ []) ≡ (first + length marks) ∷ []
 waiting_more first [] none = ap (λ n. n ∷ []) (let e : first ≡ first + 0 = omega arith in e)
 waiting_more first (untold ∷ marks) none = absurd (cc)
@@ -325,7 +325,7 @@ module _ {R Own World Future L H P : Type 0} {e : Parts R Own World Future L H P
           ∙ sym (past_more (serving_of e old) (subject e) (e.set.world old.set) done root);
     }
 
-  -- memory was wanting in that phase
+  -- memory ran out in that phase
   module _ {new : Moment R Future L H P} (want told : NoMemory) (cut : PhaseCut e next new want) where
     cut_stopped : e.set.is_lawful old.set → e.hooks.are_quiet old.hooks
         → Stopped (choice_by e.turns) (story_in (serving_of e next) (subject e) (e.set.world next.set) root) (with_root (stage e now) root) (e.set.told new.set) (e.set.begun new.set)
@@ -405,7 +405,7 @@ module _ {R Own World Future L H P : Type 0} (e : Parts R Own World Future L H P
   }
 
 module _ {R Own World Future L H P : Type 0} {e : Parts R Own World Future L H P} where
-  -- memory was wanting between two phases, or behind the last one
+  -- memory ran out between two phases, or after the last one
   pub cut_between : {old now : Moment R Future L H P} {done : List e.plan.Task} (told : NoMemory) (roots left : List e.plan.Task) → InTurn e old now done
       → roots ≡ done ++ left → told.roots ≡ length done → CutInTurn e old now roots told
   cut_between {old = old} {now = now} {done = done} told roots left turn split count = record {

@@ -128,7 +128,7 @@ module _ {R Own World Future L H P : Type 0} {e : Parts R Own World Future L H P
       ∙ come_more e.set.number (slice_set old.states number state.Done) count k due
       ∙ ap (λ ss. to_come_at e.set.number due (slice_get ss k)) (sym states_is))
 
-  -- where memory was wanting: no entry was told, or that of an answer
+  -- where memory ran out: no entry was told, or that of an answer
   pub so_far_none : (old : Moment R Future L H P) (set : R) → e.set.told set ≡ with_more (e.set.told old.set) [] → PacesSoFar e old set
   so_far_none old set told_is = record {
     entries = [];

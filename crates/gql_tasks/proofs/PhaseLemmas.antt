@@ -1,4 +1,4 @@
--- The phase of a root key: its answer, and all beneath it.
+-- The phase of a root key: its answer, and all under it.
 use Rattle.std.proofs.Common.{◌≡◌, true, false, if◌then◌else◌, [], sym, ap, ◌∙◌, inr}
 use Rattle.gql_base.specs.declared.no_memory.NoMemory.{NoMemory}
 use Rattle.gql_tasks.specs.Parts.{Parts, Moment, choice_by, due_by, subject}
@@ -18,7 +18,7 @@ module _ {R Own World Future L H P : Type 0} (e : Parts R Own World Future L H P
         else e.set.answer (e.set.rules old.set) (e.plan.asks task).call (e.set.effect (e.set.rules old.set) (e.plan.asks root).call (e.set.world old.set))) (is ∙ is_root);
   }
 
-  -- and all others in the world behind it
+  -- and all others in the world after it
   others_agree : (middle : Moment R Future L H P) → e.set.rules middle.set ≡ e.set.rules old.set
       → e.set.world middle.set ≡ e.set.effect (e.set.rules old.set) (e.plan.asks root).call (e.set.world old.set)
       → Agrees (subject e) false (due_by e.set middle.set) (phase_answers e old root)
@@ -47,7 +47,7 @@ module _ {R Own World Future L H P : Type 0} {e : Parts R Own World Future L H P
   as_paces_so_far : {old : Moment R Future L H P} {set : R} → PacesSoFar (without_root e) old set → PacesSoFar e old set
   as_paces_so_far s = record { entries = s.entries; told_is = s.told_is; made = s.made; stays = s.stays; splits = s.splits }
 
-  -- a root that was answered, and all beneath it
+  -- a root that was answered, and all under it
   pub phase_over : {old middle new : Moment R Future L H P} → e.root ≡ true → RootAnswered e old middle → Kept (without_root e) middle new → Went (without_root e) middle new
       → new.waiting ≡ [] → PhaseOver e old new
   phase_over {old = old} {middle = middle} is_root one kept went none = record {
@@ -69,7 +69,7 @@ module _ {R Own World Future L H P : Type 0} {e : Parts R Own World Future L H P
     paces = λ pace calm. paces_trans one.steady.rules_is (one.passed.paces pace calm) (as_paces (went.passed.paces (one.steady.paced_is pace) (one.steady.quiet_is calm)));
   }
 
-  -- memory was wanting for the root
+  -- memory ran out for the root
   pub phase_cut : {old new : Moment R Future L H P} (want : NoMemory) → e.root ≡ true → RootEnded e old new want → PhaseCut e old new want
   phase_cut {old = old} want is_root ended = record {
     steady = ended.steady;
@@ -79,7 +79,7 @@ module _ {R Own World Future L H P : Type 0} {e : Parts R Own World Future L H P
     paces = ended.ended.paces;
   }
 
-  -- or for what is beneath it
+  -- or for what is under it
   pub phase_cut_below : {old middle new : Moment R Future L H P} (want : NoMemory) → want.roots ≡ 1 → e.root ≡ true → RootAnswered e old middle
       → Kept (without_root e) middle new → Ended (without_root e) middle new → PhaseCut e old new want
   phase_cut_below {old = old} {middle = middle} want one_root is_root one kept ended = record {

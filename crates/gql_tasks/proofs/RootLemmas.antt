@@ -143,7 +143,7 @@ answered_world {V = V} E effect world new due given is turned =
     subst (λ (g : Given V). new ≡ world_turned {E = E} true effect world (Ok (turn.Answered g))) is turned
 
 module _ {R Own World Future L H P : Type 0} (e : Parts R Own World Future L H P) where
-  -- memory was wanting before anything was given
+  -- memory ran out before anything was given
   pub no_world_left : (root : Bool) (old new : Moment R Future L H P) (want : NoMemory) → want.roots ≡ 0 → e.set.world new.set ≡ e.set.world old.set → WorldLeft e root old new want
   no_world_left true old new want none same = inl (none, same)
   no_world_left false old new want none same = (none, same)
@@ -206,7 +206,7 @@ module _ {R Own World Future L H P : Type 0} {e : Parts R Own World Future L H P
     world_is = λ law. (subst (λ b. WorldLeft e b old new want) is (one.world law)).1;
   }
 
-  -- a turn, or turns, that ended for want of memory
+  -- a turn, or turns, that ended out of memory
   pub advanced_err : (Q : NoMemory → Type 0) {old new : Moment R Future L H P} (result : Result Reached NoMemory) → IsErrAnd result Q
       → ((want : NoMemory) → Q want → TurnEnded e old new want) → Advanced e old new result
   advanced_err Q (Ok x) is ended = absurd is

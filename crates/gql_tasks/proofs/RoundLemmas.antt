@@ -201,7 +201,7 @@ module _ {R Own World Future L H P : Type 0} {e : Parts R Own World Future L H P
         ∙ enter_more Future (slice_set old.states number state.Done) count k
         ∙ ap (λ ss. to_enter_at (slice_get ss k)) (sym states_is))
 
-    -- where memory was wanting after the round
+    -- where memory ran out after the round
     pub so_far_entered : (hooks : H) → e.hooks.told hooks ≡ with_more (e.hooks.told old.hooks) (map (event_of e.hooks) (enters_now context info was))
         → EntersSoFar e old hooks
     unfolding rounds_now

@@ -67,7 +67,7 @@ module _ (V Task F : Type 0) (root : Bool) (is_for : F → Call V → Type 0) (s
   length_fresh zero = refl
   length_fresh (suc n) = ap suc (length_fresh n)
 
-  -- a task is answered, and tasks are made beneath it
+  -- a task is answered, and tasks are made under it
   pub sound_settled : (root' : Bool) (holds holds' : ℕ → Given V → Type 0) (tasks more : List Task) (states : List (State F)) (waiting waiting' : List ℕ) (number : ℕ) (given : Given V)
       → Stands root is_for subject holds tasks states waiting
       → ((other : ℕ) (a : Given V) → (other ≡ number → ⊥) → holds other a → holds' other a) → holds' number given

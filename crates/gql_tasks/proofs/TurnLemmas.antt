@@ -94,7 +94,7 @@ module _ (V Task F State_ : Type 0) (choice : Choice State_) (asks : Task → As
         ∙ ap (λ ts. after_ready (made_of tasks states) number ts)
         (more_is ∙ ap (beneath_of story) (sym chosen.task_is)))
 
-    -- a turn that ended for want of memory after its entry
+    -- a turn that ended out of memory after its entry
     pub stopped_after : (is_ready : Bool) → told' ≡ with_more told (entry_of context is_ready ∷ [])
         → Stopped choice story (staged (made_of tasks states) told starts turns) told' starts'
     stopped_after is_ready told_is =
@@ -108,7 +108,7 @@ module _ (V Task F State_ : Type 0) (choice : Choice State_) (asks : Task → As
           turned = ran.turned;
         }
 
--- a turn that ended for want of memory before its entry
+-- a turn that ended out of memory before its entry
 pub stopped_before : {Task T : Type 0} (choice : Choice T) (tale : Story Task) (stage : Stage Task T)
     (told : Option (List RecordEntry)) (starts : Option (List ℕ)) (last : List ℕ)
     → told ≡ stage.told → length last ≤ 1 → starts ≡ with_more stage.starts last

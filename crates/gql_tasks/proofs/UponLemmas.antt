@@ -42,7 +42,7 @@ module _ {R Own World Future L H P : Type 0} {e : Parts R Own World Future L H P
       let lengths = sound.lengths in
       (inside, omega arith)
 
-  -- a stretch that ended for want of memory
+  -- a stretch that ended out of memory
   pub stretch_err : {T Want : Type 0} (Q : Want → Type 0) {old new : Moment R Future L H P} (result : Result T Want) → IsErrAnd result Q → Kept e old new → Ended e old new
       → Stretch e old new result
   stretch_err Q (Ok x) is kept ended = absurd is

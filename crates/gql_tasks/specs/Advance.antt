@@ -24,13 +24,13 @@ module _ {R Own World Future L H P : Type 0} (e : Parts R Own World Future L H P
     pub passed : Passed e old new
     pub world : e.set.is_lawful old.set → WorldAfter e.root old new
 
-  -- the world where memory was wanting: a root is told where its effect stands
+  -- the world where memory ran out: a root is told where its effect stands
   abbrev pub WorldLeft : Bool → Moment R Future L H P → Moment R Future L H P → NoMemory → Type 0
   WorldLeft true old new want = ((want.roots ≡ 0) × (e.set.world new.set ≡ e.set.world old.set))
       ⊎ ((want.roots ≡ 1) × LeavesEffect e old new)
   WorldLeft false old new want = (want.roots ≡ 0) × (e.set.world new.set ≡ e.set.world old.set)
 
-  -- memory was wanting
+  -- memory ran out
   pub record TurnEnded (old new : Moment R Future L H P) (want : NoMemory) : Type 0 where
     pub steady : Steady e old new
     pub ended : Ended e old new

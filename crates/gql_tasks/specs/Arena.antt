@@ -31,7 +31,7 @@ fresh_states zero = []
 fresh_states (suc n) = state.Fresh ∷ fresh_states n
 
 -- what is fixed of the tasks of a plan: what each asks, the text of its path, and the tasks that an
--- answer makes beneath it
+-- answer makes under it
 pub record Subject (V Task : Type 0) : Type 0 where
   pub call : Task → Call V
   pub path : Task → List ℕ

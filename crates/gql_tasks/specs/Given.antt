@@ -5,7 +5,7 @@ use Rattle.gql_tasks.specs.declared.given.Given.{Given}
 use Rattle.gql_tasks.specs.declared.given.Given.TheVariants.{Answered, Put}
 
 module _ {V : Type 0} where
-  -- the tasks beneath what a task is given: only an answer has some
+  -- the tasks under what a task is given: only an answer has some
   abbrev pub beneath_given : {Task : Type 0} → (Task → Answer V → List Task) → Task → Given V
       → List Task
   beneath_given beneath task (Answered answer) = beneath task answer

@@ -48,7 +48,7 @@ pub record EachPaced {Task : Type 0} (delay : Task → ℕ) (tasks : List Task)
   pub paced : (k : ℕ) (task : Task) → slice_get tasks k ≡ Some task
       → told_of k entries ≡ pending_then_ready (delay task)
 
--- in a record that ended for want of memory, the entries of each of these tasks are a front of
+-- in a record that ended out of memory, the entries of each of these tasks are a front of
 -- those
 pub record EachPacedSoFar {Task : Type 0} (delay : Task → ℕ) (tasks : List Task)
     (entries : List RecordEntry) : Type 0 where

@@ -1,5 +1,5 @@
 -- The root keys of a mutation, one after another (GraphQL, October 2021, section 6.2.2): each is a
--- phase of its own, with all that is beneath it, and the next begins in the world that it leaves.
+-- phase of its own, with all that is under it, and the next begins in the world that it leaves.
 use Rattle.std.specs.Prelude.{ℕ, ◌≡◌, ◌≤◌, ◌<◌, ◌++◌, if◌then◌else◌, List, [], ◌∷◌, ◌⊎◌, Option, Some}
 use Rattle.std.specs.Prelude.{◌+◌, Bool, length, slice_get, take}
 use Rattle.std.specs.Option.{ForSome}
@@ -20,7 +20,7 @@ use Rattle.gql_tasks.specs.Record.{waiting_from}
 use Rattle.gql_tasks.specs.Root.{LeavesEffect, without_root}
 
 -- what is answered to a call in a phase between two worlds: to a root key in the first one, and to
--- all others in the one behind it
+-- all others in the one after it
 abbrev pub answer_between : {V W : Type 0} → (Call V → W → Answer V) → W → W → Call V → Answer V
 answer_between answer before behind call =
     if call.is_root then answer call before else answer call behind
@@ -47,7 +47,7 @@ pub record PacedSince {Task : Type 0} (first : ℕ) (delay : Task → ℕ) (task
   pub paced : (k : ℕ) (task : Task) → first ≤ k → slice_get tasks k ≡ Some task
       → told_of k entries ≡ pending_then_ready (delay task)
 
--- the same where memory was wanting: the entries of its root key are a front of those
+-- the same where memory ran out: the entries of its root key are a front of those
 pub record PacedSinceSoFar {Task : Type 0} (first : ℕ) (delay : Task → ℕ) (root : Task)
     (entries : List RecordEntry) : Type 0 where
   pub earlier : (k : ℕ) → k < first → told_of k entries ≡ []
@@ -86,13 +86,13 @@ module _ {V W Task : Type 0} (serving : Serving V W) (subject : Subject V Task) 
   abbrev pub story_in : W → Task → Story Task
   story_in world root = story_of subject (answers_in world root)
 
-  -- the world behind root keys
+  -- the world after root keys
   abbrev pub world_past : W → List Task → W
   world_past world [] = world
   world_past world (root ∷ roots) = world_past (serving.effect (subject.call root) world) roots
 
   module _ {State : Type 0} (choice : Choice State) where
-    -- a whole phase: it begins with its root key behind all tasks so far, and ends where none waits
+    -- a whole phase: it begins with its root key after all tasks so far, and ends where none waits
     pub record IsPhase (world : W) (root : Task) (old new : Stage Task State) : Type 0 where
       pub ran : Ran choice (story_in world root) (with_root old root) new
       pub whole : waiting new.made ≡ []
@@ -107,7 +107,7 @@ module _ {V W Task : Type 0} (serving : Serving V W) (subject : Subject V Task) 
         × IsPhase world root old middle
         × Phases (serving.effect (subject.call root) world) roots middle new
 
-    -- a phase that ended for want of memory
+    -- a phase that ended out of memory
     pub record IsCutPhase (world : W) (root : Task) (old : Stage Task State)
         (told : Option (List RecordEntry)) (starts : Option (List ℕ)) : Type 0 where
       pub stopped : Stopped choice (story_in world root) (with_root old root) told starts
@@ -115,13 +115,13 @@ module _ {V W Task : Type 0} (serving : Serving V W) (subject : Subject V Task) 
           PacedSinceSoFar (length old.made.tasks)
           (λ task. serving.delay (subject.call task).resolver) root stopped.entries)
 
-    -- memory was wanting in the phase of the first of these root keys, or behind all phases
+    -- memory ran out in the phase of the first of these root keys, or after all phases
     abbrev pub CutBefore : W → List Task → Stage Task State → Option (List RecordEntry)
         → Option (List ℕ) → Type 0
     CutBefore world [] old told starts = (told ≡ old.told) × (starts ≡ old.starts)
     CutBefore world (root ∷ roots) old told starts = IsCutPhase world root old told starts
 
-    -- whole phases of the first of these root keys, and memory that was wanting behind them
+    -- whole phases of the first of these root keys, and memory that was wanting after them
     pub record AreCut (world : W) (roots : List Task) (old : Stage Task State)
         (told : Option (List RecordEntry)) (starts : Option (List ℕ)) : Type 0 where
       pub done : List Task
@@ -147,12 +147,12 @@ module _ {R Own World Future P Task : Type 0} (set : Resolving R Own World Futur
     pub phases : Phases serving_at work.subject (choice_by turns) (set.world old.set) work.first
         none_made (stage_of set turns made new)
 
-  -- where memory was wanting, it is that of whole phases, and of the one that was cut
+  -- where memory ran out, it is that of whole phases, and of the one that was cut
   abbrev pub HaltsInTurn : Type 0
   HaltsInTurn = AreCut serving_at work.subject (choice_by turns) (set.world old.set) work.first
       none_made (set.told new.set) (set.begun new.set)
 
-  -- the world is that behind the first so many root keys
+  -- the world is that after the first so many root keys
   pub record RootsStand (roots : ℕ) : Type 0 where
     pub within : roots ≤ length work.first
     pub world : set.world new.set
@@ -187,7 +187,7 @@ module _ {R Own World Future L H P : Type 0} (e : Parts R Own World Future L H P
         → Progress e old new (phase_answers old root)
     pub paces : e.set.is_paced old.set → e.hooks.are_quiet old.hooks → Paces e old new
 
-  -- a phase that ended for want of memory: its root is told where its effect stands
+  -- a phase that ended out of memory: its root is told where its effect stands
   pub record PhaseCut (old new : Moment R Future L H P) (want : NoMemory) : Type 0 where
     pub steady : Steady e old new
     pub enters : EntersSoFar e old new.hooks
@@ -200,7 +200,7 @@ module _ {R Own World Future L H P : Type 0} (e : Parts R Own World Future L H P
         (stage e old) (e.set.told new.set) (e.set.begun new.set)
     pub paces : e.set.is_paced old.set → e.hooks.are_quiet old.hooks → PacesSoFar e old new.set
 
-  -- what stands behind whole phases: none waits, and the next root key is yet to be made
+  -- what stands after whole phases: none waits, and the next root key is yet to be made
   pub record InTurn (old now : Moment R Future L H P) (done : List e.plan.Task) : Type 0 where
     pub steady : Steady e old now
     pub lengths : length now.states ≡ length (e.plan.tasks now.plan)
@@ -215,7 +215,7 @@ module _ {R Own World Future L H P : Type 0} (e : Parts R Own World Future L H P
     pub world : e.set.is_lawful old.set → e.hooks.are_quiet old.hooks → e.set.world now.set
         ≡ world_past (serving_of old) (subject e) (e.set.world old.set) done
 
-  -- the task of the next root key is made, behind all others
+  -- the task of the next root key is made, after all others
   pub record NextRoot (now next : Moment R Future L H P) (root : e.plan.Task) : Type 0 where
     pub tasks_is : e.plan.tasks next.plan ≡ e.plan.tasks now.plan ++ root ∷ []
     pub states_is : next.states ≡ now.states ++ fresh_states 1
@@ -229,7 +229,7 @@ module _ {R Own World Future L H P : Type 0} (e : Parts R Own World Future L H P
     pub held : (number : ℕ) → number < length (e.plan.tasks now.plan)
         → (given : Given Own) × e.plan.holds next.plan number given
 
-  -- memory was wanting: what was told by then, and the world behind the root keys that stand
+  -- memory ran out: what was told by then, and the world after the root keys that stand
   pub record CutInTurn (old new : Moment R Future L H P) (roots : List e.plan.Task)
       (want : NoMemory) : Type 0 where
     pub steady : Steady e old new

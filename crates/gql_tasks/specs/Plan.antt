@@ -19,7 +19,7 @@ pub record Asking (V : Type 0) : Type 0 where
   pub parent : List ℕ
   pub ty : TypeRef
 
--- more tasks stand behind those that were made, and their number is told
+-- more tasks stand after those that were made, and their number is told
 abbrev pub HasMade : {Task : Type 0} → List Task → List Task → List Task → ℕ → Type 0
 HasMade old new more count = (new ≡ old ++ more) × (count ≡ length more)
 

@@ -80,7 +80,7 @@ module _ {R Own World Future L H P : Type 0} (e : Parts R Own World Future L H P
         → to_come_at e.set.number due (slice_get old.states k)
         ≡ told_of k entries ++ to_come_at e.set.number due (slice_get new.states k)
 
-  -- the same where memory was wanting: the entries of each task are a front of those that were to
+  -- the same where memory ran out: the entries of each task are a front of those that were to
   -- come
   pub record PacesSoFar (old : Moment R Future L H P) (set : R) : Type 0 where
     pub entries : List RecordEntry
@@ -99,7 +99,7 @@ module _ {R Own World Future L H P : Type 0} (e : Parts R Own World Future L H P
     pub once : (k : ℕ) → to_enter_at (slice_get old.states k)
         ≡ times k rounds.entered + to_enter_at (slice_get new.states k)
 
-  -- the same where memory was wanting: once at most
+  -- the same where memory ran out: once at most
   pub record EntersSoFar (old : Moment R Future L H P) (hooks : H) : Type 0 where
     pub made : List e.plan.Task
     pub stays : KeepNumbers (e.plan.tasks old.plan) made
@@ -129,7 +129,7 @@ module _ {R Own World Future L H P : Type 0} (e : Parts R Own World Future L H P
     pub sound : IsSound new
     pub passed : Passed old new
 
-  -- a stretch of turns that ended for want of memory: what the set and the hooks have told by then
+  -- a stretch of turns that ended out of memory: what the set and the hooks have told by then
   pub record Ended (old new : Moment R Future L H P) : Type 0 where
     pub enters : EntersSoFar old new.hooks
     pub stopped : e.set.is_lawful old.set → e.hooks.are_quiet old.hooks
@@ -139,7 +139,7 @@ module _ {R Own World Future L H P : Type 0} (e : Parts R Own World Future L H P
         (e.set.told new.set) (e.set.begun new.set)
     pub paces : e.set.is_paced old.set → e.hooks.are_quiet old.hooks → PacesSoFar old new.set
 
-  -- a stretch of turns, whether it ended well or for want of memory
+  -- a stretch of turns, whether it ended well or out of memory
   pub record Stretch {T Want : Type 0} (old new : Moment R Future L H P)
       (result : Result T Want) : Type 0 where
     pub kept : Kept old new
@@ -182,7 +182,7 @@ module _ {R Own World Future P Task : Type 0} (set : Resolving R Own World Futur
         EachPaced (λ task. delay_by set old.set (work.subject.call task).resolver) made.tasks
         ran.entries)
 
-  -- an execution of such tasks that ended for want of memory. Where the set is paced and tells its
+  -- an execution of such tasks that ended out of memory. Where the set is paced and tells its
   -- record, the entries of each of these tasks are a front of those
   pub record RunStopped (work : Work Own Task) (old new : Seen R P) : Type 0 where
     pub stopped : Stopped (choice_by turns) (story_at work.subject old)

@@ -15,7 +15,7 @@ pub data Mark : Type 0 where
   ready : Mark
 
 -- what is fixed of each task: the number of its resolver, the text of its path, and the tasks
--- beneath its answer
+-- under its answer
 pub record Story (Task : Type 0) : Type 0 where
   pub resolver : Task → ℕ
   pub path : Task → List ℕ
@@ -47,7 +47,7 @@ untold_marks (task ∷ tasks) = untold ∷ untold_marks tasks
 abbrev pub fresh : {Task : Type 0} → List Task → Made Task
 fresh tasks = record { tasks = tasks; marks = untold_marks tasks }
 
--- the tasks beneath the answer of a task, where it is made
+-- the tasks under the answer of a task, where it is made
 abbrev pub beneath_of : {Task : Type 0} → Story Task → Option Task → List Task
 beneath_of story None = []
 beneath_of story (Some task) = story.beneath task
@@ -56,7 +56,7 @@ beneath_of story (Some task) = story.beneath task
 abbrev pub after_pending : {Task : Type 0} → Made Task → ℕ → Made Task
 after_pending made task = record { tasks = made.tasks; marks = slice_set made.marks task begun }
 
--- a ready entry marks it too, and the tasks beneath its answer are made
+-- a ready entry marks it too, and the tasks under its answer are made
 abbrev pub after_ready : {Task : Type 0} → Made Task → ℕ → List Task → Made Task
 after_ready made task more = record
     { tasks = made.tasks ++ more; marks = slice_set made.marks task ready ++ untold_marks more }
@@ -150,7 +150,7 @@ module _ {Task State : Type 0} (choice : Choice State) (story : Story Task) wher
     pub state_is : new.turns ≡ option_map (λ s. state_at choice story s old.made entries) old.turns
     pub made_is : new.made ≡ made_at story old.made entries
 
-  -- what an execution that ended for want of memory has told: such a stretch, and at most one task
+  -- what an execution that ended out of memory has told: such a stretch, and at most one task
   -- more has begun
   pub record Stopped (old : Stage Task State) (told : Option (List RecordEntry))
       (starts : Option (List ℕ)) : Type 0 where

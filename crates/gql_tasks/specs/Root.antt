@@ -67,7 +67,7 @@ module _ {R Own World Future L H P : Type 0} (e : Parts R Own World Future L H P
     pub passed : Passed e old new
     pub world : e.set.is_lawful old.set → e.hooks.are_quiet old.hooks → LeavesEffect old new
 
-  -- memory was wanting: a root is told where its effect stands
+  -- memory ran out: a root is told where its effect stands
   pub record RootEnded (old new : Moment R Future L H P) (want : NoMemory) : Type 0 where
     pub steady : Steady e old new
     pub ended : Ended e old new

@@ -69,7 +69,7 @@ module _ {V Task : Type 0} (asks : Task → Asking V) where
     pub rounds : ToldRounds hooks made old new
     pub once : (k : ℕ) (task : Task) → slice_get made k ≡ Some task → times k rounds.entered ≡ 1
 
-  -- the same where memory was wanting: one round at most for each
+  -- the same where memory ran out: one round at most for each
   pub record RoundsStopped {H : Type 0} (hooks : Hooking H) (tasks : List Task)
       (old new : H) : Type 0 where
     pub made : List Task

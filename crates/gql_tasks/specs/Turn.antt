@@ -22,7 +22,7 @@ GoesOn (Ok entered.Go) = Unit {0}
 GoesOn (Ok (entered.Answer put)) = ⊥
 GoesOn (Err e) = Unit {0}
 
--- a round that was entered is one event; where memory was wanting, there was none
+-- a round that was entered is one event; where memory ran out, there was none
 abbrev pub happened : {T E Event : Type 0} → Result (Entered T) E → Event → List Event
 happened (Ok entered) event = event ∷ []
 happened (Err e) event = []
@@ -89,7 +89,7 @@ enters_now context info state.Fresh = record { context = context; info = info } 
 enters_now context info (state.Waiting future) = []
 enters_now context info state.Done = []
 
--- where memory was wanting, they may not have been
+-- where memory ran out, they may not have been
 abbrev pub EntersAtMost : {Event : Type 0} → List Event → Option (List Event) → Option (List Event)
     → Type 0
 EntersAtMost events old new = (new ≡ old) ⊎ (new ≡ with_more old events)
@@ -109,6 +109,6 @@ PutKeeps old new (Ok turn.Begun) = Unit {0}
 PutKeeps old new (Ok turn.Pending) = Unit {0}
 PutKeeps old new (Err e) = Unit {0}
 
--- where memory was wanting, the task may have begun without an entry
+-- where memory ran out, the task may have begun without an entry
 abbrev pub BeginsAtMost : ℕ → Option (List ℕ) → Option (List ℕ) → Type 0
 BeginsAtMost task old new = (new ≡ old) ⊎ (new ≡ with_more old (task ∷ []))

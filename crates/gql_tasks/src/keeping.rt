@@ -12,7 +12,7 @@ use crate::settling::settle;
 use gql_base::Made;
 use std::alloc::Global;
 
-/// Keeps what a task was given, and notes that it has its answer and which tasks are made beneath
+/// Keeps what a task was given, and notes that it has its answer and which tasks are made under
 /// it.
 pub(crate) fn keep_given<V, L: Plan<V>, F: Drop>(
     alloc: Global,

@@ -1,4 +1,4 @@
-//! A phase of a mutation: one root key with all that is beneath it.
+//! A phase of a mutation: one root key with all that is under it.
 ghost use Rattle.std.specs.Prelude.{◌≡◌, length, IfErr, OnOk};
 ghost use Rattle.gql_tasks.specs.Parts.{root_parts, at, outside};
 ghost use Rattle.gql_tasks.specs.Phases.{PhaseCut, PhaseOver};
@@ -14,7 +14,7 @@ use gql_resolve::{ResolverSet, Turns};
 use std::alloc::Global;
 use std::sync::ledger::Ledger;
 
-/// Answers the one task that waits, as a root of a mutation, and then all beneath it, in the world
+/// Answers the one task that waits, as a root of a mutation, and then all under it, in the world
 /// that it leaves. Want of memory tells the root where its effect stands.
 pub fn run_phase<R: ResolverSet, L: Plan<R::Own>, H: Rounds, P: Turns, S: Ledger>(
     alloc: Global,

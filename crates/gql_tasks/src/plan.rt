@@ -10,7 +10,7 @@ use gql_request::ResolveInfo;
 use gql_resolve::ResolverContext;
 use std::alloc::Global;
 
-/// A growing list of tasks: what each asks, and what its answer makes beneath. The engine knows
+/// A growing list of tasks: what each asks, and what its answer makes under. The engine knows
 /// nothing else of GraphQL.
 pub trait Plan<V> {
     ghost Task: { Type 0 };
@@ -21,7 +21,7 @@ pub trait Plan<V> {
     /// What a task asks.
     ghost asks: { Task → Asking V };
 
-    /// The tasks that an answer makes beneath a task.
+    /// The tasks that an answer makes under a task.
     ghost beneath: { Task → Answer V → List Task };
 
     /// What is kept of what the task of a number was given.
@@ -53,7 +53,7 @@ pub trait Plan<V> {
         ensures { (task : Task) → slice_get (tasks self.now) number ≡ Some task
             → IsInfoOf (asks task) result };
 
-    /// Keeps what a task was given, makes the tasks beneath, and tells their number.
+    /// Keeps what a task was given, makes the tasks under, and tells their number.
     fn complete(&mut self, alloc: Global, number: usize, given: Given<V>) -> Made<usize>
         requires { number < length (tasks self.old) }
         ensures made { (task : Task) → slice_get (tasks self.old) number ≡ Some task
@@ -63,7 +63,7 @@ pub trait Plan<V> {
         ensures keeps { OnOk result ((other : ℕ) (g : Given V) → (other ≡ number → ⊥)
             → holds self.old other g → holds self.new other g) };
 
-    /// What is beneath an answer is no root of a mutation.
+    /// What is under an answer is no root of a mutation.
     ghost never_roots: { (task : Task) (answer : Answer V) (place : ℕ) (below : Task)
         → slice_get (beneath task answer) place ≡ Some below → (asks below).call.is_root ≡ false };
 }

@@ -1,4 +1,4 @@
-//! The phase of a root key of a mutation: its task is answered alone, and all beneath it goes on
+//! The phase of a root key of a mutation: its task is answered alone, and all under it goes on
 //! from there.
 ghost use Rattle.std.specs.Prelude.{◌≡◌, ◌<◌, Ok, false, length, OnOk, IfErr};
 ghost use Rattle.gql_tasks.specs.Arena.{events_left};

@@ -9,7 +9,7 @@ use gql_base::Made;
 use std::alloc::Global;
 
 /// Notes that a task, which stands at a place of those that wait, has its answer, and that tasks
-/// are made beneath it.
+/// are made under it.
 pub(crate) fn settle<F: Drop>(
     arena: &mut Arena<F>,
     place: usize,

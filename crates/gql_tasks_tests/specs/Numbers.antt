@@ -1,4 +1,4 @@
--- Numbers as tasks: what each asks, and which are beneath it.
+-- Numbers as tasks: what each asks, and which are under it.
 use Rattle.std.proofs.Common.{zero, suc, Bool, true, false, refl, subst}
 use Rattle.std.specs.Prelude.{ℕ, ◌≡◌, ◌&&◌, List, [], ◌∷◌, Option, Some, None, slice_get}
 use Rattle.gql_base.specs.declared.path_segment.PathSegment.{PathSegment}
@@ -33,11 +33,11 @@ asking_of task = record {
   ty = task.ground.now.ty;
 }
 
--- a number beneath another one
+-- a number under another one
 abbrev pub number_below : Number → ℕ → Number
 number_below task value = record task { value = value; above = Some task.value }
 
--- beneath each first number there are 0 and 1
+-- under each first number there are 0 and 1
 abbrev pub below : Option ℕ → Number → List Number
 below None task = number_below task 0 ∷ number_below task 1 ∷ []
 below (Some above) task = []
@@ -49,7 +49,7 @@ numbers_below task answer = below task.above task
 abbrev pub IsAimed : List Number → List PathSegment → ℕ → Type 0
 IsAimed tasks path number = (task : Number) → slice_get tasks number ≡ Some task → path ≡ path_of task
 
--- a number beneath another one is no root of a mutation
+-- a number under another one is no root of a mutation
 no_root : (b : Bool) → (b && false) ≡ false
 no_root true = refl
 no_root false = refl

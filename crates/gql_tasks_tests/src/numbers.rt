@@ -1,4 +1,4 @@
-//! A plan of numbers: each is a task, and beneath each first one there are 0 and 1.
+//! A plan of numbers: each is a task, and under each first one there are 0 and 1.
 ghost use Rattle.std.specs.Prelude.{◌≡◌, OnOk};
 ghost use Rattle.std.specs.Option.{option_copied};
 ghost use Rattle.gql_tasks.specs.Plan.{alias_in};
@@ -24,7 +24,7 @@ pub struct Number<'a> {
 impl<'a> Number<'a> {
     ghost use Rattle.gql_tasks_tests.specs.Numbers.{number_below};
 
-    /// A number beneath it.
+    /// A number under it.
     fn below(self, value: u16) -> Number<'a>
         ensures { result ≡ number_below self.entry value }
     {
@@ -83,7 +83,7 @@ impl<'a> Numbers<'a> {
         given
     }
 
-    /// The numbers beneath one, of which a first one has some. Tells how many these are.
+    /// The numbers under one, of which a first one has some. Tells how many these are.
     fn push_below(&mut self, task: Number<'a>) -> Made<usize>
         ensures { IfOk result
             (HasMade self.old.tasks.items self.new.tasks.items (below task.entry.above task.entry)) }

@@ -27,7 +27,7 @@ fn record_text(alloc: Global, set: &Meeting) -> Made<String> {
     Ok(out)
 }
 
-/// What the numbers 0 and 1 and those beneath them are given.
+/// What the numbers 0 and 1 and those under them are given.
 fn pair<H: Rounds, S: Ledger>(
     alloc: Global,
     ground: &Ground,
@@ -52,7 +52,7 @@ fn pair<H: Rounds, S: Ledger>(
     Ok(plan.into_given())
 }
 
-/// What the number 1 as a root of a mutation, and those beneath it, are given.
+/// What the number 1 as a root of a mutation, and those under it, are given.
 fn root<S: Ledger>(
     alloc: Global,
     ground: &Ground,
