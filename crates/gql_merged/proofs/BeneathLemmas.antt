@@ -37,7 +37,7 @@ use Rattle.gql_merged.specs.declared.parent.Found.{Found}
 use Rattle.gql_merged.specs.declared.parent.Parent.{Parent}
 use Rattle.gql_merged.specs.declared.step.Step.{Step}
 use Rattle.gql_merged.proofs.JobLemmas.{level_jobs}
-use Rattle.gql_merged.proofs.NestLemmas.{collected_nest, every_both}
+use Rattle.gql_select.proofs.NestLemmas.{collected_nest, every_both}
 use Rattle.gql_merged.proofs.PathLemmas.{trail_some}
 use Rattle.gql_merged.proofs.WithinLemmas.{both_within, groups_all}
 

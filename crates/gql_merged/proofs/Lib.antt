@@ -24,7 +24,6 @@ pub mod ListedLemmas
 pub mod ListingLemmas
 pub mod MergedLemmas
 pub mod MovingLemmas
-pub mod NestLemmas
 pub mod NodesLemmas
 pub mod PathLemmas
 pub mod PlacedLemmas

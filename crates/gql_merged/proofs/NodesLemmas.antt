@@ -20,7 +20,7 @@ use Rattle.gql_merged.specs.declared.basis.Grouping.{Grouping}
 use Rattle.gql_merged.specs.declared.group.Group.{Group}
 use Rattle.gql_merged.specs.declared.level.Node.{Node}
 use Rattle.gql_merged.proofs.LevelLemmas.{asked_zipped}
-use Rattle.gql_merged.proofs.NestLemmas.{both_nests}
+use Rattle.gql_select.proofs.NestLemmas.{both_nests}
 use Rattle.gql_merged.proofs.TaskLemmas.{zip_values}
 use Rattle.gql_merged.proofs.WithinLemmas.{groups_all}
 

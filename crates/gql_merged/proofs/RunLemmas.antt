@@ -63,7 +63,7 @@ use Rattle.gql_merged.specs.declared.task.Task.{Task}
 use Rattle.gql_merged.proofs.BeneathLemmas.{every_at, every_of, jobs_all, jobs_all_as}
 use Rattle.gql_merged.proofs.CountedLemmas.{tasks_counted}
 use Rattle.gql_merged.proofs.JobLemmas.{at_root, root_level_jobs}
-use Rattle.gql_merged.proofs.NestLemmas.{collected_nest}
+use Rattle.gql_select.proofs.NestLemmas.{collected_nest}
 use Rattle.gql_merged.proofs.PlacedLemmas.{apart_at, root_right}
 use Rattle.gql_merged.proofs.WithinLemmas.{nests_within}
 

@@ -18,7 +18,7 @@ use Rattle.gql_merged.specs.Grouped.{groups_by}
 use Rattle.gql_merged.specs.Within.{IsWithin}
 use Rattle.gql_merged.specs.declared.basis.Grouping.{Grouping}
 use Rattle.gql_merged.specs.declared.basis.Grouping.TheVariants as grouping
-use Rattle.gql_merged.proofs.NestLemmas.{collected_all, every_both}
+use Rattle.gql_select.proofs.NestLemmas.{collected_all, every_both}
 
 pub every_map : {X : Type 0} (P Q : X → Type 0) → ((x : X) → P x → Q x) → (xs : List X) → AllByRecursion P xs → AllByRecursion Q xs
 every_map P Q f [] h = tt

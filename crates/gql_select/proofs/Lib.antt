@@ -6,7 +6,9 @@ pub mod GivenLemmas
 pub mod GroupLemmas
 pub mod KeptLemmas
 pub mod LawProofs
+pub mod LevelLemmas
 pub mod MergeLemmas
+pub mod NestLemmas
 pub mod OccurrenceLemmas
 pub mod Rows
 pub mod SerialLemmas

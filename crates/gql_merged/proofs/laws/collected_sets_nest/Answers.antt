@@ -1,4 +1,4 @@
-use Rattle.gql_merged.proofs.NestLemmas.{collected_nest}
+use Rattle.gql_select.proofs.NestLemmas.{collected_nest}
 use Rattle.gql_merged.proofs.laws.collected_sets_nest.Goals as goal
 
 pub returns : goal.returns

@@ -23,7 +23,7 @@ none_step : {B : Type 0} (o rest all : Option B) → (rest ≡ None → all ≡ 
 none_step None rest all next h = next h
 none_step (Some b) rest all next h = cc
 
-none_both : {A B : Type 0} (f : A → Option B) (xs ys : List A) → first_in f xs ≡ None → first_in f ys ≡ None → first_in f (xs ++ ys) ≡ None
+pub none_both : {A B : Type 0} (f : A → Option B) (xs ys : List A) → first_in f xs ≡ None → first_in f ys ≡ None → first_in f (xs ++ ys) ≡ None
 none_both f [] ys one other = other
 none_both f (x ∷ xs) ys one other = none_step (f x) (first_in f xs) (first_in f (xs ++ ys)) (λ h. none_both f xs ys h other) one
 
