@@ -1,14 +1,20 @@
 -- What is told of conflicts.
-use Rattle.std.proofs.Common.{◌≡◌, ℕ, suc, List, [], ◌∷◌, ◌++◌, map, sym, subst, inl, inr}
+use Rattle.std.proofs.Common.{◌≡◌, ℕ, List, [], ◌∷◌, ◌++◌, map, Option, Some, None, refl, sym, subst, inl, inr}
 use Rattle.std.specs.List.{Contains}
 use Rattle.std.proofs.lemmas.List.Elements.{Contains-append_cases}
+use Rattle.gql_doc.specs.Depth.{deep_from, operation_set, operations_in, selections_of}
 use Rattle.gql_doc.specs.declared.document.ExecutableDocument.{ExecutableDocument}
+use Rattle.gql_doc.specs.declared.document.Positioned.{Positioned}
+use Rattle.gql_doc.specs.declared.document.SelectionSet.{SelectionSet}
+use Rattle.gql_schema.specs.TableReading.{has_type}
+use Rattle.gql_select.proofs.LevelLemmas.{flat_same, nested_conflicts_same}
 use Rattle.gql_conflicts.specs.ConflictOrder.{Lists}
-use Rattle.gql_conflicts.specs.DocumentConflicts.{IsConflict}
-use Rattle.gql_conflicts.specs.Rooted.{Rooted}
+use Rattle.gql_conflicts.specs.DocumentConflicts.{IsConflict, conflicts_at, document_conflicts, operation_conflicts, told}
+use Rattle.gql_conflicts.specs.Rooted.{Rooted, objects_beneath, root_of}
 use Rattle.gql_conflicts.specs.declared.conflict.Conflict.{Conflict}
 use Rattle.gql_admit.specs.Circular.{Adds}
 use Rattle.gql_admit.specs.Conflicting.{IsConflicting, conflict_breach, rooted_in}
+use Rattle.gql_admit.specs.Limits.{NestsWithin}
 use Rattle.gql_admit.specs.Terms.{Terms}
 use Rattle.gql_admit.specs.declared.breach.Breach.{Breach}
 use Rattle.gql_admit.proofs.AddingLemmas.{adds_same, adds_told}
@@ -39,25 +45,46 @@ module _ {A B : Type 0} (f : A → B) where
         | inr behind ↦ later_in (f y) (f x) (map f xs) (image_at xs x behind)
       ]
 
+-- in whichever levels the sets of a document nest, it has the same conflicts
+module _ (rooted : Rooted) (document : ExecutableDocument) (one other : ℕ) where
+  same_at : (root : Option (List ℕ)) (set : Positioned SelectionSet) → deep_from document.fragments one set ≡ None → deep_from document.fragments other set ≡ None
+      → conflicts_at rooted document.fragments one root (selections_of set) ≡ conflicts_at rooted document.fragments other root (selections_of set)
+  same_at None set nests also = refl
+  same_at (Some root) set nests also =
+      nested_conflicts_same document.fragments (has_type rooted.table) (objects_beneath rooted) told one other set nests also root
+
+  conflicts_same : NestsWithin document one → NestsWithin document other
+      → document_conflicts rooted document one ≡ document_conflicts rooted document other
+  conflicts_same nests also =
+      flat_same (λ operation. deep_from document.fragments one (operation_set operation))
+      (λ operation. deep_from document.fragments other (operation_set operation))
+      (operation_conflicts rooted document.fragments one) (operation_conflicts rooted document.fragments other)
+      (λ operation here there. same_at (root_of rooted operation.node.ty) (operation_set operation) here there)
+      (operations_in document.operations) nests.none also.none
+
 -- the conflicts of a document, all told
 pub all_conflicts : (terms : Terms) (document : ExecutableDocument) (rooted : Rooted) (levels : ℕ) (conflicts : List Conflict) (old new : List Breach)
-    → rooted ≡ rooted_in terms → levels ≡ suc terms.depth → Lists (IsConflict rooted document levels) conflicts
+    → rooted ≡ rooted_in terms → NestsWithin document levels → Lists (IsConflict rooted document levels) conflicts
     → new ≡ old ++ map conflict_breach conflicts → Adds (IsConflicting terms document) old new
-all_conflicts terms document rooted levels conflicts old new roots deep lists is =
+all_conflicts terms document rooted levels conflicts old new roots nests lists is =
     adds_same (Contains (map conflict_breach conflicts)) (IsConflicting terms document) old new to back (adds_told old (map conflict_breach conflicts) new is)
   where
-    there : (conflict : Conflict) → IsConflict rooted document levels conflict → IsConflict (rooted_in terms) document (suc terms.depth) conflict
-    there conflict = subst (λ (p : Rooted × ℕ). IsConflict p.0 document p.1 conflict) (λ i. (roots i, deep i))
+    there : (conflict : Conflict) → IsConflict rooted document levels conflict → IsConflict (rooted_in terms) document levels conflict
+    there conflict = subst (λ (r : Rooted). IsConflict r document levels conflict) roots
 
-    here : (conflict : Conflict) → IsConflict (rooted_in terms) document (suc terms.depth) conflict → IsConflict rooted document levels conflict
-    here conflict = subst (λ (p : Rooted × ℕ). IsConflict p.0 document p.1 conflict) (sym (λ i. (roots i, deep i)))
+    here : (conflict : Conflict) (others : ℕ) → NestsWithin document others → IsConflict (rooted_in terms) document others conflict
+        → IsConflict rooted document levels conflict
+    here conflict others also stands =
+        subst (λ (r : Rooted). IsConflict r document levels conflict) (sym roots)
+        (subst (λ all. Contains all conflict) (conflicts_same (rooted_in terms) document others levels also nests) stands)
 
     to : (found : Breach) → Contains (map conflict_breach conflicts) found → IsConflicting terms document found
     to found at =
         let from = image_from conflict_breach conflicts found at in
-        record { conflict = from.item; stands = there from.item ((lists.exact from.item).0 from.there); is = from.is }
+        record { levels = levels; nests = nests; conflict = from.item; stands = there from.item ((lists.exact from.item).0 from.there); is = from.is }
 
     back : (found : Breach) → IsConflicting terms document found → Contains (map conflict_breach conflicts) found
     back found meant =
         subst (λ e. Contains (map conflict_breach conflicts) e) (sym meant.is)
-        (image_at conflict_breach conflicts meant.conflict ((lists.exact meant.conflict).1 (here meant.conflict meant.stands)))
+        (image_at conflict_breach conflicts meant.conflict
+        ((lists.exact meant.conflict).1 (here meant.conflict meant.levels meant.nests meant.stands)))

@@ -1,11 +1,12 @@
 -- Fields of one key that can't be merged (GraphQL, October 2021, section 5.3.2).
-use Rattle.std.specs.Prelude.{◌≡◌, suc}
+use Rattle.std.specs.Prelude.{◌≡◌, ℕ}
 use Rattle.gql_doc.specs.declared.document.ExecutableDocument.{ExecutableDocument}
 use Rattle.gql_conflicts.specs.DocumentConflicts.{IsConflict}
 use Rattle.gql_conflicts.specs.Rooted.{Rooted}
 use Rattle.gql_conflicts.specs.declared.conflict.Conflict.{Conflict}
 use Rattle.gql_admit.specs.Breach.{breach}
 use Rattle.gql_admit.specs.BreachTexts.{conflict_text}
+use Rattle.gql_admit.specs.Limits.{NestsWithin}
 use Rattle.gql_admit.specs.Terms.{Terms}
 use Rattle.gql_admit.specs.declared.breach.Breach.{Breach}
 use Rattle.gql_admit.specs.declared.breach.BreachKind.TheVariants as kinds
@@ -25,9 +26,12 @@ abbrev pub conflict_breach : Conflict → Breach
 conflict_breach conflict =
     breach conflict.pos kinds.Conflict conflict.key (conflict_text conflict.key)
 
--- this is told of a conflict of the document, whose sets are followed as deep as they may lie
+-- this is told of a conflict of the document, whose sets are followed in as many levels as they nest
+-- within: at every depth
 pub record IsConflicting (terms : Terms) (document : ExecutableDocument) (found : Breach) : Type 0
   where
+    pub levels : ℕ
+    pub nests : NestsWithin document levels
     pub conflict : Conflict
-    pub stands : IsConflict (rooted_in terms) document (suc terms.depth) conflict
+    pub stands : IsConflict (rooted_in terms) document levels conflict
     pub is : found ≡ conflict_breach conflict

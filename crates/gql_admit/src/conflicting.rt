@@ -1,8 +1,9 @@
 //! Fields that can't be merged with the first one of their key.
-ghost use Rattle.std.specs.Prelude.{◌≡◌, ◌++◌, IfOk, OnOk, map, string_bytes, suc};
+ghost use Rattle.std.specs.Prelude.{◌≡◌, ◌++◌, IfOk, OnOk, map, string_bytes};
 ghost use Rattle.gql_admit.specs.BreachTexts.{conflict_text};
 ghost use Rattle.gql_admit.specs.Circular.{Adds};
 ghost use Rattle.gql_admit.specs.Conflicting.{IsConflicting, conflict_breach, rooted_in};
+ghost use Rattle.gql_admit.specs.Limits.{IsWithinDepth, NestsWithin};
 ghost use Rattle.gql_admit.specs.Terms.{terms_of};
 ghost use Rattle.gql_conflicts.specs.Rooted.{rooted_of};
 
@@ -12,32 +13,36 @@ use crate::site::Site;
 use gql_base::{Items, Made};
 use gql_conflicts::{Conflict, RootedTypes, conflicts_in};
 use gql_doc::ExecutableDocument;
-use std::alloc::{AllocError, Global};
+use std::alloc::Global;
 
-/// Tells of each field that can't be merged with the first one of its key.
-#[tactic(auto, using(crate::proofs::ConflictingLemmas::all_conflicts))]
+/// Tells of each field that can't be merged with the first one of its key, at every depth. The
+/// document lies within some limit on the depth.
 pub fn tell_conflicts(
     alloc: Global,
     site: &Site<'_>,
     doc: &ExecutableDocument,
     found: &mut Items<Breach>,
 ) -> Made<()>
+    requires { IsWithinDepth doc.now }
     ensures { OnOk result (Adds (IsConflicting (terms_of site.now) doc.now) found.old found.new) }
 {
-    let levels = levels_of(site)?;
-    let conflicts = conflicts_in(alloc, &rooted(site), doc, levels)?;
-    tell_each(alloc, conflicts.as_slice(), found)
+    tell_nested(alloc, site, doc, usize::MAX, found)
 }
 
-/// How many levels of sets may lie in each other. The end of `usize`, which no document comes to,
-/// counts as want of memory.
-fn levels_of(site: &Site<'_>) -> Made<usize>
-    ensures { IfOk result (λ levels. levels ≡ suc (terms_of site.now).depth) }
+/// The same of a document for whose sets so many levels suffice.
+#[tactic(auto, using(crate::proofs::ConflictingLemmas::all_conflicts))]
+fn tell_nested(
+    alloc: Global,
+    site: &Site<'_>,
+    doc: &ExecutableDocument,
+    levels: usize,
+    found: &mut Items<Breach>,
+) -> Made<()>
+    requires { NestsWithin doc.now levels }
+    ensures { OnOk result (Adds (IsConflicting (terms_of site.now) doc.now) found.old found.new) }
 {
-    match site.depth.checked_add(1) {
-        Some(levels) => Ok(levels),
-        None => Err(AllocError),
-    }
+    let conflicts = conflicts_in(alloc, &rooted(site), doc, levels)?;
+    tell_each(alloc, conflicts.as_slice(), found)
 }
 
 fn rooted<'a>(site: &Site<'a>) -> RootedTypes<'a>

@@ -4,6 +4,7 @@ ghost use Rattle.std.specs.Option.{option_copied};
 ghost use Rattle.gql_admit.specs.Asked.{asking};
 ghost use Rattle.gql_admit.specs.BreachOrder.{Lists};
 ghost use Rattle.gql_admit.specs.BuiltIn.{built_in as the_built_in};
+ghost use Rattle.gql_admit.specs.Limits.{IsWithinDepth};
 ghost use Rattle.gql_admit.specs.RulesChecked.{IsBreach, IsChecked, error_of, refused_with};
 ghost use Rattle.gql_admit.specs.Terms.{terms_of};
 ghost use Rattle.gql_admit.specs.Walking.{terms_in};
@@ -28,8 +29,9 @@ use std::alloc::Global;
 /// are unknown fields, leaves with a set and other types without one, conditions on types that
 /// aren't composite, directives, arguments and the literals that they are given, unknown fragments,
 /// fragments that reach themselves, the definitions of variables, their uses at the places that an
-/// operation reaches, and fields that can't be merged under one key. Of the operation that this
-/// name asks for, or without a name the only one, the values of the variables are looked at.
+/// operation reaches, and fields that can't be merged under one key, however deep they lie. Of the
+/// operation that this name asks for, or without a name the only one, the values of the variables
+/// are looked at. The document lies within some limit on the depth.
 pub fn check_rules(
     alloc: Global,
     site: &Site<'_>,
@@ -37,6 +39,7 @@ pub fn check_rules(
     variables: &Variables,
     name: Option<&str>,
 ) -> Made<Result<(), Items<ServerError>>>
+    requires { IsWithinDepth doc.now }
     ensures { IfOk result (λ checked. IsChecked (terms_of site.now)
         (asking variables.now (option_copied name.entry)) doc.now checked) }
 {
@@ -68,6 +71,7 @@ fn breaches_of(
 ) -> Made<Items<Breach>>
     requires fragments { against.fragments.now ≡ doc.now.fragments }
     requires built { against.built.now ≡ the_built_in }
+    requires within { IsWithinDepth doc.now }
     ensures { IfOk result
         (λ breaches. Lists (IsBreach (terms_in against.entry)
         (asking variables.now (option_copied name.entry)) doc.now) breaches) }

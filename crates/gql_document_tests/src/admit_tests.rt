@@ -2,6 +2,7 @@
 //! `@skip` and `@include` leave of it, and its preparation as a whole. Texts that are refused stand
 //! among the stored runs of `gql_cases`; here is one of each kind.
 ghost use Rattle.std.specs.Prelude.{◌≡◌};
+ghost use Rattle.gql_admit.specs.Limits.{IsWithinDepth};
 
 use crate::sample::{document_of, types, variables};
 use crate::summary::set_summary;
@@ -270,13 +271,20 @@ const REQUESTS: [Asked; 4] = [
     ),
 ];
 
-/// Documents over the sample of types, and what is told of the rules that they break.
-const RULES: [Asked; 2] = [
+/// Documents over the sample of types, and what is told of the rules that they break. The last one
+/// lies deeper than its site's limit.
+const RULES: [Asked; 3] = [
     ("{ value o { a } }", None, ""),
     (
         "query A($on: Int) { value1 } query B($no: Int) { value }",
         Some("A"),
         r#"Variable "$on" has no fitting value. 1:9; Unknown field "value1" on type "Query". 1:21; "#,
+    ),
+    (
+        "{ ...A } fragment A on Query { ...B } fragment B on Query { ...C } \
+        fragment C on Query { k: value k: __typename }",
+        None,
+        r#"Fields "k" conflict. 1:99; "#,
     ),
 ];
 
@@ -360,9 +368,24 @@ fn requests_are_prepared(rt: HostRuntime) -> Result<(), Fail> {
 
 /// What is told of a text, where `$on` is true and `$no` is 1.
 fn rules_answer(alloc: Global, types: &Types, text: &str, name: Option<&str>) -> Made<String> {
-    let variables = variables(alloc)?;
     let document = document_of(alloc, text)?;
-    match check_rules(alloc, &site(types), &document, &variables, name)? {
+    match check_depth(alloc, &document, 8)? {
+        Ok(()) => rules_text(alloc, types, &document, name),
+        Err(error) => error_text(alloc, &error),
+    }
+}
+
+/// The same of a document that lies within some limit on the depth.
+fn rules_text(
+    alloc: Global,
+    types: &Types,
+    document: &ExecutableDocument,
+    name: Option<&str>,
+) -> Made<String>
+    requires { IsWithinDepth document.now }
+{
+    let variables = variables(alloc)?;
+    match check_rules(alloc, &site(types), document, &variables, name)? {
         Ok(()) => Ok(String::new(alloc)),
         Err(errors) => errors_text(alloc, &errors),
     }

@@ -7,10 +7,11 @@ use Rattle.std.specs.Option.{is_some}
 use Rattle.std.specs.Str.{bytes_eq}
 use Rattle.gql_base.specs.Pairs.{names_of, under, values_of}
 use Rattle.gql_base.specs.TypeRef.{innermost}
+use Rattle.gql_base.specs.declared.pos.Pos.{Pos}
 use Rattle.gql_base.specs.declared.server_error.ServerError.{ServerError}
 use Rattle.gql_base.specs.declared.type_ref.TypeRef.{the_lemmas}
 use Rattle.gql_base.specs.declared.type_ref.TypeRef.TheVariants as ref
-use Rattle.gql_doc.specs.Depth.{Fragments, operation_set, operations_in, selections_of}
+use Rattle.gql_doc.specs.Depth.{deep, Fragments, operation_set, operations_in, selections_of}
 use Rattle.gql_doc.specs.declared.document.DocumentOperations.{DocumentOperations}
 use Rattle.gql_doc.specs.declared.document.DocumentOperations.TheVariants.{Multiple, Single}
 use Rattle.gql_doc.specs.declared.document.ExecutableDocument.{ExecutableDocument}
@@ -25,7 +26,9 @@ use Rattle.gql_admit.proofs.KeepLemmas.{set_items}
 use Rattle.gql_admit.specs.Asked.{Asked}
 use Rattle.gql_admit.specs.Choice.{choice, choice_of, chosen, named, only, Operation, with_fragments}
 use Rattle.gql_admit.specs.Conflicting.{conflict_breach, rooted_in}
-use Rattle.gql_admit.specs.Prepared.{asked_by, IsLimited, IsPrepared, IsRead, IsRuled, IsSettled, known_of, kept_operation, limits_checked, Prepared}
+use Rattle.gql_admit.specs.Limits.{refused_by}
+use Rattle.gql_admit.specs.Prepared.{asked_by, both_pass, directives_limited, IsLimited, IsPrepared, IsRead, IsRuled, IsSettled, known_of, kept_operation, limits_checked, Prepared}
+use Rattle.gql_admit.specs.Refusal.{depth_error}
 use Rattle.gql_admit.specs.RulesChecked.{conflicting, IsChecked, refused_with}
 use Rattle.gql_admit.specs.Terms.{Terms}
 use Rattle.gql_admit.specs.declared.breach.Breach.{Breach}
@@ -162,14 +165,22 @@ refused_none [] passed is = refl
 refused_none (found ∷ others) passed is = absurd (cc)
 
 module _ (terms : Terms) (asked : Asked) (document : ExecutableDocument) where
-  no_conflicts : (passed : Unit {0}) → IsChecked terms asked document (Ok passed) → document_conflicts (rooted_in terms) document (suc terms.depth) ≡ []
-  no_conflicts passed checked = all_none (document_conflicts (rooted_in terms) document (suc terms.depth)) none
+  no_conflicts : (passed : Unit {0}) → deep document terms.depth ≡ None → IsChecked terms asked document (Ok passed)
+      → document_conflicts (rooted_in terms) document (suc terms.depth) ≡ []
+  no_conflicts passed within checked = all_none (document_conflicts (rooted_in terms) document (suc terms.depth)) none
     where
       none : (conflict : Conflict) → IsConflict (rooted_in terms) document (suc terms.depth) conflict → ⊥
       none conflict stands =
           none_in (conflict_breach conflict) ⊥
           (subst (λ breaches. Contains breaches (conflict_breach conflict)) (refused_none checked.breaches passed checked.answer)
-          ((checked.all.exact (conflict_breach conflict)).1 (conflicting (record { conflict = conflict; stands = stands; is = refl }))))
+          ((checked.all.exact (conflict_breach conflict)).1
+          (conflicting (record { levels = suc terms.depth; nests = record { none = within }; conflict = conflict; stands = stands; is = refl }))))
+
+-- the first of two checks passes where both do
+first_passes : (tell : Pos → ServerError) (found : Option Pos) (second : Result (Unit {0}) ServerError) (passed : Unit {0})
+    → both_pass (refused_by tell found) second ≡ Ok passed → found ≡ None
+first_passes tell None second passed is = refl
+first_passes tell (Some place) second passed is = absurd (cc)
 
 append_none : {A : Type 0} (xs ys : List A) → xs ++ ys ≡ [] → (xs ≡ []) × (ys ≡ [])
 append_none [] ys is = (refl, is)
@@ -239,18 +250,22 @@ module _ (terms : Terms) (request : Request) where
         none = ap (λ fs. operation_conflicts (rooted_in terms) fs (suc terms.depth) found.operation) at.1 ∙ at.0;
       }
 
-  from_checked : (env : QueryEnv) (document : ExecutableDocument) (checked : Result (Unit {0}) (List ServerError))
+  from_checked : (env : QueryEnv) (document : ExecutableDocument) (checked : Result (Unit {0}) (List ServerError)) → deep document terms.depth ≡ None
       → IsChecked terms (asked_by request) document checked → IsRuled terms request document checked (Ok env) → IsClean env
-  from_checked env document (Ok passed) rules ruled =
-      from_choice env document (choice document request.operation_name) refl ruled (no_conflicts terms (asked_by request) document passed rules)
-  from_checked env document (Err errors) rules ruled = absurd (cc)
+  from_checked env document (Ok passed) within rules ruled =
+      from_choice env document (choice document request.operation_name) refl ruled (no_conflicts terms (asked_by request) document passed within rules)
+  from_checked env document (Err errors) within rules ruled = absurd (cc)
 
-  from_limited : (env : QueryEnv) (document : ExecutableDocument) (limited : Result (Unit {0}) ServerError) → IsLimited terms request document limited (Ok env) → IsClean env
-  from_limited env document (Ok passed) is = from_checked env document is.checked is.rules is.answer
-  from_limited env document (Err error) is = absurd (cc)
+  from_limited : (env : QueryEnv) (document : ExecutableDocument) (limited : Result (Unit {0}) ServerError) → limits_checked terms document ≡ limited
+      → IsLimited terms request document limited (Ok env) → IsClean env
+  from_limited env document (Ok passed) limits is =
+      from_checked env document is.checked
+      (first_passes (depth_error terms.depth) (deep document terms.depth) (directives_limited document terms.depth terms.directives) passed limits)
+      is.rules is.answer
+  from_limited env document (Err error) limits is = absurd (cc)
 
   from_read : (env : QueryEnv) (read : Result ExecutableDocument ParseFault) → IsRead terms request read (Ok env) → IsClean env
-  from_read env (Ok document) is = from_limited env document (limits_checked terms document) is
+  from_read env (Ok document) is = from_limited env document (limits_checked terms document) refl is
   from_read env (Err fault) is = absurd (cc)
 
 module _ {V : Type 0} (schema : Schema) (request : DynamicRequest V) (env : QueryEnv) (object : Object) where
