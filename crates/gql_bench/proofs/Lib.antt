@@ -4,6 +4,5 @@ mod CellLemmas
 mod FreshLemmas
 mod PlainRuleLemmas
 mod ReadingLemmas
-mod RecordLemmas
 pub mod SendLemmas
 mod SumLemmas

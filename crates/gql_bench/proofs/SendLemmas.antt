@@ -1,18 +1,20 @@
 -- The rules of a bench and its table may go to other threads, and threads may read them at once: a lemma for each type, from below.
--- What a resolver gives holds itself, so that no lemma on it is made with the type.
+-- What a resolver gives holds itself, so that no lemma on it is made with the type. The rules are shared,
+-- so that each lemma on what holds them asks both of a rule.
 use denote.Param.Send.{IsSend, IsSync, sendable}
 use denote.RattleType.{RattleType}
 use Rattle.gql_base.proofs.SendLemmas.{value_field_send, value_field_sync}
 use Rattle.gql_base.proofs.boxed.Boxed.TheSendSync as boxed
+use Rattle.gql_base.proofs.common.Common.TheSendSync as common
 use Rattle.gql_base.proofs.items.Items.TheSendSync as items
 use Rattle.gql_base.proofs.name.Name.TheSendSync as name
 use Rattle.gql_base.proofs.text.Text.TheSendSync as text
 use Rattle.gql_form.specs.contracts.path.Path as path
 use Rattle.gql_request.proofs.header_op.HeaderOp.TheSendSync as header_op
 use Rattle.gql_resolve.proofs.field_value.FieldValue.TheLaws.TheKnot as knot
+use Rattle.gql_resolve.proofs.record_entry.RecordEntry.TheSendSync as entry
 use Rattle.gql_resolve.specs.contracts.field_value.FieldValue as field_value
 use Rattle.std.proofs.Crossing as std
-use Rattle.gql_bench.proofs.record.Record.TheSendSync as told
 use Rattle.gql_bench.specs.contracts.rule.Rule as rule
 use Rattle.gql_bench.specs.contracts.rule.RuleKind as kind
 use Rattle.gql_bench.specs.contracts.table.Table as table
@@ -48,15 +50,6 @@ kind_send = search (kind_field_send, sendable) depth 20
 pub rule_send : IsSend rule.the_row
 rule_send = search (kind_field_send, text.the_send, header_op.the_send, items.the_send, sendable) depth 20
 
-table_field_send : IsSend table.the_field.row
-table_field_send = search (rule_send, told.the_send, items.the_send, std.crosses, sendable) depth 20
-
-pub table_send : IsSend table.the_row
-table_send = search (table_field_send, sendable) depth 20
-
-pub maker_send : IsSend maker.the_row
-maker_send = search (table_field_send, sendable) depth 20
-
 -- what a resolver gives, as a part of another type
 given_field_sync : (V : RattleType) → IsSync V → IsSync (field_value.the_field V).row
 given_field_sync V p = search (
@@ -87,8 +80,35 @@ kind_sync = search (kind_field_sync, sendable) depth 20
 pub rule_sync : IsSync rule.the_row
 rule_sync = search (kind_field_sync, text.the_sync, header_op.the_sync, items.the_sync, sendable) depth 20
 
+table_field_send : IsSend table.the_field.row
+table_field_send = search (
+  rule_send,
+  rule_sync,
+  entry.the_send,
+  common.the_send,
+  items.the_send,
+  items.the_sync,
+  std.crosses,
+  sendable,
+) depth 20
+
+pub table_send : IsSend table.the_row
+table_send = search (table_field_send, sendable) depth 20
+
+pub maker_send : IsSend maker.the_row
+maker_send = search (table_field_send, sendable) depth 20
+
 table_field_sync : IsSync table.the_field.row
-table_field_sync = search (rule_sync, told.the_sync, items.the_sync, std.crosses, sendable) depth 20
+table_field_sync = search (
+  rule_send,
+  rule_sync,
+  entry.the_sync,
+  common.the_sync,
+  items.the_send,
+  items.the_sync,
+  std.crosses,
+  sendable,
+) depth 20
 
 pub table_sync : IsSync table.the_row
 table_sync = search (table_field_sync, sendable) depth 20

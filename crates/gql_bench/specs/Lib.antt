@@ -9,7 +9,6 @@ pub mod Found
 pub mod Given
 pub mod ListTurns
 pub mod Outcome
-pub mod Record
 pub mod RecordText
 pub mod Rule
 pub mod SchemaTable

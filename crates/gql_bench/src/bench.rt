@@ -3,7 +3,7 @@ ghost use Rattle.std.specs.Prelude.{length};
 ghost use Rattle.gql_bench.specs.Cells.{AreBelow};
 
 use crate::rule::Rule;
-use gql_base::Items;
+use gql_base::{Common, Items};
 use gql_form::{EventForm, SessionForm};
 use gql_request::BatchRequest;
 use gql_resolve::FieldValue;
@@ -17,8 +17,9 @@ pub struct Bench {
     /// resolvers, and fields of subscriptions their sources, by their numbers in the order of the
     /// bench.
     pub builder: SchemaBuilder,
-    /// The rules of the resolvers by their numbers. Where the entity rule is set, it is the last.
-    pub rules: Items<Rule>,
+    /// The rules of the resolvers by their numbers, which the resolver sets that are made of the
+    /// bench share. Where the entity rule is set, it is the last.
+    pub rules: Common<Items<Rule>>,
     /// The events of the sources by their numbers.
     pub sources: Items<Items<EventForm>>,
     /// The cells of the world.

@@ -12,7 +12,7 @@ use crate::given::given_from;
 use crate::rule::Rule;
 use crate::rule_table::RuleTable;
 use crate::schema_table::builder_of;
-use gql_base::{Items, Made};
+use gql_base::{Common, Items, Made};
 use gql_form::{BenchForm, EventForm, SchemaForm, SessionForm, SetupForm, TypeForm, WorkForm};
 use gql_request::BatchRequest;
 use gql_resolve::FieldValue;
@@ -21,7 +21,7 @@ use std::alloc::Global;
 /// What a bench has beside its schema, its requests and its session.
 #[derive(Drop)]
 struct Contents {
-    rules: Items<Rule>,
+    rules: Common<Items<Rule>>,
     sources: Items<Items<EventForm>>,
     cells: Items<i64>,
     root: FieldValue<i64>,
@@ -80,7 +80,7 @@ fn contents_of(alloc: Global, setup: SetupForm) -> Made<Contents>
     let entities = schema.settings.entities;
     let RuleTable { rules, sources } = RuleTable::of(alloc, types_of(schema), entities)?;
     Ok(Contents {
-        rules,
+        rules: Common::new(alloc, rules)?,
         sources,
         cells,
         root,

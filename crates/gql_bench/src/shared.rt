@@ -1,10 +1,9 @@
 //! The public types but `Bench` can be moved to threads and shared between them.
-use crate::{Entries, ListTurns, Numbers, Rule, RuleKind, Table, TableFuture, TableMaker};
+use crate::{ListTurns, Numbers, Rule, RuleKind, Table, TableFuture, TableMaker};
 
 fn shared<T: Send + Sync>() {}
 
-fn public_types<'a>() {
-    shared::<Entries<'a>>();
+fn public_types() {
     shared::<ListTurns>();
     shared::<Numbers>();
     shared::<TableFuture>();

@@ -6,11 +6,13 @@ ghost use Rattle.gql_bench.specs.Cells.{AreBelow, kind_below};
 ghost use Rattle.gql_bench.specs.Table.{table_effect};
 
 use crate::answering::{answer_of, value_of};
+use crate::bench::Bench;
 use crate::bump::{bumped, is_root};
-use crate::record::{Entries, Record};
 use crate::rule::{Rule, RuleKind};
-use gql_base::{Copied, Items, Made};
-use gql_resolve::{Answer, FieldFuture, FieldValue, Polled, ResolverContext, ResolverSet};
+use gql_base::{Common, Copied, Items, Made};
+use gql_resolve::{
+    Answer, FieldFuture, FieldValue, Polled, RecordEntry, ResolverContext, ResolverSet,
+};
 use std::alloc::Global;
 
 /// The resolvers of a bench. A resolver answers by the rule of its number, after as many pending
@@ -18,9 +20,9 @@ use std::alloc::Global;
 /// record, and the tasks that it began.
 #[derive(Drop)]
 pub struct Table {
-    rules: Items<Rule>,
+    rules: Common<Items<Rule>>,
     cells: Items<i64>,
-    told: Record,
+    told: Items<RecordEntry>,
     begun: Vec<u64>,
     ghost placed: { AreBelow (length cells) rules },
 }
@@ -42,30 +44,33 @@ impl Table {
     ghost use Rattle.gql_bench.specs.Cells.{AreBelow};
     ghost use Rattle.gql_bench.specs.Table.{table_answer, table_effect};
 
-    /// The resolver set of these rules over these cells, which has begun nothing. Each cell that a
-    /// rule names is one of them.
-    pub fn of(alloc: Global, rules: Items<Rule>, cells: Items<i64>) -> Table
-        requires { AreBelow (length cells) rules }
-        ensures lawful { ⟦<Table as ResolverSet>⟧.is_lawful result }
-        ensures paced { ⟦<Table as ResolverSet>⟧.is_paced result }
-        ensures rules { ⟦<Table as ResolverSet>⟧.rules result ≡ rules }
-        ensures world { ⟦<Table as ResolverSet>⟧.world result ≡ cells }
-        ensures told { ⟦<Table as ResolverSet>⟧.told result ≡ Some [] }
-        ensures begun { ⟦<Table as ResolverSet>⟧.begun result ≡ Some [] }
+    /// The resolver set of a bench's rules over its cells, which has begun nothing. The rules are
+    /// shared with the bench, and the cells are copied.
+    pub fn of(alloc: Global, bench: &Bench) -> Made<Table>
+        ensures lawful { IfOk result ⟦<Table as ResolverSet>⟧.is_lawful }
+        ensures paced { IfOk result ⟦<Table as ResolverSet>⟧.is_paced }
+        ensures rules { IfOk result
+            (λ table. ⟦<Table as ResolverSet>⟧.rules table ≡ bench.now.rules) }
+        ensures world { IfOk result
+            (λ table. ⟦<Table as ResolverSet>⟧.world table ≡ bench.now.cells) }
+        ensures told { IfOk result (λ table. ⟦<Table as ResolverSet>⟧.told table ≡ Some []) }
+        ensures begun { IfOk result (λ table. ⟦<Table as ResolverSet>⟧.begun table ≡ Some []) }
     {
-        Table {
+        let rules = bench.rules.try_clone(alloc)?;
+        let cells = bench.cells.try_clone(alloc)?;
+        Ok(Table {
             rules,
             cells,
-            told: Record::new(alloc),
+            told: Items::new(alloc),
             begun: Vec::new(alloc),
-        }
+        })
     }
 
     /// The record so far.
-    pub(crate) fn record(&self) -> Entries<'_>
-        ensures { ⟦<Table as ResolverSet>⟧.told self.now ≡ Some result }
+    pub(crate) fn record(&self) -> &[RecordEntry]
+        ensures { ⟦<Table as ResolverSet>⟧.told self.now ≡ Some result.now }
     {
-        self.told.entries()
+        self.told.as_slice()
     }
 
     /// The number of polls of a resolver that are pending before its answer.
@@ -113,13 +118,14 @@ impl Table {
     }
 
     /// Adds an entry to the record.
-    fn tell(&mut self, call: &ResolverContext<'_, i64>, ready: bool) -> Made<()>
+    fn tell(&mut self, alloc: Global, call: &ResolverContext<'_, i64>, ready: bool) -> Made<()>
         ensures told { OnOk result (self.new ≡ record self.old { told = self.new.told }) }
         ensures entry { OnOk result
             (self.new.told ≡ self.old.told ++ entry_of call.now ready ∷ []) }
         ensures err { OnErr result (self.new ≡ self.old) }
     {
-        self.told.add(call, ready)
+        let entry = RecordEntry::of(alloc, call, ready)?;
+        self.told.push(entry)
     }
 }
 
@@ -199,7 +205,7 @@ impl ResolverSet for Table {
         match self.value_at_once(alloc, call)? {
             Some(value) => {
                 self.begun.reserve(1)?;
-                self.tell(call, true)?;
+                self.tell(alloc, call, true)?;
                 self.begun.push_reserved(call.task);
                 Ok(FieldFuture::Value(value))
             }
@@ -221,12 +227,12 @@ impl ResolverSet for Table {
         call: &ResolverContext<'_, i64>,
     ) -> Made<Polled<i64>> {
         if future.left > 0 {
-            self.tell(call, false)?;
+            self.tell(alloc, call, false)?;
             future.left -= 1;
             return Ok(Polled::Pending);
         }
         let answer = self.answer_to(alloc, call)?;
-        self.tell(call, true)?;
+        self.tell(alloc, call, true)?;
         Ok(Polled::Ready(answer))
     }
 
@@ -238,7 +244,8 @@ impl ResolverSet for Table {
     ) -> Made<Polled<i64>> {
         match self.poll(alloc, future, call)? {
             Polled::Ready(answer) => {
-                leave_effect(&self.rules, &mut self.cells, call);
+                let rules: &Items<Rule> = &self.rules;
+                leave_effect(rules, &mut self.cells, call);
                 Ok(Polled::Ready(answer))
             }
             Polled::Pending => Ok(Polled::Pending),

@@ -1,15 +1,12 @@
 //! What makes the resolver sets of benches, and holds the last one.
 ghost use Rattle.std.specs.Prelude.{◌≡◌, ℕ, ℤ, List, [], Some, None, IfOk, IfSome, MatchOption};
-ghost use Rattle.std.specs.Prelude.{length};
 ghost use Rattle.gql_resolve.specs.Call.{Call};
-ghost use Rattle.gql_bench.specs.Cells.{AreBelow};
 ghost use Rattle.gql_bench.specs.Table.{table_answer, table_effect, table_delay};
 
-use crate::record::Entries;
-use crate::rule::Rule;
+use crate::bench::Bench;
 use crate::table::Table;
 use gql_base::{Items, Made};
-use gql_resolve::ResolverSet;
+use gql_resolve::{RecordEntry, ResolverSet};
 use std::alloc::Global;
 
 /// Makes the resolver sets of benches, and holds the set that was given back last.
@@ -21,22 +18,21 @@ pub trait Tables {
     /// The set that is held, if any.
     ghost held: { Self → Option Self.Set };
 
-    /// The resolver set of a bench's rules over its cells, which it takes. Each cell that a rule
-    /// names is one of them.
-    fn make(&mut self, alloc: Global, rules: Items<Rule>, cells: Items<i64>) -> Made<Self::Set>
-        requires { AreBelow (length cells) rules }
+    /// The resolver set of a bench's rules over its cells.
+    fn make(&mut self, alloc: Global, bench: &Bench) -> Made<Self::Set>
         ensures held { held self.new ≡ held self.old }
         ensures lawful { IfOk result Self.Set.is_lawful }
         ensures paced { IfOk result Self.Set.is_paced }
-        ensures world { IfOk result (λ set. Self.Set.world set ≡ cells) }
+        ensures world { IfOk result (λ set. Self.Set.world set ≡ bench.now.cells) }
         ensures answer { IfOk result (λ set. (call : Call ℤ) (world : List ℤ)
             → Self.Set.answer (Self.Set.rules set) call world
-            ≡ table_answer rules call world) }
+            ≡ table_answer bench.now.rules call world) }
         ensures effect { IfOk result (λ set. (call : Call ℤ) (world : List ℤ)
             → Self.Set.effect (Self.Set.rules set) call world
-            ≡ table_effect rules call world) }
+            ≡ table_effect bench.now.rules call world) }
         ensures delay { IfOk result (λ set. (resolver : ℕ)
-            → Self.Set.delay (Self.Set.rules set) resolver ≡ table_delay rules resolver) }
+            → Self.Set.delay (Self.Set.rules set) resolver
+            ≡ table_delay bench.now.rules resolver) }
         ensures told { IfOk result (λ set. Self.Set.told set ≡ Some []) }
         ensures begun { IfOk result (λ set. Self.Set.begun set ≡ Some []) };
 
@@ -45,9 +41,9 @@ pub trait Tables {
         ensures { held self.new ≡ Some set };
 
     /// The record of the set that is held, and no entry where none is held.
-    fn told(&self) -> Entries<'_>
-        ensures { MatchOption (held self.now) (result
-            ≡ []) (λ set. IfSome (Self.Set.told set) (λ entries. result ≡ entries)) };
+    fn told(&self) -> &[RecordEntry]
+        ensures { MatchOption (held self.now) (result.now
+            ≡ []) (λ set. IfSome (Self.Set.told set) (λ entries. result.now ≡ entries)) };
 }
 
 /// Makes tables.
@@ -70,18 +66,18 @@ impl Tables for TableMaker {
 
     ghost held = { λ maker. maker.held };
 
-    fn make(&mut self, alloc: Global, rules: Items<Rule>, cells: Items<i64>) -> Made<Table> {
-        Ok(Table::of(alloc, rules, cells))
+    fn make(&mut self, alloc: Global, bench: &Bench) -> Made<Table> {
+        Table::of(alloc, bench)
     }
 
     fn take_back(&mut self, set: Table) {
         self.held = Some(set);
     }
 
-    fn told(&self) -> Entries<'_> {
+    fn told(&self) -> &[RecordEntry] {
         match &self.held {
             Some(table) => table.record(),
-            None => Entries::none(),
+            None => &[],
         }
     }
 }

@@ -29,16 +29,14 @@ pub(crate) fn answer_by<M: Tables>(alloc: Global, bench: Bench, tables: &mut M) 
     ensures { IfOk result (λ answer. (set : M.Set) × (M.held tables.new ≡ Some set)
         × IsAnswerTo bench (M.Set.told set) answer) }
 {
+    let mut set = tables.make(alloc, &bench)?;
     let Bench {
         builder,
-        rules,
-        cells,
         root,
         turns,
         requests,
         ..
     } = bench;
-    let mut set = tables.make(alloc, rules, cells)?;
     let mut turns = ListTurns::new(turns);
     let answer = answer_over(alloc, builder, requests, root, &mut set, &mut turns);
     tables.take_back(set);

@@ -9,8 +9,9 @@ use crate::command::Command;
 use crate::lines::{line_after, line_of};
 use crate::outcome::Outcome;
 use gql_base::{Made, Text};
-use gql_bench::{Bench, Entries, Tables, text_behind};
+use gql_bench::{Bench, Tables, text_behind};
 use gql_request::BatchResponse;
+use gql_resolve::RecordEntry;
 use std::alloc::Global;
 
 /// What a bench gives to a command. Its requests are executed over a set that `tables` makes, and
@@ -28,9 +29,7 @@ pub(crate) fn bench_outcome<M: Tables>(
         return Ok(Outcome::NotBuilt);
     }
     match answer_by(alloc, bench, tables)? {
-        Answer::Response(response) => {
-            response_outcome(alloc, command, &tables.told(), &response)
-        }
+        Answer::Response(response) => { response_outcome(alloc, command, tables.told(), &response) }
         Answer::BadSchema(text) => {
             let line = line_after(alloc, "schema: ", text.as_str())?;
             Ok(Outcome::BadSchema(line))
@@ -43,7 +42,7 @@ pub(crate) fn bench_outcome<M: Tables>(
 fn response_outcome(
     alloc: Global,
     command: Command,
-    entries: &Entries<'_>,
+    entries: &[RecordEntry],
     response: &BatchResponse,
 ) -> Made<Outcome>
     ensures { IfOk result (λ outcome. outcome ≡ outcome_for (errors_in (responses_of response.now))
@@ -61,14 +60,16 @@ fn response_outcome(
 fn written_text(
     alloc: Global,
     command: Command,
-    entries: &Entries<'_>,
+    entries: &[RecordEntry],
     response: &BatchResponse,
 ) -> Made<Text>
     ensures { IfOk result (λ text. text ≡ response_text command entries.now response.now) }
 {
     let line = line_of(alloc, response)?;
     match command {
-        Command::Execute | Command::Batch => Ok(line),
         Command::Record => text_behind(alloc, entries, &line),
+        Command::Execute | Command::Batch | Command::Threads | Command::Stream | Command::Ws => Ok(
+            line,
+        ),
     }
 }

@@ -6,8 +6,8 @@ ghost use Rattle.gql_cli.specs.Outcome.{line};
 ghost use Rattle.gql_request.specs.BatchResponse.{batch_json};
 
 use gql_base::{JsonText, Made, Text};
-use gql_bench::Entries;
 use gql_request::BatchResponse;
+use gql_resolve::RecordEntry;
 use std::alloc::Global;
 
 /// The line of a text after these words.
@@ -35,7 +35,7 @@ pub(crate) fn line_of(alloc: Global, response: &BatchResponse) -> Made<Text>
 pub(crate) fn load_line(
     alloc: Global,
     rows: usize,
-    entries: &Entries<'_>,
+    entries: &[RecordEntry],
     response: &BatchResponse,
 ) -> Made<Text>
     ensures { IfOk result (λ text. text ≡ load_line rows entries.now response.now) }

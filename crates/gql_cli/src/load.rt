@@ -21,7 +21,7 @@ pub(crate) fn load_outcome<M: Tables>(alloc: Global, rows: usize, tables: &mut M
     let bench = bench_over(alloc, form)?;
     match answer_by(alloc, bench, tables)? {
         Answer::Response(response) => {
-            let line = load_line(alloc, rows, &tables.told(), &response)?;
+            let line = load_line(alloc, rows, tables.told(), &response)?;
             Ok(Outcome::Loaded(line))
         }
         Answer::BadSchema(_) => unreachable!(),

@@ -4,7 +4,7 @@ use crate::asking::told;
 use crate::bench_tests::bench;
 use crate::parts::Parts;
 use gql_base::{Items, Made, Value, from_json};
-use gql_bench::{Bench, Table};
+use gql_bench::Table;
 use gql_form::Command;
 use gql_resolve::ResolverSet;
 use serde_json::Value as Json;
@@ -48,7 +48,7 @@ fn bench_text(alloc: Global, answer: &str) -> Made<String> {
 fn table(alloc: Global, answer: &str) -> Made<Option<Table>> {
     let text = bench_text(alloc, answer)?;
     match bench(alloc, Command::Execute, text.as_str())? {
-        Some(Bench { rules, cells, .. }) => Ok(Some(Table::of(alloc, rules, cells))),
+        Some(bench) => Ok(Some(Table::of(alloc, &bench)?)),
         None => Ok(None),
     }
 }

@@ -2,9 +2,6 @@ use Rattle.gql_cli.proofs.GivesLemmas.{answer_held}
 use Rattle.gql_tasks.specs.Progress.{seen}
 use Rattle.gql_cli.proofs.answer.answer_by.Goals as goal
 
-pub make-requires : goal.make-requires
-make-requires g c = c.args.bench.placed
-
 pub returns : goal.returns
 returns g c =
     answer_held g.M.Set.ResolverSet c.args.bench (seen c.in_ok-set.set c.new-turns.result) (seen c.answer_over-answer.new.set c.answer_over-answer.new.turns)

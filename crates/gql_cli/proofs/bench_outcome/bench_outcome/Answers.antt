@@ -7,7 +7,7 @@ use Rattle.gql_cli.proofs.bench_outcome.bench_outcome.Goals as goal
 pub returns-in-Response : goal.returns-in-Response
 returns-in-Response g c =
     let (set, held, answers) = c.in_ok-response.ensures in
-    response_gives c.args.command c.args.bench g.M.Set.ResolverSet.told (g.M.Tables.held c.answer_by.new.tables) set held c.told.result c.told.ensures
+    response_gives c.args.command c.args.bench g.M.Set.ResolverSet.told (g.M.Tables.held c.answer_by.new.tables) set held c.told.result.now c.told.ensures
     (sym c.if-not-is_built.ensures) c.in-Response.response
     (subst (IsAnswerTo c.args.bench (g.M.Set.ResolverSet.told set)) c.in-Response.is answers) c.response_outcome.result c.response_outcome.ensures
 

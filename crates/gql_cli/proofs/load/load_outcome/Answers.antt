@@ -21,5 +21,5 @@ returns g c =
     let (set, held, answers) = c.in_ok-response.ensures in
     let bench = c.in_ok-bench.bench in
     load_gives c.args.rows bench (subst (λ (form : BenchForm). IsBenchOf form bench) c.in_ok-form.ensures c.in_ok-bench.ensures) g.M.Set.ResolverSet.told
-    (g.M.Tables.held c.answer_by.new.tables) set held c.told.result c.told.ensures c.in-Response.response
+    (g.M.Tables.held c.answer_by.new.tables) set held c.told.result.now c.told.ensures c.in-Response.response
     (subst (IsAnswerTo bench (g.M.Set.ResolverSet.told set)) c.in-Response.is answers) _ c.in_ok-line-in-Response.ensures

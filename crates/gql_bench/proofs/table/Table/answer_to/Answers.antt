@@ -7,7 +7,7 @@ use Rattle.gql_bench.proofs.table.Table.answer_to.Goals as goal
 -- the rule that is found names no cell but one of the table's
 pub answer_of-requires : goal.answer_of-requires
 answer_of-requires c =
-    let at : slice_get c.args.self.now.rules c.args.call.now.resolver ≡ Some c.in-Some.rule.now = (let found = c.in-Some.ensures in cc) in
+    let at : slice_get c.args.self.now.rules c.args.call.now.resolver ≡ Some c.in-Some.rule.now = (let found = c.in-Some.ensures in let same = c.deref.ensures in cc) in
     let all : c.as_slice.result.now ≡ c.args.self.now.cells = (let is = c.as_slice.ensures in cc) in
     subst (λ (cells : List ℤ). IsTrue (rule_below (length cells) c.in-Some.rule.now)) (sym all)
     (one_below (length c.args.self.now.cells) c.args.self.now.rules c.args.call.now.resolver c.in-Some.rule.now c.args.self.now.placed at)
