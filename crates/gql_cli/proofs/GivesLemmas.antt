@@ -10,13 +10,12 @@ use Rattle.gql_bench.specs.declared.list_turns.ListTurns.{ListTurns}
 use Rattle.gql_cli.proofs.ExecutionLemmas.{all_executed, Stands}
 use Rattle.gql_cli.proofs.LawLemmas.{if-response}
 use Rattle.gql_cli.specs.Answer.{IsAnswerOver, IsAnswerTo, IsResponseTo}
-use Rattle.gql_cli.specs.Command.{form_command}
 use Rattle.gql_cli.specs.Execution.{first_of}
 use Rattle.gql_cli.specs.Gives.{BenchGives, errors_in, Gives, HoldsTold, IsAnswer, JsonGives, json_of, outcome_for, response_text, WithRecord}
 use Rattle.gql_cli.specs.Request.{AreAlike, requests_for}
 use Rattle.gql_cli.specs.declared.answer.Answer.{Answer}
 use Rattle.gql_cli.specs.declared.answer.Answer.TheVariants as answer
-use Rattle.gql_cli.specs.declared.command.Command.{Command}
+use Rattle.gql_form.specs.declared.command.Command.{Command}
 use Rattle.gql_cli.specs.declared.outcome.Outcome.{Outcome}
 use Rattle.gql_cli.specs.declared.outcome.Outcome.TheVariants.{Answered, BadSchema, BadShape, HasErrors, Loaded, NotBuilt, NotJson, ReadFault, TooLong, Usage}
 use Rattle.gql_tasks.specs.Progress.{Seen}
@@ -90,7 +89,7 @@ module _ (command : Command) (bench : Bench) where
       (entries, answer-gives (errors_in (responses_of response)) (response_text command entries response) outcome entries made' gives, if-response outcome (HoldsTold held told entries) holds)
 
   -- what a bench gives, its JSON gives
-  json-gives : (json : Data) → HasTables (form_command command) json bench → (outcome : Outcome) (entries : List RecordEntry)
+  json-gives : (json : Data) → HasTables command json bench → (outcome : Outcome) (entries : List RecordEntry)
       → BenchGives command bench outcome entries → JsonGives command json outcome entries
   json-gives json tables (BadShape text) entries gives = absurd gives
   json-gives json tables NotBuilt entries gives = (bench, tables, gives)
@@ -103,7 +102,7 @@ module _ (command : Command) (bench : Bench) where
   json-gives json tables TooLong entries gives = absurd gives
   json-gives json tables NotJson entries gives = absurd gives
 
-  pub bench_gives : {E : Type 0} (json : Data) (Told : List RecordEntry → Type 0) → HasTables (form_command command) json bench → (result : Result Outcome E)
+  pub bench_gives : {E : Type 0} (json : Data) (Told : List RecordEntry → Type 0) → HasTables command json bench → (result : Result Outcome E)
       → IfOk result (WithRecord (BenchGives command bench) Told) → IfOk result (WithRecord (JsonGives command json) Told)
   bench_gives json Told tables (Ok outcome) (entries, gives, told) = (entries, json-gives json tables outcome entries gives, told)
   bench_gives json Told tables (Err want) gives = tt

@@ -14,11 +14,10 @@ use Rattle.gql_bench.specs.declared.bench.Bench.{Bench}
 use Rattle.gql_cli.proofs.RecordLaws.{IsWhole, one-record, one-record-in-turn}
 use Rattle.gql_cli.proofs.RefusalLemmas.{never-sound, one-refusal}
 use Rattle.gql_cli.specs.Answer.{IsRefusedTable, IsResponseTo}
-use Rattle.gql_cli.specs.Command.{form_command}
 use Rattle.gql_cli.specs.Execution.{bench_serving, Between, ComesOf, ExecutedInOrder, first_of, GoesOn, IsExecuted, IsRecord, IsRecordAtOnce, RecordBy, story}
 use Rattle.gql_cli.specs.Gives.{BenchGives, errors_in, Gives, IfResponse, IsAnswer, IsBadShape, IsUnbuilt, IsUnsound, JsonGives, json_of, outcome_for, response_text, schema_line, shape_line}
 use Rattle.gql_cli.specs.Request.{AreAlike, requests_for}
-use Rattle.gql_cli.specs.declared.command.Command.{Command}
+use Rattle.gql_form.specs.declared.command.Command.{Command}
 use Rattle.gql_cli.specs.declared.outcome.Outcome.{Outcome}
 use Rattle.gql_cli.specs.declared.outcome.Outcome.TheVariants.{Answered, BadSchema, BadShape, HasErrors, Loaded, NotBuilt, NotJson, ReadFault, TooLong, Usage}
 use Rattle.gql_merged.specs.declared.scene.Scene.{Scene}
@@ -254,7 +253,7 @@ module _ (command : Command) (json : Data) where
   -- what a JSON value gives, by its two ways
   data JsonWay (outcome : Outcome) (entries : List RecordEntry) : Type 0 where
     bad : (text : List ℕ) → outcome ≡ BadShape text → IsBadShape command json text → JsonWay outcome entries
-    of_bench : (bench : Bench) → HasTables (form_command command) json bench → BenchGives command bench outcome entries → JsonWay outcome entries
+    of_bench : (bench : Bench) → HasTables command json bench → BenchGives command bench outcome entries → JsonWay outcome entries
 
   json-way : (outcome : Outcome) (entries : List RecordEntry) → JsonGives command json outcome entries → JsonWay outcome entries
   json-way (BadShape text) entries gives = bad text refl gives
@@ -268,11 +267,11 @@ module _ (command : Command) (json : Data) where
   json-way TooLong entries (bench, tables, gives) = absurd gives
   json-way NotJson entries (bench, tables, gives) = absurd gives
 
-  never-both : (place : List ℕ) → IsBadAt (form_command command) json place → (form : BenchForm) → IsReadAs (form_command command) json form → ⊥
+  never-both : (place : List ℕ) → IsBadAt command json place → (form : BenchForm) → IsReadAs command json form → ⊥
   never-both place here form read = let wrong : Err place ≡ Ok form = sym here ∙ read in cc
 
-  benches-same : (one other : Bench) (form : BenchForm) → IsReadAs (form_command command) json form → IsBenchOf form one → (other_form : BenchForm)
-      → IsReadAs (form_command command) json other_form → IsBenchOf other_form other → one ≡ other
+  benches-same : (one other : Bench) (form : BenchForm) → IsReadAs command json form → IsBenchOf form one → (other_form : BenchForm)
+      → IsReadAs command json other_form → IsBenchOf other_form other → one ≡ other
   benches-same one other form read is other_form also is' =
       let both : Ok form ≡ Ok other_form = sym read ∙ also in
       let same : form ≡ other_form = cc in

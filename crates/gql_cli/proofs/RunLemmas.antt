@@ -8,10 +8,10 @@ use Rattle.gql_cli.specs.Gives.{Gives, IfResponse}
 use Rattle.gql_cli.specs.Load.{IsLoaded}
 use Rattle.gql_cli.specs.Outcome.{due_status, due_text}
 use Rattle.gql_cli.specs.Run.{Ends, HasRun, IsComplete, IsCutOff, IsDue, IsGiven, IsGivenWith, IsListed, IsLoadedWith, IsOfCommand, IsOfLoad, IsWritten, ReadFailed, WriteFailed}
-use Rattle.gql_cli.specs.declared.command.Command.{Command}
-use Rattle.gql_cli.specs.declared.command.Command.TheVariants.{Batch, Execute, Record}
 use Rattle.gql_cli.specs.declared.outcome.Outcome.{Outcome}
 use Rattle.gql_cli.specs.declared.outcome.Outcome.TheVariants.{Answered, BadSchema, BadShape, HasErrors, Loaded, NotBuilt, NotJson, ReadFault, TooLong, Usage}
+use Rattle.gql_form.specs.declared.command.Command.{Command}
+use Rattle.gql_form.specs.declared.command.Command.TheVariants.{Batch, Execute, Record, Stream, Threads, Ws}
 use Rattle.gql_io.specs.Counts.{IsFull}
 use Rattle.gql_io.specs.Limits.{input_limit}
 use Rattle.gql_io.specs.Reading.{HasFailed, IsTooLong}
@@ -21,16 +21,28 @@ use Rattle.gql_io.specs.declared.source.Source.{Ghosts as Sourcing}
 use Rattle.gql_resolve.specs.declared.record_entry.RecordEntry.{RecordEntry}
 
 -- words are those of one command
-words-same : (c d : Command) → words_for c ≡ words_for d → c ≡ d
-words-same Execute Execute same = refl
-words-same Execute Record same = cc
-words-same Record Execute same = cc
-words-same Record Record same = refl
-words-same Batch Batch same = refl
-words-same Execute Batch same = cc
-words-same Record Batch same = cc
-words-same Batch Execute same = cc
-words-same Batch Record same = cc
+words-same : (words : List (List ℕ)) (c d : Command) → words_for c ≡ Some words → words_for d ≡ Some words → c ≡ d
+words-same words Execute Execute one other = refl
+words-same words Execute Record one other = cc
+words-same words Execute Batch one other = cc
+words-same words Execute Threads one other = cc
+words-same words Execute Stream one other = cc
+words-same words Execute Ws one other = cc
+words-same words Record Execute one other = cc
+words-same words Record Record one other = refl
+words-same words Record Batch one other = cc
+words-same words Record Threads one other = cc
+words-same words Record Stream one other = cc
+words-same words Record Ws one other = cc
+words-same words Batch Execute one other = cc
+words-same words Batch Record one other = cc
+words-same words Batch Batch one other = refl
+words-same words Batch Threads one other = cc
+words-same words Batch Stream one other = cc
+words-same words Batch Ws one other = cc
+words-same words Threads d one other = cc
+words-same words Stream d one other = cc
+words-same words Ws d one other = cc
 
 -- words are those of one load
 counts-same : (n m : ℕ) (one other : List ℕ) → IsRowCount n one → IsRowCount m other → one ≡ other → n ≡ m
@@ -45,9 +57,12 @@ loads-same n m words (one, is, said) (other, is', said') =
 
 -- a command's words are no load's
 never-both : (words : List (List ℕ)) → IsOfCommand words → IsOfLoad words → ⊥
-never-both words (Execute, is) (n, (count, size, said)) = let both = sym is ∙ said in cc
-never-both words (Record, is) (n, (count, size, said)) = let both = sym is ∙ said in cc
-never-both words (Batch, is) (n, (count, size, said)) = let both = sym is ∙ said in cc
+never-both words (Execute, is) (n, (count, size, said)) = cc
+never-both words (Record, is) (n, (count, size, said)) = cc
+never-both words (Batch, is) (n, (count, size, said)) = cc
+never-both words (Threads, is) load = cc
+never-both words (Stream, is) load = cc
+never-both words (Ws, is) load = cc
 
 some-each : {A : Type 0} (o : Option A) (P : A → Type 0) → ((x : A) → P x) → IfSome o P
 some-each None P each = tt
@@ -287,7 +302,7 @@ module _ {I O : Type 0} (source : Sourcing I) (sink : Sinking O) (Told : List Re
       due-early outcome same (inl none) = inl (sym same ∙ none)
       due-early outcome same (inr one) = inr (sym same ∙ one)
 
-      complete : (command : Command) → words ≡ words_for command → IfSome (source.left old.source) (IsComplete source sink Told words old new status command)
+      complete : (command : Command) → words_for command ≡ Some words → IfSome (source.left old.source) (IsComplete source sink Told words old new status command)
       complete command listed = by d.whole (way d.due d.is)
         where
           by : IsCutOff status ⊎ IsWritten source sink Told words old new status d.due → Way d.due → IfSome (source.left old.source) (IsComplete source sink Told words old new status command)
@@ -299,7 +314,7 @@ module _ {I O : Type 0} (source : Sourcing I) (sink : Sinking O) (Told : List Re
           by (inr (same, holds)) (long s also f) =
               some-through (source.left old.source) _ (IsComplete source sink Told words old new status command) f.told (λ input more within. absurd (omega arith))
           by (inr (same, holds)) (given s (entries, g, told)) =
-              let one : g.command ≡ command = words-same g.command command (sym g.listed ∙ listed) in
+              let one : g.command ≡ command = words-same words g.command command g.listed listed in
               some-through (source.left old.source) _ (IsComplete source sink Told words old new status command) g.input.told
               (λ input (is, rest) within unread unwritten.
               inr (

@@ -1,22 +1,18 @@
 -- The words of the program.
-use Rattle.std.specs.Prelude.{◌≡◌, ℕ, ◌≤◌, List, [], ◌∷◌, codes}
+use Rattle.std.specs.Prelude.{◌≡◌, ℕ, ◌≤◌, List, [], ◌∷◌, codes, Option, Some, None}
 use Rattle.std.specs.Fmt.{decimal}
-use Rattle.gql_form.specs.declared.command.Command.{Command as FormCommand}
-use Rattle.gql_form.specs.declared.command.Command.TheVariants as forms
-use Rattle.gql_cli.specs.declared.command.Command.{Command}
-use Rattle.gql_cli.specs.declared.command.Command.TheVariants.{Batch, Execute, Record}
+use Rattle.gql_form.specs.declared.command.Command.{Command}
+use Rattle.gql_form.specs.declared.command.Command.TheVariants.{Batch, Execute, Record, Stream}
+use Rattle.gql_form.specs.declared.command.Command.TheVariants.{Threads, Ws}
 
--- the command by which a command's bench is read
-abbrev pub form_command : Command → FormCommand
-form_command Execute = forms.Execute
-form_command Record = forms.Record
-form_command Batch = forms.Batch
-
--- the words that ask for a command
-abbrev pub words_for : Command → List (List ℕ)
-words_for Execute = codes "execute" ∷ []
-words_for Record = codes "record" ∷ []
-words_for Batch = codes "batch" ∷ []
+-- the words that ask for a command; for one that isn't built there are none
+abbrev pub words_for : Command → Option (List (List ℕ))
+words_for Execute = Some (codes "execute" ∷ [])
+words_for Record = Some (codes "record" ∷ [])
+words_for Batch = Some (codes "batch" ∷ [])
+words_for Threads = None
+words_for Stream = None
+words_for Ws = None
 
 -- a word asks for so many rows: 1 to 10,000, in decimal
 abbrev pub IsRowCount : ℕ → List ℕ → Type 0

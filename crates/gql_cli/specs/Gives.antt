@@ -12,14 +12,13 @@ use Rattle.gql_bench.specs.Found.{HasTables, IsBadAt}
 use Rattle.gql_bench.specs.RecordText.{record_lines}
 use Rattle.gql_bench.specs.declared.bench.Bench.{Bench}
 use Rattle.gql_cli.specs.Answer.{IsRefusedTable, IsResponseTo}
-use Rattle.gql_cli.specs.Command.{form_command}
 use Rattle.gql_cli.specs.Outcome.{line}
-use Rattle.gql_cli.specs.declared.command.Command.{Command}
-use Rattle.gql_cli.specs.declared.command.Command.TheVariants.{Batch, Execute, Record}
 use Rattle.gql_cli.specs.declared.outcome.Outcome.{Outcome}
 use Rattle.gql_cli.specs.declared.outcome.Outcome.TheVariants.{Answered, BadSchema}
 use Rattle.gql_cli.specs.declared.outcome.Outcome.TheVariants.{BadShape, HasErrors}
 use Rattle.gql_cli.specs.declared.outcome.Outcome.TheVariants.{Loaded, NotBuilt, NotJson}
+use Rattle.gql_form.specs.declared.command.Command.{Command}
+use Rattle.gql_form.specs.declared.command.Command.TheVariants.{Record}
 use Rattle.gql_request.specs.BatchResponse.{batch_json, responses_of}
 use Rattle.gql_request.specs.declared.batch_response.BatchResponse.{BatchResponse}
 use Rattle.gql_request.specs.declared.response.Response.{Response}
@@ -33,11 +32,10 @@ json_of bytes = if is_utf8 bytes then read bytes else None
 abbrev pub response_line : BatchResponse → List ℕ
 response_line response = line (batch_json response)
 
--- the lines that a command writes of a record, before the response
+-- the lines that a command writes of a record, before the response: `record` alone writes some
 abbrev pub lines_for : Command → List RecordEntry → List ℕ
-lines_for Execute entries = []
 lines_for Record entries = record_lines entries
-lines_for Batch entries = []
+lines_for _ entries = []
 
 -- what a command writes of a response and its record
 abbrev pub response_text : Command → List RecordEntry → BatchResponse → List ℕ
@@ -91,13 +89,13 @@ BenchGives command bench outcome entries = ⊥
 -- the JSON value is no bench, and this line tells its first bad place
 abbrev pub IsBadShape : Command → Data → List ℕ → Type 0
 IsBadShape command json text =
-    (place : List ℕ) × IsBadAt (form_command command) json place × (text ≡ shape_line place)
+    (place : List ℕ) × IsBadAt command json place × (text ≡ shape_line place)
 
 -- what a JSON value gives to a command
 abbrev pub JsonGives : Command → Data → Outcome → List RecordEntry → Type 0
 JsonGives command json (BadShape text) entries = IsBadShape command json text
 JsonGives command json outcome entries =
-    (bench : Bench) × HasTables (form_command command) json bench
+    (bench : Bench) × HasTables command json bench
     × BenchGives command bench outcome entries
 
 -- what the bytes of a bench give to a command

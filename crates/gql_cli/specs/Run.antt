@@ -1,14 +1,14 @@
 -- A run of the program: what is due, and what of it was written.
-use Rattle.std.specs.Prelude.{◌≡◌, ◌⊎◌, ◌+◌, ◌<◌, ◌≤◌, ℕ, List, IfSome, length}
+use Rattle.std.specs.Prelude.{◌≡◌, ◌⊎◌, ◌+◌, ◌<◌, ◌≤◌, ℕ, List, IfSome, Some, length}
 use Rattle.std.specs.Io.KnownBytes.{Appends, Keeps}
 use Rattle.gql_cli.specs.Command.{IsLoad, words_for}
 use Rattle.gql_cli.specs.Gives.{Gives, IfResponse}
 use Rattle.gql_cli.specs.Load.{IsLoaded}
 use Rattle.gql_cli.specs.Outcome.{due_status, due_text}
-use Rattle.gql_cli.specs.declared.command.Command.{Command}
 use Rattle.gql_cli.specs.declared.outcome.Outcome.{Outcome}
 use Rattle.gql_cli.specs.declared.outcome.Outcome.TheVariants.{Loaded, ReadFault, TooLong}
 use Rattle.gql_cli.specs.declared.outcome.Outcome.TheVariants.{Usage}
+use Rattle.gql_form.specs.declared.command.Command.{Command}
 use Rattle.gql_io.specs.Counts.{HasRisen, IsFull}
 use Rattle.gql_io.specs.Limits.{input_limit}
 use Rattle.gql_io.specs.Reading.{HasFailed, IsInput, IsTooLong}
@@ -19,7 +19,7 @@ use Rattle.gql_resolve.specs.declared.record_entry.RecordEntry.{RecordEntry}
 
 -- the words are those of a command, which reads a bench
 abbrev pub IsOfCommand : List (List ℕ) → Type 0
-IsOfCommand words = (command : Command) × (words ≡ words_for command)
+IsOfCommand words = (command : Command) × (words_for command ≡ Some words)
 
 -- the words are those of a load, which reads nothing
 abbrev pub IsOfLoad : List (List ℕ) → Type 0
@@ -61,7 +61,7 @@ module _ {I : Type 0} (source : Sourcing I) (Told : List RecordEntry → Type 0)
   -- with this record
   pub record IsGiven (outcome : Outcome) (entries : List RecordEntry) : Type 0 where
     pub command : Command
-    pub listed : words ≡ words_for command
+    pub listed : words_for command ≡ Some words
     pub bytes : List ℕ
     pub input : IsInput source.left source.given old new bytes
     pub gives : Gives command bytes outcome entries
@@ -151,5 +151,5 @@ module _ {I O : Type 0} (source : Sourcing I) (sink : Sinking O)
       pub cut_off : status ≡ 5 → IsBegun
       pub no_memory : status ≡ 6 → Keeps (sink.held old.sink) (sink.held new.sink) ⊎ IsBegun
       -- an input that is told gives its text
-      pub complete : (command : Command) → words ≡ words_for command
+      pub complete : (command : Command) → words_for command ≡ Some words
           → IfSome (source.left old.source) (IsComplete command)

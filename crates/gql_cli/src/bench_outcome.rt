@@ -5,11 +5,11 @@ ghost use Rattle.gql_cli.specs.Gives.{outcome_for, response_text};
 ghost use Rattle.gql_request.specs.BatchResponse.{responses_of};
 
 use crate::answer::{Answer, answer_by};
-use crate::command::Command;
 use crate::lines::{line_after, line_of};
 use crate::outcome::Outcome;
 use gql_base::{Made, Text};
 use gql_bench::{Bench, Tables, text_behind};
+use gql_form::Command;
 use gql_request::BatchResponse;
 use gql_resolve::RecordEntry;
 use std::alloc::Global;
@@ -68,8 +68,6 @@ fn written_text(
     let line = line_of(alloc, response)?;
     match command {
         Command::Record => text_behind(alloc, entries, &line),
-        Command::Execute | Command::Batch | Command::Threads | Command::Stream | Command::Ws => Ok(
-            line,
-        ),
+        _ => Ok(line),
     }
 }

@@ -5,11 +5,11 @@ ghost use Rattle.gql_cli.specs.Gives.{Gives, HoldsTold, JsonGives, WithRecord, j
 ghost use Rattle.gql_cli.specs.Gives.{shape_line};
 
 use crate::bench_outcome::bench_outcome;
-use crate::command::Command;
 use crate::lines::line_after;
 use crate::outcome::Outcome;
 use gql_base::{Items, Made};
 use gql_bench::{Tables, bench_of};
+use gql_form::Command;
 use serde_json::Value;
 use std::alloc::{AllocError, Global};
 
@@ -53,7 +53,7 @@ fn json_outcome<M: Tables>(
     ensures { IfOk result
         (WithRecord (JsonGives command (view json)) (HoldsTold (M.held tables.new) M.Set.told)) }
 {
-    let read = bench_of(alloc, command.form(), &json);
+    let read = bench_of(alloc, command, &json);
     drop(json);
     match read? {
         Ok(bench) => bench_outcome(alloc, command, bench, tables),

@@ -1,16 +1,16 @@
 //! What is due for words and a source.
-ghost use Rattle.std.specs.Prelude.{◌≡◌, ◌↔◌, ℕ, ◌<◌, [], ◌∷◌, IfOk, IsTrue, MatchOption, map};
+ghost use Rattle.std.specs.Prelude.{◌≡◌, ◌↔◌, ℕ, ◌<◌, [], ◌∷◌, IfOk, IsTrue, MatchOption, Some, map};
 ghost use Rattle.std.specs.Prelude.{slice_index, string_bytes};
 ghost use Rattle.gql_cli.specs.Command.{IsLoad, IsRowCount, words_for};
 ghost use Rattle.gql_cli.specs.Gives.{HoldsTold};
 ghost use Rattle.gql_cli.specs.Run.{IsDue, IsDueUnread, IsOfCommand, IsOfLoad};
 
 use crate::bytes::outcome_of;
-use crate::command::Command;
 use crate::load::load_outcome;
 use crate::outcome::Outcome;
 use gql_base::Made;
 use gql_bench::Tables;
+use gql_form::Command;
 use gql_io::{Reading, Source, read_whole};
 use std::alloc::Global;
 
@@ -51,7 +51,7 @@ fn unread_outcome<M: Tables>(alloc: Global, words: &[String], tables: &mut M) ->
 /// The command of words, where they are those of one.
 fn command_of(words: &[String]) -> Option<Command>
     ensures { MatchOption result (¬ IsOfCommand (map string_bytes words.now))
-        (λ command. map string_bytes words.now ≡ words_for command) }
+        (λ command. words_for command ≡ Some (map string_bytes words.now)) }
 {
     match words {
         [word] => command_named(word.as_str()),
@@ -61,7 +61,7 @@ fn command_of(words: &[String]) -> Option<Command>
 
 fn command_named(word: &str) -> Option<Command>
     ensures { MatchOption result (¬ IsOfCommand (word.now ∷ []))
-        (λ command. word.now ∷ [] ≡ words_for command) }
+        (λ command. words_for command ≡ Some (word.now ∷ [])) }
 {
     match word {
         "execute" => Some(Command::Execute),

@@ -4,7 +4,7 @@ ghost use Rattle.gql_bench.specs.declared.bench.Bench.{Bench as OneBench};
 ghost use Rattle.gql_cli.specs.Execution.{Between, IsRecord};
 ghost use Rattle.gql_cli.specs.Gives.{Gives, IfResponse};
 ghost use Rattle.gql_cli.specs.Load.{IsLoaded};
-ghost use Rattle.gql_cli.specs.declared.command.Command.{Command as OneCommand};
+ghost use Rattle.gql_form.specs.declared.command.Command.{Command as OneCommand};
 ghost use Rattle.gql_cli.specs.declared.outcome.Outcome.{Outcome as OneOutcome};
 ghost use Rattle.gql_merged.specs.declared.scene.Scene.{Scene as OneScene};
 ghost use Rattle.gql_io.specs.Limits.{input_limit};

@@ -4,7 +4,6 @@
 mod answer;
 mod bench_outcome;
 mod bytes;
-mod command;
 mod decision;
 mod laws;
 mod lines;
@@ -14,12 +13,13 @@ mod program;
 mod shared;
 mod status;
 
-pub use command::Command;
-pub use gql_bench::{TableMaker, Tables};
+pub use gql_bench::{Bench, ListTurns, Table, TableMaker, Tables, bench_of};
+pub use gql_form::Command;
 pub use gql_io::{
     Failed, INPUT_LIMIT, MemorySink, MemorySource, Sink, SinkFault, Source, StdSink, StdSource,
     SureSink, SureSource,
 };
+pub use gql_resolve::RecordEntry;
 pub use laws::{
     limit_of_the_input, one_record_of_a_scene, one_result_of_a_bench, one_result_of_a_load,
 };
