@@ -5,7 +5,7 @@ use Rattle.std.proofs.lemmas.List.Elements.{Contains-append_cases, Contains-appe
 use Rattle.gql_admit.specs.Circular.{Adds}
 use Rattle.gql_admit.specs.declared.breach.Breach.{Breach}
 
--- what is put behind others is added
+-- what is put after others is added
 pub adds_told : (old told new : List Breach) → new ≡ old ++ told → Adds (Contains told) old new
 adds_told old told new is = record {
   kept = λ found there. subst (λ xs. Contains xs found) (sym is) (Contains-append_left old told found there);

@@ -13,7 +13,7 @@ pub known_number : (marks : List Bool) (reached : List ℕ) (place : ℕ) → Ma
     → with_number reached place ≡ reached
 known_number marks reached place is at = rw (sym (is.marked place true at)) refl
 
--- another comes behind the others
+-- another comes after the others
 pub fresh_number : (marks : List Bool) (reached : List ℕ) (place : ℕ) → Marks marks reached → slice_get marks place ≡ Some false
     → with_number reached place ≡ reached ++ place ∷ []
 fresh_number marks reached place is at = rw (sym (is.marked place false at)) refl

@@ -42,7 +42,7 @@ written_at (x ∷ xs) (suc i) zero v w at = inr at
 written_at (x ∷ xs) (suc i) (suc j) v w at =
     elim (written_at xs i j v w at) [ inl h ↦ inl (ap suc h.0, h.1) | inr h ↦ inr h ]
 
--- what is found beneath a spread, by the place of its name
+-- what is found under a spread, by the place of its name
 pub spread_found : {B : Type 0} (f : Positioned SelectionSet → Option B) (fragments : Fragments) (sought name : List ℕ) (place : Option ℕ) (found : Option B)
     → sought ≡ name → place ≡ place_of sought (names_of fragments)
     → found ≡ option_and_then f (option_map fragment_set (option_and_then (slice_get (values_of fragments)) place))
@@ -51,7 +51,7 @@ spread_found f fragments sought name place found same at told =
     told
     ∙ sym (ap (λ o. option_and_then f (option_map fragment_set o)) (ap (λ n. under n fragments) (sym same) ∙ under_at sought fragments place at))
 
--- and where nothing is to be found beneath a spread
+-- and where nothing is to be found under a spread
 pub spread_none : {B : Type 0} (f : Positioned SelectionSet → Option B) (fragments : Fragments) (sought name : List ℕ) (place : Option ℕ)
     → sought ≡ name → place ≡ place_of sought (names_of fragments) → option_and_then f (option_map fragment_set (under name fragments)) ≡ None
     → option_and_then f (option_map fragment_set (option_and_then (slice_get (values_of fragments)) place)) ≡ None

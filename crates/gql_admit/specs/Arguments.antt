@@ -90,7 +90,7 @@ module _ (table : TypeTable) where
   told_of_declared owner argument None = unknown_argument owner argument ∷ []
   told_of_declared owner argument (Some input) = told_of_value argument (input_type input)
 
-  -- what is told of an argument behind those of these names
+  -- what is told of an argument after those of these names
   abbrev pub told_of_argument : Bearing → (before : List (List ℕ)) → Argument → List Breach
   told_of_argument bearing before argument =
       told_of_doubled before argument

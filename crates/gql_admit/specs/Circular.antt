@@ -12,7 +12,7 @@ use Rattle.gql_admit.specs.Spreads.{graph_of}
 use Rattle.gql_admit.specs.declared.breach.Breach.{Breach}
 use Rattle.gql_admit.specs.declared.breach.BreachKind.TheVariants as kinds
 
--- numbers with one more behind them, unless it is there
+-- numbers with one more after them, unless it is there
 abbrev pub with_number : List ℕ → ℕ → List ℕ
 with_number ns k = if is_in k ns then ns else ns ++ k ∷ []
 

@@ -84,7 +84,7 @@ where_rooted None told = []
 where_rooted (Some root) told = told
 
 module _ (table : TypeTable) (given : Given) where
-  -- what is told of a definition behind those of these names
+  -- what is told of a definition after those of these names
   abbrev pub told_of_definition : (before : List (List ℕ)) → Positioned VariableDefinition
       → List Breach
   told_of_definition before definition =

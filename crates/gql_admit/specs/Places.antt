@@ -1,5 +1,5 @@
 -- The places of a document at which rules are looked at, each with the type that it stands on.
--- Beneath an unknown field, a leaf or a condition on no composite type there are none; the
+-- Under an unknown field, a leaf or a condition on no composite type there are none; the
 -- directives that stand on an unknown field, or beside such a condition, are looked at.
 use Rattle.std.specs.Prelude.{ℕ, Bool, true, false, not, List, [], ◌∷◌, ◌++◌, Option, Some, None}
 use Rattle.std.specs.Prelude.{option_and_then}
@@ -31,7 +31,7 @@ use Rattle.gql_schema.specs.declared.schema_type.SchemaType.TheVariants as types
 use Rattle.gql_admit.specs.FieldTypes.{field_type}
 use Rattle.gql_admit.specs.Terms.{Terms}
 
--- a field without what is beneath it
+-- a field without what is under it
 pub record FieldPlace : Type 0 where
   -- the type that it stands on
   pub parent : SchemaType
@@ -49,7 +49,7 @@ pub data Place : Type 0 where
   -- a directive, and whether it stands on a selection
   OnDirective : Bool → Positioned Directive → Place
 
--- the places beneath a type
+-- the places under a type
 abbrev pub Places : Type 0
 Places = SchemaType → List Place
 

@@ -16,7 +16,7 @@ use Rattle.gql_doc.specs.declared.document.Selection.TheFolds.{fold-Field, fold-
 use Rattle.gql_doc.specs.declared.document.Selection.TheFolds.{fold-Selection, fold-SelectionSet}
 use Rattle.gql_doc.specs.declared.document.SelectionSet.{SelectionSet}
 
--- one level of each part of a document, with the places of what is spread beneath
+-- one level of each part of a document, with the places of what is spread under
 abbrev pub field_step : Field-F (List ℕ) (List ℕ) (List ℕ) (List ℕ) → List ℕ
 field_step field = field.selection_set.node
 

@@ -43,7 +43,7 @@ spread_places spread =
     OnSpread spread.pos spread.node.fragment_name.node
     ∷ directive_places true spread.node.directives
 
--- the places of a fragment behind its condition
+-- the places of a fragment after its condition
 abbrev pub inner_places : Terms → Positioned FragmentDefinition → List Place
 inner_places terms fragment =
     directive_places false fragment.node.directives

@@ -161,7 +161,7 @@ fn tell_definitions(
     Ok(())
 }
 
-/// Tells of a definition behind those of some names, and takes its name among them.
+/// Tells of a definition after those of some names, and takes its name among them.
 fn tell_definition(
     alloc: Global,
     definition: &Positioned<VariableDefinition>,

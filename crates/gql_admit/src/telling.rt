@@ -1,4 +1,4 @@
-//! What is told of a field, a spread and a directive, whatever stands beneath.
+//! What is told of a field, a spread and a directive, whatever stands under.
 ghost use Rattle.std.specs.Prelude.{◌≡◌, ◌++◌, Bool, OnOk, Some};
 ghost use Rattle.std.specs.Option.{option_map};
 ghost use Rattle.gql_base.specs.Pairs.{under};

@@ -8,7 +8,7 @@ use gql_cli::{SureSink, SureSource, TableMaker, run_alone};
 use std::alloc::Global;
 
 /// The line that is printed for a line of the input: a heading or an empty line as it is, and for
-/// a case what comes of it. A case is the words of the program and, behind a tab, its input, which
+/// a case what comes of it. A case is the words of the program and, after a tab, its input, which
 /// is empty without one.
 pub(crate) fn answer_to(alloc: Global, line: &str) -> Made<String>
     ensures heading { IfOk result

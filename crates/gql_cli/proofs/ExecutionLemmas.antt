@@ -67,7 +67,7 @@ abbrev telling : {Task State : Type 0} → Stage Task State → List RecordEntry
 telling stage entries = record { made = stage.made; told = Some entries; starts = stage.starts; turns = stage.turns }
 
 module _ (serving : Serving ℤ (List ℤ)) {State : Type 0} (choice : Choice State) where
-  -- behind phases the state of the turns is known where it was known before
+  -- after phases the state of the turns is known where it was known before
   turns_past : (world : List ℤ) (roots : List (Job ℤ)) (old new : Stage (Job ℤ) State) → Phases serving job_subject choice world roots old new
       → (state : State) → old.turns ≡ Some state → (later : State) × (new.turns ≡ Some later)
   turns_past world [] old new is state known = (state, ap (λ (s : Stage (Job ℤ) State). s.turns) is ∙ known)

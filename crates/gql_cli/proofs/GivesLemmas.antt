@@ -35,7 +35,7 @@ response_to set bench start new at schema made response alike executes =
     let (entries, told, is) = all_executed set bench schema (requests_for bench) (responses_of response) [] (first_of bench) start new at executes in
     record { schema = schema; is = made; alike = alike; entries = entries; is_told = told; executed = is }
 
--- the answer to the requests of a bench, over such a set, which is held behind it
+-- the answer to the requests of a bench, over such a set, which is held after it
 module _ {S F : Type 0} (set : Resolving S ℤ (List ℤ) F) (bench : Bench) (start new : Seen S ListTurns) (at : Stands set bench [] (first_of bench) start) where
   abbrev Over : Answer → Type 0
   Over = IsAnswerOver set ghosts bench.builder bench.requests bench.root start new

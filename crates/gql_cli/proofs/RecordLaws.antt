@@ -10,7 +10,7 @@ use Rattle.gql_tasks.specs.Record.{Choice, Made, NamesTask, Stage, Story, Turned
 use Rattle.gql_resolve.specs.declared.record_entry.RecordEntry.{RecordEntry}
 
 module _ {A : Type 0} where
-  -- what stands in a list stands there with more behind it
+  -- what stands in a list stands there with more after it
   front-get : (xs ys : List A) (k : ℕ) (x : A) → slice_get xs k ≡ Some x → slice_get (xs ++ ys) k ≡ Some x
   front-get [] ys k x is = cc
   front-get (a ∷ xs) ys zero x is = is
@@ -23,7 +23,7 @@ module _ {A : Type 0} where
   within-get (a ∷ xs) (suc k) within = within-get xs k (omega arith)
 
 module _ {Task State : Type 0} (choice : Choice State) (story : Story Task) (delay : Task → ℕ) where
-  -- an entry makes tasks behind those that stand
+  -- an entry makes tasks after those that stand
   mark-tasks : (made : Made Task) (k : ℕ) (b : Bool) → (more : List Task) × ((after_mark story made k b).tasks ≡ made.tasks ++ more)
   mark-tasks made k true = (beneath_of story (slice_get made.tasks k), refl)
   mark-tasks made k false = ([], sym (append-nil made.tasks))
@@ -84,7 +84,7 @@ module _ {Task State : Type 0} (choice : Choice State) (story : Story Task) (del
       let is_ready : e.ready ≡ g.ready = cc in
       same-entry e g (slice_get made.tasks e.task) task n (subst (λ k. NamesTask story (slice_get made.tasks k) g) (sym task) m) is_ready
 
-  -- what is owed stays so behind an entry
+  -- what is owed stays so after an entry
   owed-rest : (made : Made Task) (e : RecordEntry) (told : List RecordEntry) → e.task < length made.tasks → Owed made (e ∷ told)
       → Owed (after_entry story made e) told
   owed-rest made e told within owed = λ k task past is.

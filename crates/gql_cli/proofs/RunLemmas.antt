@@ -351,7 +351,7 @@ module _ {I O : Type 0} (source : Sourcing I) (sink : Sinking O) (Told : List Re
           whole (inl cut) = inl cut
           whole (inr written) = inr (d.due, d.is, written)
 
-  -- memory was wanting before anything was due
+  -- memory ran out before anything was due
   pub wanting : (status : ℕ) → status ≡ 6 → (¬ IsOfCommand words → new.source ≡ old.source) → Keeps (sink.held old.sink) (sink.held new.sink)
       → HasRun source sink Told words old new status
   wanting status six untouched keeps = record {

@@ -60,12 +60,12 @@ module _ (bench : Bench) where
         (table_effect bench.rules) before.cells (levels_of scene.env.now)
     place_in false scene = merged_response scene answers_of (levels_of scene.env.now)
 
-    -- the cells behind it
+    -- the cells after it
     abbrev pub cells_by : Bool → Scene ℤ → List ℤ
     cells_by true scene = last_world_of scene (table_effect bench.rules) before.cells
     cells_by false scene = before.cells
 
-    -- the tasks of merged execution, with the tasks beneath the answer of each
+    -- the tasks of merged execution, with the tasks under the answer of each
     abbrev pub story : Story (Job ℤ)
     story = story_of job_subject (λ job. answers_of job.asking.call)
 
@@ -75,7 +75,7 @@ module _ (bench : Bench) where
 
     -- the whole record of a scene: the turns choose each entry's task among those that wait, none
     -- waits at the end, and each task has as many pending entries as the delay of its resolver, and
-    -- then its ready one; and the state of the turns behind it
+    -- then its ready one; and the state of the turns after it
     pub record IsRecordAtOnce (scene : Scene ℤ) (entries : List RecordEntry)
         (turns : List ℕ × ℕ) : Type 0 where
       pub turned : Turned list_turns story before.turns (fresh (root_jobs scene)) entries
@@ -95,7 +95,7 @@ module _ (bench : Bench) where
     }
 
     -- the whole record of a mutation: the chain of those of its root keys, the first of which is
-    -- asked in the cells as the request finds them; and the state of the turns behind it
+    -- asked in the cells as the request finds them; and the state of the turns after it
     pub record IsRecordInTurn (scene : Scene ℤ) (entries : List RecordEntry)
         (turns : List ℕ × ℕ) : Type 0 where
       pub starts : Option (List ℕ)
@@ -142,7 +142,7 @@ module _ (bench : Bench) where
           pub comes : ComesOf outcome
 
   module _ (schema : Schema) where
-    -- the responses to requests over a schema, one after another, and their records, one behind
+    -- the responses to requests over a schema, one after another, and their records, one after
     -- another: each request finds what the one before it left
     abbrev pub ExecutedInOrder : List (DynamicRequest ℤ) → List Response → List RecordEntry
         → Between → Type 0

@@ -29,7 +29,7 @@ IsOfLoad words = (rows : ℕ) × IsLoad rows words
 abbrev pub IsListed : List (List ℕ) → Type 0
 IsListed words = IsOfCommand words ⊎ IsOfLoad words
 
--- the sink failed, or memory was wanting, before the whole text was written
+-- the sink failed, or memory ran out, before the whole text was written
 abbrev pub IsCutOff : ℕ → Type 0
 IsCutOff status = (status ≡ 5) ⊎ (status ≡ 6)
 
@@ -104,7 +104,7 @@ module _ {I O : Type 0} (source : Sourcing I) (sink : Sinking O)
         × Appends (sink.held old.sink) (sink.held new.sink) (due_text outcome)
 
     -- an input that is within the limit gives its text to a command, unless a read or a write fails
-    -- or memory is wanting
+    -- or memory runs out
     abbrev pub IsComplete : Command → List ℕ → Type 0
     IsComplete command input =
         length input ≤ input_limit → ¬ ReadFailed → ¬ WriteFailed
@@ -146,7 +146,7 @@ module _ {I O : Type 0} (source : Sourcing I) (sink : Sinking O)
       -- due with it
       pub written : IsCutOff status ⊎ ((due : Outcome)
           × IsDue source Told words old.source new.source due × IsWritten due)
-      -- at 5 and 6 a front of the text that is due was written, and where memory was wanting
+      -- at 5 and 6 a front of the text that is due was written, and where memory ran out
       -- before, nothing
       pub cut_off : status ≡ 5 → IsBegun
       pub no_memory : status ≡ 6 → Keeps (sink.held old.sink) (sink.held new.sink) ⊎ IsBegun

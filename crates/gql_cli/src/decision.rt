@@ -103,7 +103,7 @@ fn row_count(word: &str) -> Option<usize>
     }
 }
 
-/// Whether the first character of a word comes behind `0`: neither that nor a sign does.
+/// Whether the first character of a word comes after `0`: neither that nor a sign does.
 fn begins_above_zero(word: &str) -> bool
     ensures { IsTrue result ↔ (48 < slice_index word.now 0) }
 {

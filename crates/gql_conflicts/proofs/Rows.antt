@@ -98,7 +98,7 @@ in_another_order :
 unfolding out-Selection out-Field out-InlineFragment roll-Field roll-InlineFragment out roll shown-the_row-SelectionSet-items-2-0 shown hidden
 in_another_order = search (rules, type_lemmas, doc_lemmas)
 
--- { o { k: a } o: p { k: b } o { k: c } }: beneath the key `o` only what agrees with its first field is merged
+-- { o { k: a } o: p { k: b } o { k: c } }: under the key `o` only what agrees with its first field is merged
 only_what_agrees :
     of_query (plain 3 (codes "o") (called 7 (codes "k") (codes "a") [] ∷ [])
     ∷ field 14 (Some (placed 14 (codes "o"))) (codes "p") [] (called 21 (codes "k") (codes "b") [] ∷ [])

@@ -111,7 +111,7 @@ none_told : (reader : Reader) (left : ℕ) (object : List ℕ) → set_tells rea
 none_told reader zero object = refl
 none_told reader (suc left) object = ap (among_tells reader left object) (none_collected (setting_by reader) reader.levels object)
 
--- beneath a field without a set is nothing
+-- under a field without a set is nothing
 pub nothing_beneath : (reader : Reader) (left : ℕ) (object : List ℕ) (field : Positioned Field) → own_selections field ≡ [] → beneath_tells reader left object field ≡ []
 nothing_beneath reader left object field none =
     none_of_any (set_tells reader left (own_selections field))

@@ -58,7 +58,7 @@ module _ (reader : Reader) where
   pub walks_same : (tells same : List Conflict) (old new : Walked) → tells ≡ same → Walks reader tells old new → Walks reader same old new
   walks_same tells same old new is walks = subst (λ list. Walks reader list old new) is walks
 
-  -- what is put behind the others is told
+  -- what is put after the others is told
   pub walks_told : (tells : List Conflict) (old new : Walked) → new.found ≡ old.found ++ tells → new.seen ≡ old.seen → Walks reader tells old new
   walks_told tells old new is stays = record {
     kept = λ found there. subst (λ list. Contains list found) (sym is) (Contains-append_left old.found tells found there);
@@ -112,7 +112,7 @@ module _ (reader : Reader) where
       (sym (flat_more f xs i x at) ∙ ap (λ n. flat_map f (take n xs)) (sym (add-one i)))
       (walks_then (flat_map f (take i xs)) (f x) old now new before step)
 
-  -- what is told beneath a field of an object
+  -- what is told under a field of an object
   pub walks_beneath : (left : ℕ) (object : List ℕ) (field : Positioned Field) (objects : List (List ℕ)) (name : List ℕ) (old new : Walked) → name ≡ name_of field
       → objects ≡ objects_beneath (rooted_of reader.rooted.now) object name → Walks reader (flat_map (set_tells reader left (own_selections field)) objects) old new
       → Walks reader (beneath_tells reader left object field) old new

@@ -1,7 +1,7 @@
 -- The conflicts between fields of one key in a document (GraphQL, October 2021, section 5.3.2).
 -- Each operation is followed from its root through the fragments that it reaches. On each object
 -- that is possible at a set, the first occurrence of a key that doesn't ask what the key's first
--- occurrence asks is a conflict; beneath a key stand the sets of all its occurrences that ask what
+-- occurrence asks is a conflict; under a key stand the sets of all its occurrences that ask what
 -- the first one asks.
 use Rattle.std.specs.Prelude.{◌≡◌, ℕ, List, [], Option, Some, None}
 use Rattle.std.specs.List.{Contains, flat_map}
@@ -21,7 +21,7 @@ use Rattle.gql_conflicts.specs.declared.conflict.Conflict.{Conflict}
 abbrev pub told : Positioned Field → Conflict
 told field = record { pos = field.pos; key = (key_of field.node).node }
 
--- the conflicts in selections on an object, and beneath them, in so many levels
+-- the conflicts in selections on an object, and under them, in so many levels
 abbrev pub conflicts_on : Rooted → Fragments → ℕ → List ℕ → List (Positioned Selection)
     → List Conflict
 conflicts_on rooted fragments levels object selections =

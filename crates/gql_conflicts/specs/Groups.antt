@@ -53,8 +53,8 @@ pub record AreGroups (setting : Setting) (keys : List (List ℕ × Unit {0})) (g
       → place_of (key_at field) (names_of keys) ≡ None
       → ⊥
 
--- What is told of occurrences on one object, where this is told beneath the one field of a key: of
--- each key the first occurrence that doesn't ask the same, and what is beneath the key.
+-- What is told of occurrences on one object, where this is told under the one field of a key: of
+-- each key the first occurrence that doesn't ask the same, and what is under the key.
 abbrev pub fields_tell : Setting → (Positioned Field → List Conflict) → List (Positioned Field)
     → List Conflict
 fields_tell setting beneath fields =

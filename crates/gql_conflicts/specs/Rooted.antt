@@ -65,7 +65,7 @@ abbrev pub objects_of : TypeTable → Option Declared → List (List ℕ)
 objects_of table None = []
 objects_of table (Some declared) = possible table (innermost declared.ty)
 
--- the objects that are possible beneath the field of a name (the second) on an object (the first)
+-- the objects that are possible under the field of a name (the second) on an object (the first)
 abbrev pub objects_beneath : Rooted → List ℕ → List ℕ → List (List ℕ)
 objects_beneath rooted object name =
     if is_entities rooted object name then possible rooted.table (codes "_Entity") else objects_of

@@ -7,7 +7,7 @@ use Rattle.gql_select.specs.Behind.{all_behind}
 use Rattle.gql_conflicts.specs.declared.visit.Visit.{Visit}
 
 module _ (left : ℕ) (object : List ℕ) (fields : List (Positioned Field)) where
-  -- a visit is that of a list of fields of an object, with so many levels left beneath it
+  -- a visit is that of a list of fields of an object, with so many levels left under it
   pub record IsVisit (visit : Visit) : Type 0 where
     pub left_is : visit.left ≡ left
     pub object_is : visit.object ≡ object

@@ -20,7 +20,7 @@ use Rattle.gql_conflicts.specs.declared.reader.Reader.{Reader}
 abbrev pub collected : Reader → List ℕ → List (Positioned Selection) → List (Positioned Field)
 collected reader object selections = collect (setting_by reader) object selections
 
--- the objects that are possible beneath a field of an object
+-- the objects that are possible under a field of an object
 abbrev pub objects_at : Reader → List ℕ → Positioned Field → List (List ℕ)
 objects_at reader object field =
     objects_beneath (rooted_of reader.rooted.now) object (name_of field)
@@ -31,7 +31,7 @@ operation_tells reader operation =
     operation_conflicts (rooted_of reader.rooted.now) reader.fragments.now reader.levels operation
 
 module _ (reader : Reader) (left : ℕ) where
-  -- the conflicts in selections on an object, and beneath them, in as many levels as are left
+  -- the conflicts in selections on an object, and under them, in as many levels as are left
   abbrev pub set_tells : List (Positioned Selection) → List ℕ → List Conflict
   set_tells selections object = conflicts (reading (setting_by reader)) told left object selections
 
@@ -40,6 +40,6 @@ module _ (reader : Reader) (left : ℕ) where
   beneath_tells object field =
       flat_map (set_tells (own_selections field)) (objects_at reader object field)
 
-  -- those among fields of an object, and beneath them
+  -- those among fields of an object, and under them
   abbrev pub among_tells : List ℕ → List (Positioned Field) → List Conflict
   among_tells object fields = fields_tell (setting_by reader) (beneath_tells object) fields

@@ -1,4 +1,4 @@
-//! What stands beneath a field: the objects that are possible there, and the fields of each in the
+//! What stands under a field: the objects that are possible there, and the fields of each in the
 //! sets of all occurrences of the field's key.
 ghost use Rattle.std.specs.Prelude.{◌≡◌, [], IfOk, IsTrue};
 ghost use Rattle.gql_select.specs.Collected.{own_selections};
@@ -16,7 +16,7 @@ use gql_doc::{Field, Positioned, Selection};
 use gql_schema::NameSet;
 use std::alloc::Global;
 
-/// The objects that are possible beneath the field of a name on an object.
+/// The objects that are possible under the field of a name on an object.
 pub(crate) fn objects_beneath(
     alloc: Global,
     rooted: &RootedTypes<'_>,

@@ -1,7 +1,7 @@
 use gql_doc::{Field, Positioned};
 
 /// A key of a class of sets: a field that stands for all fields of the key, and the class of the
-/// sets beneath it.
+/// sets under it.
 #[derive(Clone, Copy)]
 pub(crate) struct Entry<'a> {
     pub class: usize,

@@ -32,7 +32,7 @@ pub(crate) fn group_fields<'a>(
     Ok(groups)
 }
 
-/// Adds an occurrence to the group of its key, or as a group of its own behind the others.
+/// Adds an occurrence to the group of its key, or as a group of its own after the others.
 fn add_occurrence<'a>(
     alloc: Global,
     keys: &mut Pairs<()>,

@@ -24,7 +24,7 @@ pub(crate) fn same_fields(one: &[&Positioned<Field>], other: &[&Positioned<Field
     true
 }
 
-/// True only where both fields are the same, with their places and all beneath them.
+/// True only where both fields are the same, with their places and all under them.
 #[cycle(same)]
 pub(crate) fn same_field(one: &Positioned<Field>, other: &Positioned<Field>) -> bool
     ensures { IsTrue result → one.now ≡ other.now }

@@ -1,7 +1,7 @@
 use gql_base::Text;
 use gql_doc::{Field, Positioned};
 
-/// A list of fields of an object that was walked through, with so many levels left beneath it; and
+/// A list of fields of an object that was walked through, with so many levels left under it; and
 /// the place of the visit before it that has the same mark, if any.
 #[derive(Drop)]
 pub(crate) struct Visit<'a> {

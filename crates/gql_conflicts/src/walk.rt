@@ -1,4 +1,4 @@
-//! The exact walk: the fields of an object in groups, one for each key, and beneath each group the
+//! The exact walk: the fields of an object in groups, one for each key, and under each group the
 //! sets of all its occurrences on each object that is possible there. A list of fields that is
 //! reached again on the same object, with as many levels left, isn't walked through again: its
 //! conflicts are told already.
@@ -22,7 +22,7 @@ use gql_doc::{Field, Positioned, Selection};
 use gql_schema::NameSet;
 use std::alloc::Global;
 
-/// Tells the conflicts in selections on an object, and beneath them, in as many levels as are left.
+/// Tells the conflicts in selections on an object, and under them, in as many levels as are left.
 pub(crate) fn add_in_set<'a>(
     alloc: Global,
     reader: &Reader<'a>,
@@ -42,7 +42,7 @@ pub(crate) fn add_in_set<'a>(
     add_among(alloc, reader, left - 1, object, fields, walked)
 }
 
-/// Tells the conflicts among fields of an object, and beneath them, unless they are told already.
+/// Tells the conflicts among fields of an object, and under them, unless they are told already.
 #[cycle(walk)]
 fn add_among<'a>(
     alloc: Global,
@@ -64,7 +64,7 @@ fn add_among<'a>(
     Ok(())
 }
 
-/// Tells the conflicts among fields of an object, and beneath them.
+/// Tells the conflicts among fields of an object, and under them.
 #[cycle(walk)]
 fn add_fresh<'a>(
     alloc: Global,
@@ -103,7 +103,7 @@ fn add_groups<'a>(
     Ok(())
 }
 
-/// Tells what a group tells: its first occurrence that doesn't ask the same, and what is beneath.
+/// Tells what a group tells: its first occurrence that doesn't ask the same, and what is under.
 #[cycle(walk)]
 fn add_group<'a>(
     alloc: Global,
@@ -166,7 +166,7 @@ fn add_on_each<'a>(
     Ok(())
 }
 
-/// Tells the conflicts in the sets of a group on an object, and beneath them.
+/// Tells the conflicts in the sets of a group on an object, and under them.
 #[cycle(walk)]
 fn add_on_object<'a>(
     alloc: Global,

@@ -326,7 +326,7 @@ fn push_fragments(
     Ok(())
 }
 
-/// Pushes a set behind its owner's name.
+/// Pushes a set after its owner's name.
 fn push_set(alloc: Global, out: &mut String, set: &Positioned<SelectionSet>) -> Made<()> {
     out.push_str(": ")?;
     out.push_str(set_summary(alloc, &set.node)?.as_str())

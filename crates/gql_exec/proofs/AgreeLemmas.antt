@@ -68,7 +68,7 @@ use Rattle.gql_settings.specs.Settings.{entities_for}
 use Rattle.gql_exec.specs.declared.dynamic_request.DynamicRequest.{DynamicRequest}
 use Rattle.gql_exec.specs.declared.schema.Schema.{Schema}
 
--- Which objects are possible beneath a field: conflicts are looked for on those that an execution knows.
+-- Which objects are possible under a field: conflicts are looked for on those that an execution knows.
 
 entity_innermost : innermost (ref.NonNull (ref.List (ref.Named (codes "_Entity")))) ≡ codes "_Entity"
 entity_innermost = search (rules, the_lemmas)

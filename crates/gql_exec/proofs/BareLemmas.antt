@@ -157,7 +157,7 @@ module _ {R Own World Future P : Type 0} (set : Resolving R Own World Future) (t
     paces = λ pace before is. paced-mapped bare_job _ _ (λ job. refl) runs.made.tasks runs.ran.entries (runs.paces pace before is);
   }
 
-  -- the same of one that ended for want of memory
+  -- the same of one that ended out of memory
   pub stopped-bare : RunStopped set turns (work_by by scene) old new → RunStopped set turns (work_by by (bare_scene scene)) old new
   stopped-bare runs = record {
     stopped = stopped-mapped (choice_by turns) story story bare_job (λ job. refl) (λ job. refl) below (stage_of set turns (fresh (root_jobs_by by scene)) old) _ starts

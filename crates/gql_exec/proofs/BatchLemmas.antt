@@ -1,4 +1,4 @@
--- Batches: one request after another, and where memory was wanting.
+-- Batches: one request after another, and where memory ran out.
 use Rattle.std.proofs.Common.{◌≡◌, ◌≤◌, ◌<◌, ◌+◌, ℕ, suc, List, [], ◌∷◌, ◌++◌, Option, Some, None, get_or, length, length-append, slice_get, take, inl, refl, ap, sym, ◌∙◌, subst, arith}
 use Rattle.std.proofs.lemmas.List.{take_all, take_more}
 use Rattle.std.proofs.lemmas.Option.{get_or_from_slice_get, slice_get_read, slice_get_within}
@@ -39,7 +39,7 @@ module _ {R Own World Future P : Type 0} (set : Resolving R Own World Future) (t
   no-more None now = (refl, refl)
   no-more (Some request) now = inl (refl, refl)
 
-  -- memory was wanting before all requests
+  -- memory ran out before all requests
   pub none_done : (requests : List (DynamicRequest Own)) (done roots : ℕ) (now : Seen R P) → done ≡ 0 → roots ≡ 0
       → StopsAfter set turns schema requests done roots now now
   none_done requests done roots now is none =
@@ -100,7 +100,7 @@ module _ {R Own World Future P : Type 0} (set : Resolving R Own World Future) (t
           paced = λ before. paced (far.paced before);
         }
 
-    -- the next request ended for want of memory
+    -- the next request ended out of memory
     pub ends_next : (done roots : ℕ) → IsSoFar requests i responses old now → i < length requests
         → request ≡ get_or requests i request → done ≡ length responses
         → Stops set turns now new (asks schema request) roots → StopsAfter set turns schema requests done roots old new
@@ -114,7 +114,7 @@ module _ {R Own World Future P : Type 0} (set : Resolving R Own World Future) (t
           next = subst (λ o. StopsAt set turns schema o roots now new) (sym at) stops;
         }
 
-    -- it was executed, and memory was wanting for its response
+    -- it was executed, and memory ran out for its response
     pub ends_behind : (response : Response) (done : ℕ) → IsSoFar requests i responses old now → i < length requests → request ≡ get_or requests i request
         → Executes set turns now new (asks schema request) response → set.rules new.set ≡ set.rules now.set → (set.is_lawful now.set → set.is_lawful new.set)
         → (set.is_paced now.set → set.is_paced new.set)

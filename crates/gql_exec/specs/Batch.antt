@@ -31,13 +31,13 @@ module _ {R Own World Future P : Type 0} (set : Resolving R Own World Future)
       (next : Seen R P) × ExecutesOne request response old next
       × ExecutesAll requests responses next new
 
-  -- what became of the next request where memory was wanting, with so many root keys of a mutation
-  -- behind their effects; behind the last request nothing more was done
+  -- what became of the next request where memory ran out, with so many root keys of a mutation
+  -- after their effects; after the last request nothing more was done
   abbrev pub StopsAt : Option (DynamicRequest Own) → ℕ → Seen R P → Seen R P → Type 0
   StopsAt None roots old new = (new ≡ old) × (roots ≡ 0)
   StopsAt (Some request) roots old new = Stops set turns old new (asks schema request) roots
 
-  -- a batch that ended for want of memory: so many of its requests were executed whole, from the
+  -- a batch that ended out of memory: so many of its requests were executed whole, from the
   -- first one on, and the next one ended so
   pub record StopsAfter (requests : List (DynamicRequest Own)) (done roots : ℕ)
       (old new : Seen R P) : Type 0 where

@@ -58,7 +58,7 @@ module _ {R Own World Future P : Type 0} (set : Resolving R Own World Future)
       (set.effect (set.rules old.set)) (set.world old.set) (levels_of scene.env.now)
   place_by false scene = merged_response scene (due_by set old.set) (levels_of scene.env.now)
 
-  -- the world behind it
+  -- the world after it
   abbrev pub world_by : Bool → Scene Own → World
   world_by true scene = last_world_of scene (set.effect (set.rules old.set)) (set.world old.set)
   world_by false scene = set.world old.set
@@ -68,12 +68,12 @@ module _ {R Own World Future P : Type 0} (set : Resolving R Own World Future)
   RanAs by true scene = RunsInTurn set turns (key_work_by by scene) old new
   RanAs by false scene = RunsWhole set turns (work_by by scene) old new
 
-  -- the record where memory was wanting for a task
+  -- the record where memory ran out for a task
   abbrev pub CutAs : Grouping → Bool → Scene Own → Type 0
   CutAs by true scene = HaltsInTurn set turns (key_work_by by scene) old new
   CutAs by false scene = RunStopped set turns (work_by by scene) old new
 
-  -- how many root keys of a mutation have their effect, where memory was wanting
+  -- how many root keys of a mutation have their effect, where memory ran out
   abbrev pub StandAs : Grouping → Bool → Scene Own → ℕ → Type 0
   StandAs by true scene roots = RootsStand set turns (key_work_by by scene) old new roots
   StandAs by false scene roots = (roots ≡ 0) × (set.world new.set ≡ set.world old.set)
@@ -85,7 +85,7 @@ module _ {R Own World Future P : Type 0} (set : Resolving R Own World Future)
     pub world : set.world new.set ≡ world_by (mutates scene) scene
     pub tells : RanAs by (mutates scene) scene
 
-  -- the same until memory was wanting: for a task, or for the response
+  -- the same until memory ran out: for a task, or for the response
   pub record HaltsAs (by : Grouping) (scene : Scene Own) (roots : ℕ) : Type 0 where
     pub stands : StandAs by (mutates scene) scene roots
     pub tells : CutAs by (mutates scene) scene ⊎ RanAs by (mutates scene) scene
@@ -122,8 +122,8 @@ module _ {R Own World Future P : Type 0} (set : Resolving R Own World Future)
       pub ready : IsMadeReady ask.schema ask.request.inner outcome
       pub comes : ComesOfAs by outcome response
 
-    -- an execution over a lawful set until memory was wanting, so many root keys of a mutation
-    -- behind their effects
+    -- an execution over a lawful set until memory ran out, so many root keys of a mutation
+    -- after their effects
     pub record IsHalted (by : Grouping) (roots : ℕ) : Type 0 where
       pub env : QueryEnv
       pub object : Object
@@ -131,7 +131,7 @@ module _ {R Own World Future P : Type 0} (set : Resolving R Own World Future)
       pub root : root_for ask.schema env.operation.node.ty ≡ Ok object
       pub told : set.is_lawful old.set → HaltsAs by (asked_scene env object) roots
 
-    -- an execution that ended for want of memory: before any resolver was asked, or by then
+    -- an execution that ended out of memory: before any resolver was asked, or by then
     abbrev pub StopsAs : Grouping → ℕ → Type 0
     StopsAs by roots = ((new ≡ old) × (roots ≡ 0)) ⊎ IsHalted by roots
 
@@ -148,7 +148,7 @@ module _ {R Own World Future P : Type 0} (set : Resolving R Own World Future)
     abbrev pub Stops : ℕ → Type 0
     Stops roots = StopsAs grouping.ByKey roots
 
-    -- each occurrence of a field is one task, and beneath the roots of a mutation alone
+    -- each occurrence of a field is one task, and under the roots of a mutation alone
     abbrev pub ExecutesApart : Response → Type 0
     ExecutesApart response = ExecutesAs grouping.Each response
 

@@ -12,7 +12,7 @@ use std::alloc::Global;
 
 impl Schema {
     /// The responses to requests, which are executed one after another in their order over one
-    /// resolver set: each in the world that those before it left. Where memory is wanting, it is
+    /// resolver set: each in the world that those before it left. Where memory runs out, it is
     /// known of how many requests the effects stand, and how far the next one came. A request whose
     /// response finds no room is done, too.
     #[tactic(auto, using(crate::proofs::BatchLemmas::batch_steps))]

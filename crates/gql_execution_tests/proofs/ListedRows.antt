@@ -36,7 +36,7 @@ module _ (first second : Value) where
       ≡ shape.List true (shape.Object (codes "Row") (kind.Value first) ∷ shape.Object (codes "Row") (kind.Value second) ∷ [])
   two_objects = refl
 
-  -- each behind its index
+  -- each after its index
   two_spots : item_spots {V = ℕ} (codes "Row") (segment.Field (codes "rows") ∷ []) 0 (kind.Value first ∷ kind.Value second ∷ [])
       ≡ record { object = codes "Row"; parent = kind.Value first; path = segment.Field (codes "rows") ∷ segment.Index 0 ∷ [] }
       ∷ record { object = codes "Row"; parent = kind.Value second; path = segment.Field (codes "rows") ∷ segment.Index 1 ∷ [] }

@@ -1,5 +1,5 @@
 //! Calls that no response shows: the objects at the roots of schemas, a request that is ready, and the
-//! want of memory of a batch.
+//! out of memory of a batch.
 use crate::schemas::{Roots, schema};
 use gql_base::Made;
 use gql_doc::OperationType;

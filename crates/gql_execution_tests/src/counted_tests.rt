@@ -12,7 +12,7 @@ use std::marker::Brand;
 use std::sync::ledger::{Blank, Ledger};
 use std::test::Fail;
 
-/// The pairs, one behind another.
+/// The pairs, one after another.
 fn pairs_text(alloc: Global, mut pairs: HeaderPairs) -> Made<String> {
     let mut out = String::new(alloc);
     while let Some((name, value)) = pairs.next() {

@@ -66,7 +66,7 @@ const OBJECTS: [(&str, &str); 6] = [
     ),
 ];
 
-/// Answers with errors beside them, and such that fail beneath lists and objects.
+/// Answers with errors beside them, and such that fail under lists and objects.
 const ERRORS: [(&str, &str); 4] = [
     (
         "{ one { id } one { next { id } } }",

@@ -24,7 +24,7 @@ use std::alloc::Global;
 use std::marker::Brand;
 use std::sync::ledger::{Blank, Ledger};
 
-/// How many levels beneath that of an operation the sets of a query may lie.
+/// How many levels under that of an operation the sets of a query may lie.
 const DEPTH: usize = 64;
 
 /// How many lists stand around the number of the field `nested`.
@@ -215,7 +215,7 @@ fn place_in_turn<P: Turns, S: Ledger>(
     Ok((piece.into_place(alloc), roots))
 }
 
-/// The response to a mutation, behind the number of its root keys.
+/// The response to a mutation, after the number of its root keys.
 fn response_in_turn<P: Turns, S: Ledger>(
     alloc: Global,
     by: Grouping,

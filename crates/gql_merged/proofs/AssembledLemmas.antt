@@ -47,7 +47,7 @@ module _ {V : Type 0} where
 
   module _ (basis : Basis) (answer : Call V → Answer V) (spot : Spot V)
       (below : Positioned Field → List ℕ → FieldValue V → Members) where
-    -- the place of a task, with what is beneath its field
+    -- the place of a task, with what is under its field
     abbrev placed : Job V → Place
     placed job = place_of_job answer (below job.field) job
 
@@ -96,7 +96,7 @@ module _ {V : Type 0} (basis : Basis) (spot : Spot V) (place : Job V → Place) 
   left_one field asks.Nothing jobs rest = refl
   left_one field (asks.Call resolver ty arguments) jobs rest = refl
 
-  -- the places behind those of the tasks of an object are left
+  -- the places after those of the tasks of an object are left
   pub places_left : (fields : List (List ℕ × Positioned Field)) (rest : List Place)
       → places_behind_all (values_of (asked_on basis spot.object fields)) (map place (jobs_by spot (values_of (asked_on basis spot.object fields))) ++ rest) ≡ rest
   places_left [] rest = refl

@@ -1,4 +1,4 @@
--- The tasks beneath an answer, and the levels of its objects.
+-- The tasks under an answer, and the levels of its objects.
 use Rattle.std.proofs.Common.{◌≡◌, ℕ, zero, suc, ◌<◌, Bool, true, false, cond, List, [], ◌∷◌, ◌++◌, length, map, Option, Some, None, slice_get, refl, ap, sym, subst, ◌∙◌, arith, append_assoc, length-append}
 use Rattle.std.proofs.lemmas.List.{map-append}
 use Rattle.std.specs.Prelude.{option_map}
@@ -98,7 +98,7 @@ module _ {V : Type 0} where
       long [] = refl
       long (s ∷ steps) = ap suc (long steps)
 
-  -- the tasks beneath an answer are deep, where its objects aren't at the root
+  -- the tasks under an answer are deep, where its objects aren't at the root
   pub deep_spots : (job : Job V) (answer : Answer V) → AreBelow (spots (completed_by job answer) job.path) → AllByRecursion IsDeep (jobs_beneath job answer)
   deep_spots job answer below =
       every_flat IsDeep (λ (spot : Spot V). 0 < length spot.path) (jobs_at job.basis (own_selections job.field))
@@ -122,7 +122,7 @@ module _ {V : Type 0} where
   below_all basis n selections ss within =
       every_flat (IsBelow basis n) (λ spot. Unit {0}) (jobs_at basis selections) (λ spot h. below_at basis n selections spot within) ss (every_of (λ spot. Unit {0}) (λ spot. tt) ss)
 
--- the fields of an object beneath a field nest
+-- the fields of an object under a field nest
 pub fields_nest : (node : Node) (object : List ℕ) → AllNest node.basis.env.now (collected node.basis object (own_selections (united node.group)))
 fields_nest node object =
     collected_nest (setting_by node.basis) object (levels_of node.basis.env.now) (setting_by node.basis).levels (field_set (united node.group)) node.nests

@@ -45,7 +45,7 @@ use Rattle.gql_merged.proofs.CountedLemmas.{counting_is, parents-Absent, parents
 use Rattle.gql_merged.proofs.SerialLemmas.{below_outcome}
 use Rattle.gql_merged.proofs.WithinLemmas.{both_within, merged_all, nests_within}
 
--- the tasks of root keys with all beneath them, each by the answers of its own phase
+-- the tasks of root keys with all under them, each by the answers of its own phase
 module _ {V W : Type 0} (serving : Serving V W) (n : ℕ) where
   abbrev pub keys_total : W → List (Job V) → ℕ
   keys_total world [] = 0
@@ -68,7 +68,7 @@ module _ {V W : Type 0} (serving : Serving V W) (n : ℕ) where
       omega arith
 
 module _ {V W : Type 0} (basis : Basis) (answer : Call V → W → Answer V) (before behind : W) where
-  -- beneath a root key as many are asked as in the world that it leaves
+  -- under a root key as many are asked as in the world that it leaves
   below_counted : (n : ℕ) (object : List ℕ) (parent : FieldValue V) (selections : List (Positioned Selection))
       → tasks_in basis (answer_between answer before behind) n object parent selections ≡ tasks_in basis (λ call. answer call behind) n object parent selections
   below_counted n object parent selections =
@@ -84,11 +84,11 @@ module _ {V W : Type 0} (how : Grouping) (scene : Scene V) (serving : Serving V 
   abbrev left_by : W → Option (Asking V) → W
   left_by world asking = world_of (execution_of (basis_by how scene)) serving.effect world asking
 
-  -- what is asked beneath a key that left this world
+  -- what is asked under a key that left this world
   abbrev beneath_key : W → Positioned Field → List ℕ → FieldValue V → ℕ
   beneath_key behind field object parent = tasks_in (basis_by how scene) (λ call. serving.answer call behind) n object parent (own_selections field)
 
-  -- what is asked for a key with all beneath it, by what it asks
+  -- what is asked for a key with all under it, by what it asks
   abbrev key_count : W → W → Positioned Field → Asks → ℕ
   key_count before behind field a =
       one_if (asked_by_key a)

@@ -148,7 +148,7 @@ parents-Absent = search (rules, the_lemmas)
 -- The tasks of an object.
 
 module _ {V : Type 0} (basis : Basis) (answer : Call V → Answer V) (n : ℕ) (spot : Spot V) where
-  -- what is asked beneath a field
+  -- what is asked under a field
   abbrev beneath_count : Positioned Field → List ℕ → FieldValue V → ℕ
   beneath_count field object parent = tasks_in basis answer n object parent (own_selections field)
 
@@ -207,7 +207,7 @@ module _ {V : Type 0} (basis : Basis) (answer : Call V → Answer V) (n : ℕ) (
       ∙ ap total (over_values h members)
       ∙ members_counted members
 
--- the tasks beneath a task, with one level of sets more
+-- the tasks under a task, with one level of sets more
 pub task_counted : {V : Type 0} (answer : Call V → Answer V) (n : ℕ) (job : Job V)
     → tasks_of answer (suc n) job ≡ 1 + total (map (tasks_of answer n) (jobs_beneath job (answer job.asking.call)))
 task_counted answer n job =
@@ -231,7 +231,7 @@ module _ (setting : Setting) where
       (λ field h. within_more n (own_selections field) h) _ (within object)
 
 module _ {V : Type 0} (basis : Basis) (answer : Call V → Answer V) where
-  -- what is asked for a field hangs on what is asked beneath it alone
+  -- what is asked for a field hangs on what is asked under it alone
   abbrev with_below : List ℕ → FieldValue V → Positioned Field → (List ℕ → FieldValue V → ℕ) → ℕ
   with_below object parent field below =
       one_if (field_asking false (execution_of basis) object parent field)
@@ -291,7 +291,7 @@ module _ {V : Type 0} (answer : Call V → Answer V) (n : ℕ) where
           job.basis.grouping (setting_by job.basis) (collected job.basis spot.object (own_selections job.field))
           (within_more (setting_by job.basis) n (own_selections job.field) within spot.object))
 
-  -- the tasks beneath tasks are counted by the record's machine
+  -- the tasks under tasks are counted by the record's machine
   pub counting_is : (answers : Job V → Answer V) → ((job : Job V) → answers job ≡ answer job.asking.call)
       → IsCount (story_of job_subject answers) (tasks_of answer n) (TaskWithin n)
   counting_is answers same = record {

@@ -1,4 +1,4 @@
--- What a task comes to with its answer, and the tasks beneath it.
+-- What a task comes to with its answer, and the tasks under it.
 use Rattle.std.proofs.Common.{rules, ◌≡◌, not, Bool, List, [], ◌++◌, map, refl, ap, subst, sym, ◌∙◌}
 use Rattle.std.specs.List.{AllByRecursion, flat_map}
 use Rattle.std.specs.declared.alloc.Global.{Global}

@@ -34,7 +34,7 @@ zip_last [] (v ∷ values) name value long = absurd (omega arith)
 zip_last (n ∷ names) [] name value long = absurd (omega arith)
 zip_last (n ∷ names) (v ∷ values) name value long = ap (λ ps. (n, v) ∷ ps) (zip_last names values name value (let e : length values ≡ length names = omega arith in e))
 
--- an occurrence is a group of its own behind the others
+-- an occurrence is a group of its own after the others
 pub group_alone : (names names' : List (List ℕ)) (groups groups' : List Group) (name : List ℕ) (group : Group) (field : Positioned Field)
     → length groups ≡ length names → names' ≡ names ++ name ∷ [] → groups' ≡ groups ++ group ∷ [] → name ≡ key_text field → united group ≡ field
     → under_names names' groups' ≡ under_names names groups ++ (key_text field, field) ∷ []

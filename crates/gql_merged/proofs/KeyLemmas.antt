@@ -57,7 +57,7 @@ last_there {X = X} xs ys x is = ap (λ zs. slice_get zs (length xs)) is ∙ by x
     by (z ∷ zs) = by zs
 
 module _ {R Own World Future L H P : Type 0} {e : Parts R Own World Future L H P} where
-  -- what stands between two phases stands behind none
+  -- what stands between two phases stands after none
   pub in_turn_again : {first m : Moment R Future L H P} {done : List e.plan.Task} → InTurn e first m done → InTurn e m m []
   in_turn_again {m = m} turn = record {
     steady = steady_none m;
@@ -99,7 +99,7 @@ module _ {R Own World Future L H P : Type 0} {e : Parts R Own World Future L H P
     world = turn.world;
   }
 
-  -- nor where memory was wanting
+  -- nor where memory ran out
   cut_moved : {first m : Moment R Future L H P} {roots : List e.plan.Task} {want : NoMemory} (plan : L) (states : List (State Future)) (waiting : List ℕ) (turns : P)
       → CutInTurn e first m roots want → CutInTurn e first (moved m plan states waiting turns) roots want
   cut_moved plan states waiting turns cut = record {
@@ -127,11 +127,11 @@ module _ {R Own World Future L H P : Type 0} {e : Parts R Own World Future L H P
   }
 
   module _ {old next : Moment R Future L H P} {root : e.plan.Task} (opens : NextRoot e old next root) (same_set : next.set ≡ old.set) (same_hooks : next.hooks ≡ old.hooks) where
-    -- the root key is over, and so is all beneath it
+    -- the root key is over, and so is all under it
     pub key_over : {new : Moment R Future L H P} (plan : L) → e.plan.tasks plan ≡ e.plan.tasks new.plan → PhaseOver e next new → KeyOver e old (with_plan new plan) root
     key_over plan same over = record { turn = λ first done turn. in_turn_with plan same (in_turn_more turn opens over) }
 
-    -- memory was wanting for what comes behind it
+    -- memory ran out for what comes after it
     pub key_cut_behind : {new : Moment R Future L H P} (keys : ℕ) (told : NoMemory) (plan : L) → told.roots ≡ suc keys → PhaseOver e next new
         → KeyCut e old (moved new plan new.states new.waiting new.turns) root keys told
     key_cut_behind {new = new} keys told plan count over = record {
@@ -293,7 +293,7 @@ none_before serving about choice world (root ∷ left) old = record {
   paces = λ pace before some. record { earlier = λ k within. refl; paced = (pending_then_ready (serving.delay (about.call root).resolver), refl) };
 }
 
--- memory was wanting before any root key was begun
+-- memory ran out before any root key was begun
 pub halts_none : {R Own World Future P Task_ : Type 0} (set : Resolving R Own World Future) (turns : Choosing P) (work : Work Own Task_) (old : Seen R P) → HaltsInTurn set turns work old old
 halts_none set turns work old = record {
   done = [];

@@ -48,7 +48,7 @@ module _ {V : Type 0} (basis : Basis) (answer : Call V → Answer V) (n : ℕ) w
   all_merged selections [] = refl
   all_merged selections (s ∷ ss) = λ i. members_alone s selections i ∷ all_merged selections ss i
 
-  -- the tree of a completed answer, of the places of the tasks beneath it
+  -- the tree of a completed answer, of the places of the tasks under it
   pub tree_merged : (pos : Pos) (field : Positioned Field) (c : Completed V) (path : List PathSegment)
       → tree_with pos (bare c) (map (members_of_tasks basis answer n (own_selections field)) (spots c path))
       ≡ fill pos (beneath_by basis answer (suc n) field) c

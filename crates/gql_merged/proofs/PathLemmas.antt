@@ -60,7 +60,7 @@ written_front steps place start path past before =
 -- the begin and the end of steps that are written
 pub ruleset front_ends = (written_first, written_front)
 
--- a path with a segment at a place, and nothing behind it
+-- a path with a segment at a place, and nothing after it
 written_cut : (old : List PathSegment) (place : ℕ) (segment : PathSegment) → place ≤ length old
     → written place segment (take (place + 1) old) ≡ take place old ++ segment ∷ []
 written_cut old place segment within =
@@ -84,7 +84,7 @@ module _ {E : Type 0} (result : Result (Unit {0}) E) (steps steps' : List Step) 
   all_is : path_of (steps ++ index_step o) ++ key ∷ [] ≡ path_of (steps' ++ index_step o') ++ key' ∷ []
   all_is = λ i. path_of (steps_are i ++ index_step (same i)) ++ key_is i ∷ []
 
-  -- a key is written behind steps
+  -- a key is written after steps
   pub key_behind : o ≡ None → OnOk result (new ≡ take (length steps) path ++ key ∷ []) → OnOk result (new ≡ path_of (steps' ++ index_step o') ++ key' ∷ [])
   key_behind none last = done result last
     where
@@ -96,7 +96,7 @@ module _ {E : Type 0} (result : Result (Unit {0}) E) (steps steps' : List Step) 
       done (Err e) written_is = tt
       done (Ok u) written_is = written_is ∙ ap (λ ps. ps ++ key ∷ []) front ∙ all_is
 
-  -- a key is written behind steps and the index of an item
+  -- a key is written after steps and the index of an item
   pub key_behind_index : (index : ℕ) (path' : List PathSegment) → o ≡ Some index → path' ≡ written (length steps) (segment.Index index) path
       → OnOk result (new ≡ take (length steps + 1) path' ++ key ∷ []) → OnOk result (new ≡ path_of (steps' ++ index_step o') ++ key' ∷ [])
   key_behind_index index path' some more last = done result last
@@ -117,11 +117,11 @@ module _ {E : Type 0} (result : Result (Unit {0}) E) (steps steps' : List Step) 
       done (Err e) written_is = tt
       done (Ok u) written_is = written_is ∙ ap (λ ps. ps ++ key ∷ []) front ∙ all_is
 
--- there is room for a key behind steps
+-- there is room for a key after steps
 pub key_within : (steps : List Step) (behind path : List PathSegment) → path ≡ path_of steps ++ behind → length steps ≤ length path
 key_within steps behind path is = (let long = steps_long steps behind path is in omega arith)
 
--- and behind an index, too
+-- and after an index, too
 pub key_within_index : (steps : List Step) (index : ℕ) (behind path path' : List PathSegment) → path ≡ path_of steps ++ behind
     → path' ≡ written (length steps) (segment.Index index) path → length steps + 1 ≤ length path'
 key_within_index steps index behind path path' is more =

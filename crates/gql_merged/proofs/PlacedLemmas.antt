@@ -1,4 +1,4 @@
--- The place of what a task came to is that of merged execution, where those beneath it are.
+-- The place of what a task came to is that of merged execution, where those under it are.
 use Rattle.std.proofs.Common.{◌≡◌, ℕ, zero, suc, Bool, true, false, List, [], ◌∷◌, ◌++◌, map, refl, ap, sym, subst, ◌∙◌, append_assoc}
 use Rattle.std.proofs.lemmas.List.{append-nil, map-append}
 use Rattle.std.specs.List.{AllByRecursion, flat_map}
@@ -144,7 +144,7 @@ module _ {V : Type 0} (answer : Call V → Answer V) where
       ∙ ap (λ ms. unite_all join [] (over (λ f. placed (execution_of basis) false answer object parent f (λ inner parent. [])) ms))
       (groups_none basis.grouping (setting_by basis))
 
-  -- what is kept of a place, of what is kept of right places of the tasks beneath it
+  -- what is kept of a place, of what is kept of right places of the tasks under it
   made_same : (job : Job V) (filled : Filled V) (own : List Piece) (piece : Piece) (n : ℕ) → IsFilledDue answer job filled → IsMade filled own piece
       → SameItems (keeps_whole job.basis.grouping) (map place_in own) (map (place_by job.basis answer n) (beneath_due answer job))
       → Same (keeps_whole job.basis.grouping) (place_in piece) (place_by job.basis answer (suc n) job)
@@ -159,7 +159,7 @@ module _ {V : Type 0} (answer : Call V → Answer V) where
       (subst (Same whole (place_made filled (map place_in own))) (made_merged job filled n due fits refl)
       (place_made_same whole filled (map place_in own) due apart same))
 
-  -- the place of what a task came to is right, where those beneath it are
+  -- the place of what a task came to is right, where those under it are
   pub made_right : (job : Job V) (filled : Filled V) (own : List Piece) (piece : Piece) → IsFilledDue answer job filled → IsMade filled own piece
       → Paired (IsRight answer) (beneath_due answer job) own → IsRight answer job piece
   made_right job filled own piece fits made right zero within =

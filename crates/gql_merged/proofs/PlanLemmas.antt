@@ -29,7 +29,7 @@ use Rattle.gql_merged.proofs.BeneathLemmas.{every_at}
 use Rattle.gql_merged.proofs.EntryLemmas.{laid_more}
 use Rattle.gql_merged.proofs.StandingLemmas.{stored_beside, stored_more, stored_now, stored_put}
 
--- a task was given something: what is kept of it stands behind the rest, its place is open, and the tasks beneath it stand behind all tasks
+-- a task was given something: what is kept of it stands behind the rest, its place is open, and the tasks under it stand after all tasks
 pub record Completes (V : Type 0) (tasks tasks' : List (Task V)) (kept kept' : List (Kept V)) (places places' : List (Option Piece)) (k : Kept V) (job : Job V)
     (given : Given V) : Type 0 where
   pub more : List (Task V)
@@ -51,7 +51,7 @@ module _ {V : Type 0} {tasks tasks' : List (Task V)} {kept kept' : List (Kept V)
   pub completes_count : k.count ≡ length (made_beneath given job)
   completes_count = done.count_is ∙ sym (length-map done.more job_of_task) ∙ ap length done.beneath_is
 
-  -- the tasks beneath are made, and their number is told
+  -- the tasks under are made, and their number is told
   pub completes_has : (other : Job V) → slice_get (jobs_in tasks) k.number ≡ Some other → HasMade (jobs_in tasks) (jobs_in tasks') (made_beneath given other) k.count
   completes_has other is =
       let same : job ≡ other = (let e : Some job ≡ Some other = sym done.there ∙ is in cc) in
@@ -124,7 +124,7 @@ map_none : {A B : Type 0} (f : A → B) (xs : List A) → map f xs ≡ [] → xs
 map_none f [] none = refl
 map_none f (x ∷ xs) none = absurd (cc)
 
--- where what a task was given came to no object, no tasks are made beneath it
+-- where what a task was given came to no object, no tasks are made under it
 none_made : {V : Type 0} (given : Given V) (job : Job V) (filled : Filled V) → IsFilledWith given job filled → filled.parents.items ≡ [] → made_beneath given job ≡ []
 none_made (Answered answer) job filled fits none =
     ap (flat_map (jobs_at job.basis (own_selections job.field)))

@@ -8,7 +8,7 @@ put_get [] n o is = absurd (cc)
 put_get (p ∷ os) zero o is = (let e : p ≡ o = cc in e)
 put_get (p ∷ os) (suc n) o is = put_get os n o is
 
--- an open place behind others changes none
+-- an open place after others changes none
 pub put_end : {P : Type 0} (os : List (Option P)) (k : ℕ) → stands_for (os ++ None ∷ []) k ≡ stands_for os k
 put_end [] zero = refl
 put_end [] (suc k) = refl
@@ -58,7 +58,7 @@ end_others o (p ∷ os) zero k is differs = absurd (omega arith)
 end_others o (p ∷ os) (suc n) zero is differs = refl
 end_others o (p ∷ os) (suc n) (suc k) is differs = end_others o os n k (omega arith) (λ e. differs (ap suc e))
 
--- a place behind all others, which are open as far as they weren't there
+-- a place after all others, which are open as far as they weren't there
 pub puts_behind : {P : Type 0} (o : Option P) (first os os' : List (Option P)) (n : ℕ) → ((k : ℕ) → stands_for os k ≡ stands_for first k) → length os ≡ n → os' ≡ os ++ o ∷ []
     → PutsAt o n first os'
 puts_behind o first os os' n same long is = record {

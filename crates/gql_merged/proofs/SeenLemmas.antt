@@ -46,7 +46,7 @@ first_same whole [] (n ∷ ns) same = absurd same
 first_same whole (m ∷ ms) [] same = absurd same
 first_same whole (m ∷ ms) (n ∷ ns) same = same.0
 
--- those behind them
+-- those after them
 others_same : (whole : Bool) (ms ns : List Members) → Paired (SameMembers whole) ms ns → Paired (SameMembers whole) (other_members ms) (other_members ns)
 others_same whole [] [] same = tt
 others_same whole [] (n ∷ ns) same = absurd same
@@ -133,7 +133,7 @@ first_place_same false pos [] (b ∷ ys) same = absurd same
 first_place_same false pos (a ∷ xs) [] same = absurd same
 first_place_same false pos (a ∷ xs) (b ∷ ys) same = same.0
 
--- those behind it
+-- those after it
 other_places_same : (whole : Bool) (xs ys : List Place) → SameItems whole xs ys → SameItems whole (other_places xs) (other_places ys)
 other_places_same true xs ys same = ap other_places same
 other_places_same false [] [] same = tt

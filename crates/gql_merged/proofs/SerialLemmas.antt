@@ -60,7 +60,7 @@ module _ {V W : Type 0} (serving : Serving V W) where
   placed_next world (one ∷ done) root (o ∷ os) place placed right =
       (placed.0, placed_next (serving.effect one.asking.call world) done root os place placed.1 right)
 
--- beneath a root key the answers of its phase are those of the world that it leaves
+-- under a root key the answers of its phase are those of the world that it leaves
 module _ {V W : Type 0} (basis : Basis) (answer : Call V → W → Answer V) (before behind : W) where
   pub below_outcome : (object : List ℕ) (parent : FieldValue V) (field : Positioned Field)
       → field_outcome false (execution_of basis) (answer_between answer before behind) object parent field
@@ -122,7 +122,7 @@ united_same true ms ns same d = ap (unite_all join []) same ∙ united_distinct 
 united_same false ms ns same d = subst (λ xs. Paired AreAlikeMembers xs ns) (sym (united_distinct join ms (same_distinct ms ns same d))) same
 
 module _ {V W : Type 0} (how : Grouping) (scene : Scene V) (serving : Serving V W) (n : ℕ) where
-  -- what is beneath a root key that left this world
+  -- what is under a root key that left this world
   abbrev beneath : W → Positioned Field → List ℕ → FieldValue V → Members
   beneath behind field object parent = beneath_by (basis_by how scene) (λ call. serving.answer call behind) n field object parent
 
@@ -141,7 +141,7 @@ module _ {V W : Type 0} (how : Grouping) (scene : Scene V) (serving : Serving V 
   abbrev left_by : W → Option (Asking V) → W
   left_by world asking = world_of (execution_of (basis_by how scene)) serving.effect world asking
 
-  -- one root key, and those behind it
+  -- one root key, and those after it
   one_key : (key : List ℕ) (field : Positioned Field) (a : Asks) (world : W) (os : List (Option Piece)) (jobs : List (Job V)) (members : List (List ℕ × Asked))
       (rest : W → Members)
       → ((w : W) (ps : List (Option Piece)) → PlacedInTurn serving w jobs ps
@@ -225,7 +225,7 @@ module _ {V W : Type 0} (how : Grouping) (scene : Scene V) (serving : Serving V 
       (λ before behind field. (answering scene serving.answer serving.effect).root before (root_spot scene).object (root_spot scene).parent field (beneath how scene serving n behind field))
       (keys_of scene) world (distinct_united both [] (keyed (reading setting) fields) tt))
 
-  -- one root key, and the world behind it
+  -- one root key, and the world after it
   one_past : (world : W) (field : Positioned Field) (asking : Option (Asking V)) (jobs : List (Job V))
       → world_past serving job_subject world (job_of (basis_by how scene) (root_spot scene) field asking ++ jobs)
       ≡ world_past serving job_subject (world_of (execution_of (basis_by how scene)) serving.effect world asking) jobs
@@ -241,6 +241,6 @@ module _ {V W : Type 0} (how : Grouping) (scene : Scene V) (serving : Serving V 
       one_past world member.1 asking (jobs_of_as true (basis_by how scene) (root_spot scene) fields)
       ∙ keys_past fields (world_of (execution_of (basis_by how scene)) serving.effect world asking)
 
-  -- the world behind the tasks of all root keys is the last one of the definition
+  -- the world after the tasks of all root keys is the last one of the definition
   pub last_past : (world : W) → world_past serving job_subject world (key_jobs_by how scene) ≡ last_world_of scene serving.effect world
   last_past world = keys_past (keys_of scene) world

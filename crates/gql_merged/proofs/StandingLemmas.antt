@@ -75,7 +75,7 @@ module _ {J X : Type 0} {Fits : J → X → Type 0} {beneath : J → List J} whe
   }
 
 module _ {J X P : Type 0} (Fits : J → X → Type 0) (beneath : J → List J) (Made : X → P → Type 0) (jobs : List J) where
-  -- the place of a task with none beneath it is put
+  -- the place of a task with none under it is put
   pub stored_put : (store : Store X P) (number : ℕ) (job : J) (x : X) (place : P) → slice_get jobs number ≡ Some job → Fits job x → beneath job ≡ []
       → stands_for store.places number ≡ Some place → Made x place → IsStored Fits beneath Made jobs store number
   stored_put store number job x place there fits none put made =

@@ -41,7 +41,7 @@ abbrev pub first_place : Pos → List Place → Place
 first_place pos [] = absent_place pos
 first_place pos (place ∷ places) = place
 
--- those behind it
+-- those after it
 abbrev pub other_places : List Place → List Place
 other_places [] = []
 other_places (place ∷ places) = places
@@ -80,7 +80,7 @@ abbrev pub members_with : List ℕ → List (List ℕ × Asked) → List Place �
 members_with object members places =
     united_members (names_of members) (places_with object (values_of members) places)
 
--- the place of a task with these answers, and with what is beneath the objects of its field
+-- the place of a task with these answers, and with what is under the objects of its field
 abbrev pub place_of_job : {V : Type 0} → (Call V → Answer V) → (List ℕ → FieldValue V → Members)
     → Job V → Place
 place_of_job answer below job =

@@ -33,7 +33,7 @@ module _ {V : Type 0} where
       members_with standing.spot.object standing.members places
       ∷ members_each others (places_behind_all (values_of standing.members) places)
 
-  -- the place of what a task came to, of the places of the tasks beneath it
+  -- the place of what a task came to, of the places of the tasks under it
   abbrev pub place_made : Filled V → List Place → Place
   place_made filled places = record {
     pos = filled.pos;
@@ -50,16 +50,16 @@ module _ {V : Type 0} where
   AreApart whole standings =
       AllByRecursion (λ (s : Standing V). whole ≡ false → HasDistinctNames s.members) standings
 
-  -- what is kept of the place of what a task came to, of what is kept of those beneath it
+  -- what is kept of the place of what a task came to, of what is kept of those under it
   abbrev pub IsMade : Filled V → List Piece → Piece → Type 0
   IsMade filled own piece = AreApart filled.whole (map standing_behind filled.parents.items)
       → Same filled.whole (place_in piece) (place_made filled (map place_in own))
 
-  -- the same with no tasks beneath it
+  -- the same with no tasks under it
   abbrev pub IsMadeAlone : Filled V → Piece → Type 0
   IsMadeAlone filled piece = IsMade filled [] piece
 
-  -- the place of a task is put where it is open, of the places beneath it, which are taken off
+  -- the place of a task is put where it is open, of the places under it, which are taken off
   pub record IsPutOpen (kept : Kept V) (places places' : List (Option Piece)) : Type 0 where
     pub piece : Piece
     pub made : IsMade kept.filled (present (drop kept.first places)) piece
@@ -70,7 +70,7 @@ module _ {V : Type 0} where
     abbrev pub IsFilledDue : Job V → Filled V → Type 0
     IsFilledDue job filled = IsFilled job (answer job.asking.call) filled
 
-    -- the tasks beneath that answer
+    -- the tasks under that answer
     abbrev pub beneath_due : Job V → List (Job V)
     beneath_due job = jobs_beneath job (answer job.asking.call)
 

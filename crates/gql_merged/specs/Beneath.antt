@@ -1,4 +1,4 @@
--- The levels of the objects beneath a field.
+-- The levels of the objects under a field.
 use Rattle.std.specs.Prelude.{◌≡◌, ℕ, List, Some, option_map}
 use Rattle.std.specs.declared.alloc.Global.{Global}
 use Rattle.std.specs.declared.rc.Rc.{Rc}
@@ -13,7 +13,7 @@ use Rattle.gql_merged.specs.declared.level.Node.{Node}
 abbrev pub level_behind : Rc Level Global → Level
 level_behind level = level.value
 
--- a level is that of the objects of a name beneath a field
+-- a level is that of the objects of a name under a field
 pub record IsBeneath (node : Node) (object : List ℕ) (level : Level) : Type 0 where
   pub object_is : level.object ≡ object
   pub members_are : members_of level

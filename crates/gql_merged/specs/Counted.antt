@@ -29,18 +29,18 @@ module _ {V : Type 0} (basis : Basis) (answer : Call V → Answer V) where
       ℕ
   counting_by = placing_by (setting_by basis) (count_as (execution_of basis) answer false)
 
-  -- the numbers of the fields of an object with all beneath them, so many levels of sets deep
+  -- the numbers of the fields of an object with all under them, so many levels of sets deep
   abbrev pub counts_by : ℕ → List ℕ → FieldValue V → List (Positioned Selection)
       → List (List ℕ × ℕ)
   counts_by n object parent selections =
       respond_by counting_by (λ one other. one + other)
       (groups_by basis.grouping (setting_by basis)) n object parent selections
 
-  -- their sum: the tasks of an object, and all beneath them
+  -- their sum: the tasks of an object, and all under them
   abbrev pub tasks_in : ℕ → List ℕ → FieldValue V → List (Positioned Selection) → ℕ
   tasks_in n object parent selections = total (values_of (counts_by n object parent selections))
 
--- a task and all beneath it
+-- a task and all under it
 abbrev pub tasks_of : {V : Type 0} → (Call V → Answer V) → ℕ → Job V → ℕ
 tasks_of answer n job =
     1 + total (map (λ spot. tasks_in job.basis answer n spot.object spot.parent
@@ -63,7 +63,7 @@ module _ {V : Type 0} (scene : Scene V) (answer : Call V → Answer V) (n : ℕ)
 
 module _ {V W : Type 0} (scene : Scene V) (answer : Call V → W → Answer V)
     (effect : Call V → W → W) where
-  -- how the root keys of a mutation become numbers, each in the world so far, and what is beneath
+  -- how the root keys of a mutation become numbers, each in the world so far, and what is under
   -- them in the world that they leave
   abbrev pub counting_keys : Mutating (List ℕ) (FieldValue V) (Positioned Field)
       (Positioned Selection) ℕ W

@@ -3,7 +3,7 @@ use Rattle.std.specs.Prelude.{ℕ, ◌+◌, ltb, eqb, List, [], ◌∷◌, Optio
 use Rattle.std.specs.Prelude.{if◌then◌else◌, ◌&&◌}
 use Rattle.std.specs.Option.{option_or}
 
--- what is kept of a task: its number, the place and the count of the tasks beneath it, and what it
+-- what is kept of a task: its number, the place and the count of the tasks under it, and what it
 -- came to
 pub record Entry (X : Type 0) : Type 0 where
   pub number : ℕ
@@ -13,7 +13,7 @@ pub record Entry (X : Type 0) : Type 0 where
 
 module _ {X : Type 0} where
   -- the number of tasks once these are kept one after another, each of an earlier task, with the
-  -- tasks beneath it behind all others
+  -- tasks under it after all others
   abbrev pub laid : ℕ → List (Entry X) → Option ℕ
   laid n [] = Some n
   laid n (kept ∷ others) =

@@ -26,7 +26,7 @@ abbrev pub first_members : List Members → Members
 first_members [] = []
 first_members (first ∷ others) = first
 
--- those behind them
+-- those after them
 abbrev pub other_members : List Members → List Members
 other_members [] = []
 other_members (first ∷ others) = others

@@ -41,7 +41,7 @@ module _ {V : Type 0} where
   IsFilledWith (Answered answer) job filled = IsFilled job answer filled
   IsFilledWith (Put put) job filled = filled.shape ≡ put_shape put
 
-  -- the tasks beneath what a task was given
+  -- the tasks under what a task was given
   abbrev pub made_beneath : Given V → Job V → List (Job V)
   made_beneath given job = beneath_given jobs_beneath job given
 

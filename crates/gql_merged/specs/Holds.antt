@@ -1,4 +1,4 @@
--- What a plan holds of its tasks: the places of those with none beneath them, and what is kept of
+-- What a plan holds of its tasks: the places of those with none under them, and what is kept of
 -- the others.
 use Rattle.std.specs.Prelude.{◌≡◌, ◌<◌, ◌⊎◌, ℕ, false, List, [], Option, None, Ok}
 use Rattle.gql_tasks.specs.declared.given.Given.{Given}

@@ -78,7 +78,7 @@ module _ {V : Type 0} where
   abbrev pub completed_by : Job V → Answer V → Completed V
   completed_by job answer = shape_of (types_of job.basis.types.now) job.asking.ty answer.result
 
-  -- the tasks beneath an answer: those of the objects in it, in their order
+  -- the tasks under an answer: those of the objects in it, in their order
   abbrev pub jobs_beneath : Job V → Answer V → List (Job V)
   jobs_beneath job answer =
       flat_map (jobs_at job.basis (own_selections job.field))

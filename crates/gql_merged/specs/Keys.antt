@@ -1,4 +1,4 @@
--- What one root key of a mutation leaves behind the others.
+-- What one root key of a mutation leaves after the others.
 use Rattle.std.specs.Prelude.{◌≡◌, ◌-◌, ◌++◌, ℕ, true, List, [], ◌∷◌, Option, Some, length, slice_set}
 use Rattle.gql_base.specs.declared.no_memory.NoMemory.{NoMemory}
 use Rattle.gql_tasks.specs.Parts.{Moment, Parts}
@@ -11,12 +11,12 @@ use Rattle.gql_merged.specs.Jobs.{Job}
 
 module _ {R Own World Future L H P : Type 0} (e : Parts R Own World Future L H P)
     (old new : Moment R Future L H P) (root : e.plan.Task) where
-  -- behind whole phases there is one more
+  -- after whole phases there is one more
   pub record KeyOver : Type 0 where
     pub turn : (first : Moment R Future L H P) (done : List e.plan.Task) → InTurn e first old done
         → InTurn e first new (done ++ root ∷ [])
 
-  -- memory was wanting, behind so many whole phases
+  -- memory ran out, after so many whole phases
   pub record KeyCut (keys : ℕ) (want : NoMemory) : Type 0 where
     pub cut : (first : Moment R Future L H P) (done left : List e.plan.Task)
         → InTurn e first old done → length done ≡ keys
@@ -26,7 +26,7 @@ module _ {R Own World Future L H P : Type 0} (e : Parts R Own World Future L H P
 abbrev pub IsKey : {V : Type 0} → Job V → Type 0
 IsKey job = (job.asking.call.is_root ≡ true) × (length job.path ≡ 1)
 
--- one more place stands behind others, and is right
+-- one more place stands after others, and is right
 pub record HasPlace {V : Type 0} (answer : Call V → Answer V) (root : Job V)
     (own own' : List (Option Piece)) : Type 0 where
   pub place : Piece

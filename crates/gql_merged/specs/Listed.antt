@@ -69,7 +69,7 @@ module _ {V : Type 0} where
   abbrev pub objects_in : List ℕ → Bool → List (FieldValue V) → Completed V
   objects_in name non_null items = shape.List non_null (map (shape.Object name) items)
 
-  -- the objects of a list at a path, each behind its index, counted from this number on
+  -- the objects of a list at a path, each after its index, counted from this number on
   abbrev pub item_spots : List ℕ → List PathSegment → ℕ → List (FieldValue V) → List (Spot V)
   item_spots object path n [] = []
   item_spots object path n (item ∷ items) =

@@ -26,7 +26,7 @@ module _ {V : Type 0} (basis : Basis) (answer : Call V → Answer V) where
       respond_by (placing_by (setting_by basis) (placed (execution_of basis) false answer)) join
       (groups_by basis.grouping (setting_by basis)) n object parent selections
 
-  -- those beneath a field
+  -- those under a field
   abbrev pub beneath_by : ℕ → Positioned Field → List ℕ → FieldValue V → Members
   beneath_by n field object parent = members_by n object parent (own_selections field)
 

@@ -55,7 +55,7 @@ MembersAreMerged V =
     → members_of_tasks basis answer n selections spot
     ≡ members_by basis answer (suc n) spot.object spot.parent selections
 
--- a completed answer, taken apart and put together of the places of the tasks beneath it
+-- a completed answer, taken apart and put together of the places of the tasks under it
 abbrev pub TreesAreMerged : (V : Type 0) → Type 0
 TreesAreMerged V =
     (basis : Basis) (answer : Call V → Answer V) (n : ℕ) (pos : Pos) (field : Positioned Field)
@@ -82,7 +82,7 @@ pub record QueriesAreGrouped {V : Type 0} (scene : Scene V) (answer : Call V →
   pub each : response_by grouping.Each scene answer n ≡ apart_response scene answer n
   pub asked : count_by scene answer n grouping.ByKey ≡ merged_count scene answer n
 
--- the same of a mutation, grouped so beneath its root keys
+-- the same of a mutation, grouped so under its root keys
 pub record MutationsAreGrouped {V W : Type 0} (scene : Scene V) (answer : Call V → W → Answer V)
     (effect : Call V → W → W) (world : W) (n : ℕ) : Type 0 where
   pub by_key : serial_response_by scene answer effect grouping.ByKey world n

@@ -37,7 +37,7 @@ some_at P [] k h = tt
 some_at P (x ∷ xs) zero h = h.0
 some_at P (x ∷ xs) (suc k) h = some_at P xs k h.1
 
--- and of two lists, one behind the other
+-- and of two lists, one after the other
 all_both : {X : Type 0} (P : X → Type 0) (xs ys : List X) → AllByRecursion P xs
     → AllByRecursion P ys → AllByRecursion P (xs ++ ys)
 all_both P [] ys h k = k
@@ -122,7 +122,7 @@ module _ {V : Type 0} where
       → AllByRecursion IsJobBelow (jobs_at basis selections spot)
   no_roots basis selections spot = jobs_as false basis selections spot
 
-  -- and none beneath another one
+  -- and none under another one
   pub none_is_root : (job : Job V) (answer : Answer V) (place : ℕ) (below : Job V)
       → slice_get (jobs_beneath job answer) place ≡ Some below
       → (asked_by_job below).call.is_root ≡ false

@@ -13,13 +13,13 @@ use Rattle.gql_merged.specs.declared.kept.Placed.{Placed}
 use Rattle.gql_merged.specs.declared.level.Node.{Node}
 
 module _ {V : Type 0} where
-  -- objects beneath a field, with its selections
+  -- objects under a field, with its selections
   abbrev pub standing_beneath : Node → List (Spot V) → List (Standing V)
   standing_beneath node found =
       map (standing_at node.basis (own_selections (united node.group))) found
 
   -- of what an answer to the field at a path comes to the objects stand with their fields, none of
-  -- them at the root, their tasks are behind the others, and this is left of it
+  -- them at the root, their tasks are after the others, and this is left of it
   pub record IsPlaced (node : Node) (path : List PathSegment) (old new : List (Job V))
       (whole : Completed V) (placed : Placed V) : Type 0 where
     pub shape_is : placed.shape ≡ bare whole

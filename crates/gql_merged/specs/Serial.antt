@@ -1,5 +1,5 @@
 -- The execution of a mutation: its root keys one after another, each merged over its occurrences
--- (GraphQL, October 2021, sections 6.2.2 and 6.3.1). Beneath them each key is answered once by
+-- (GraphQL, October 2021, sections 6.2.2 and 6.3.1). Under them each key is answered once by
 -- merged execution, and each occurrence by apart execution.
 use Rattle.std.specs.Prelude.{◌≡◌, ℕ, zero, suc, true, false, List, [], ◌∷◌, Option, Some}
 use Rattle.gql_doc.specs.declared.document.Field.{Field}
@@ -29,7 +29,7 @@ use Rattle.gql_merged.specs.Run.{root_spot}
 use Rattle.gql_merged.specs.declared.basis.Grouping.{Grouping}
 use Rattle.gql_merged.specs.declared.basis.Grouping.TheVariants as grouping
 
--- how many of so many levels of sets stand beneath the root's
+-- how many of so many levels of sets stand under the root's
 abbrev pub levels_beneath : ℕ → ℕ
 levels_beneath zero = zero
 levels_beneath (suc n) = n
@@ -70,7 +70,7 @@ module _ {V : Type 0} (scene : Scene V) where
       (collected (basis_of scene) (root_spot scene).object (root_selections scene))
 
   module _ {W : Type 0} (answer : Call V → W → Answer V) (effect : Call V → W → W) where
-    -- how the mutation is answered: each root key in a world, and what is beneath it in the world
+    -- how the mutation is answered: each root key in a world, and what is under it in the world
     -- that it leaves
     abbrev pub answering : Mutating (List ℕ) (FieldValue V) (Positioned Field)
         (Positioned Selection) Place W
@@ -97,7 +97,7 @@ module _ {V : Type 0} (scene : Scene V) where
         (serial_respond answering join (levels_beneath n) (root_spot scene).object
         (root_spot scene).parent (root_selections scene) world)
 
-    -- the members of the root, where occurrences beneath it are grouped so
+    -- the members of the root, where occurrences under it are grouped so
     abbrev pub serial_members_by : Grouping → W → ℕ → Members
     serial_members_by by world n =
         in_turn answering.effect
@@ -110,7 +110,7 @@ module _ {V : Type 0} (scene : Scene V) where
     abbrev pub serial_response_by : Grouping → W → ℕ → Place
     serial_response_by by world n = place_at_root scene (serial_members_by by world n)
 
-  -- the world behind all root keys
+  -- the world after all root keys
   abbrev pub last_world_of : {W : Type 0} → (Call V → W → W) → W → W
   last_world_of effect world =
       world_behind (world_after (execution_of (basis_of scene)) effect root_asked) world keys_of

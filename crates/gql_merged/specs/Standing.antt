@@ -28,7 +28,7 @@ pub record PutsAt {P : Type 0} (o : Option P) (number : ℕ) (places places' : L
   pub here : stands_for places' number ≡ o
   pub others : (k : ℕ) → (k ≡ number → ⊥) → stands_for places' k ≡ stands_for places k
 
--- what is kept last of a task fits it, and the tasks beneath it stand where it says
+-- what is kept last of a task fits it, and the tasks under it stand where it says
 pub record IsHeld {J X : Type 0} (Fits : J → X → Type 0) (beneath : J → List J) (jobs : List J)
     (kepts : List (Entry X)) (number : ℕ) : Type 0 where
   pub job : J
@@ -51,7 +51,7 @@ module _ {J X P : Type 0} (Fits : J → X → Type 0) (beneath : J → List J) w
     pub stays : stands_for store.places number ≡ None
 
   module _ (Made : X → P → Type 0) where
-    -- a task has no tasks beneath it, and its place is made of what it came to
+    -- a task has no tasks under it, and its place is made of what it came to
     pub record IsPut (jobs : List J) (places : List (Option P)) (number : ℕ) : Type 0 where
       pub job : J
       pub there : slice_get jobs number ≡ Some job

@@ -19,6 +19,6 @@ abbrev pub index_step : Option ℕ → List Step
 index_step None = []
 index_step (Some index) = step.Index index ∷ []
 
--- a path with this segment at a place, over the one that stands there, or behind all
+-- a path with this segment at a place, over the one that stands there, or after all
 abbrev pub written : ℕ → PathSegment → List PathSegment → List PathSegment
 written place segment path = take place path ++ segment ∷ drop (suc place) path

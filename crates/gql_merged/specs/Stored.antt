@@ -21,7 +21,7 @@ abbrev pub Bare : Type 0
 Bare = Shape (Unit {0}) (Unit {0})
 
 module _ {V : Type 0} where
-  -- those of items, each behind its index, counted from this number on
+  -- those of items, each after its index, counted from this number on
   abbrev pub numbered : ℕ → List (List PathSegment → List (Spot V)) → List PathSegment
       → List (Spot V)
   numbered n [] path = []

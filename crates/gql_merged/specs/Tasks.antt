@@ -15,7 +15,7 @@ use Rattle.gql_merged.specs.declared.parent.Parent.{Parent}
 use Rattle.gql_merged.specs.declared.task.Task.{Task}
 
 module _ {V : Type 0} where
-  -- a task beneath another one has a path of two segments at least
+  -- a task under another one has a path of two segments at least
   abbrev pub IsDeep : Job V → Type 0
   IsDeep job = 2 ≤ length job.path
 

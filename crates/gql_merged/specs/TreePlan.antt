@@ -15,7 +15,7 @@ module _ {V : Type 0} where
       HoldsSince plan.base (jobs_in plan.tasks.items) (store_in plan.kept.items plan.places.items)
       number given
 
-  -- a plan keeps what a task was given, with so many tasks beneath it, and what it held of others
+  -- a plan keeps what a task was given, with so many tasks under it, and what it held of others
   pub record HasKept (old new : TreePlan V) (number : ℕ) (given : Given V) (count : ℕ) : Type 0 where
     pub made : (task : Job V) → slice_get (jobs_in old.tasks.items) number ≡ Some task
         → HasMade (jobs_in old.tasks.items) (jobs_in new.tasks.items) (made_beneath given task) count

@@ -1,5 +1,5 @@
 //! The places of tasks, put together from the one that was answered last to the first. So the
-//! places beneath a task stand behind all others when it is its turn, and are moved into its own.
+//! places under a task stand after all others when it is its turn, and are moved into its own.
 ghost use Rattle.std.specs.Prelude.{ℕ, ◌≡◌, ◌<◌, ◌≤◌, [], List, None, Some};
 ghost use Rattle.std.specs.Prelude.{drop, length, take, IfOk, OnOk};
 ghost use Rattle.gql_merged.specs.Assembling.{AllHeldSince, ArePlaced, IsMade};
@@ -106,7 +106,7 @@ pub(crate) fn open_place(places: &mut Vec<Option<Piece>>, number: usize)
     }
 }
 
-/// Puts the place of a task where it is open, of the places beneath it, which stand behind all
+/// Puts the place of a task where it is open, of the places under it, which stand after all
 /// others.
 fn put_place<'a, V: Drop>(
     alloc: Global,
@@ -190,7 +190,7 @@ pub(crate) fn piece_alone<'a, V: Drop>(alloc: Global, filled: Filled<'a, V>) -> 
     piece_from(alloc, filled, &mut VecDeque::new(alloc))
 }
 
-/// What is kept of the place of what a task came to, of what is kept of the places beneath it.
+/// What is kept of the place of what a task came to, of what is kept of the places under it.
 fn piece_from<'a, V: Drop>(
     alloc: Global,
     filled: Filled<'a, V>,

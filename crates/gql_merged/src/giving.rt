@@ -1,4 +1,4 @@
-//! What a task comes to with what it is given, and the tasks beneath it.
+//! What a task comes to with what it is given, and the tasks under it.
 ghost use Rattle.std.specs.Prelude.{◌≡◌, ◌++◌, true, IfOk, OnOk};
 ghost use Rattle.std.specs.List.{AllByRecursion};
 ghost use Rattle.gql_merged.specs.Asks.{is_call};
@@ -19,7 +19,7 @@ use gql_resolve::Answer;
 use gql_tasks::Given;
 use std::alloc::Global;
 
-/// What a task comes to with what it is given. The tasks beneath it are made behind the others.
+/// What a task comes to with what it is given. The tasks under it are made after the others.
 pub(crate) fn fill_given<'a, V: Drop>(
     alloc: Global,
     task: &Task<'a, V>,

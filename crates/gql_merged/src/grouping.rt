@@ -51,7 +51,7 @@ fn group_by_key<'a>(alloc: Global, fields: Vec<&'a Positioned<Field>>) -> Made<G
     })
 }
 
-/// Adds an occurrence to the group of its key, or as a group of its own behind the others.
+/// Adds an occurrence to the group of its key, or as a group of its own after the others.
 fn add_occurrence<'a>(
     alloc: Global,
     keys: &mut Pairs<()>,
@@ -100,7 +100,7 @@ fn group_each<'a>(alloc: Global, fields: Vec<&'a Positioned<Field>>) -> Made<Gro
     })
 }
 
-/// Adds an occurrence as a group of its own behind the others.
+/// Adds an occurrence as a group of its own after the others.
 #[tactic(auto, using(crate::proofs::GroupingLemmas::group_alone))]
 fn add_alone<'a>(
     alloc: Global,

@@ -13,7 +13,7 @@ use gql_place::{MemberPieces, Pieces, Place, join_onto};
 use std::alloc::Global;
 use std::collections::VecDeque;
 
-/// Places under keys: those under one key are joined, the first with each one behind it.
+/// Places under keys: those under one key are joined, the first with each one after it.
 pub(crate) fn members_under(alloc: Global, keys: &Keys, own: Pieces) -> Made<MemberPieces>
     requires { length (places_in own) ≡ length (names_in keys.now) }
     ensures { IfOk result (λ members. members_in members

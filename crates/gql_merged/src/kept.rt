@@ -4,7 +4,7 @@ use gql_base::{Error, Items, Pos};
 use gql_request::HeaderOp;
 use std::rc::Rc;
 
-/// What a task came to: its place, but for what is beneath its objects, these objects in their
+/// What a task came to: its place, but for what is under its objects, these objects in their
 /// order, and whether the place is kept whole.
 #[derive(Drop)]
 pub struct Filled<'a, V> {
@@ -24,7 +24,7 @@ pub struct Placed<'a, V> {
     pub parents: Vec<Rc<Parent<'a, V>>>,
 }
 
-/// What is kept of a task: its number, the number of the first task beneath it, their count, and
+/// What is kept of a task: its number, the number of the first task under it, their count, and
 /// what it came to.
 #[derive(Drop)]
 pub struct Kept<'a, V> {

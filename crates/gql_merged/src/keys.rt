@@ -27,7 +27,7 @@ use std::alloc::Global;
 use std::collections::VecDeque;
 use std::sync::ledger::Ledger;
 
-/// Answers a root key with all that is beneath it, and keeps its place behind those of the keys
+/// Answers a root key with all that is under it, and keeps its place after those of the keys
 /// before. Want of memory tells how many root keys have their effect.
 pub(crate) fn answer_key<'a, R: ResolverSet, H: Rounds, P: Turns, S: Ledger>(
     alloc: Global,
@@ -81,7 +81,7 @@ pub(crate) fn answer_key<'a, R: ResolverSet, H: Rounds, P: Turns, S: Ledger>(
     }
 }
 
-/// The want of memory in the phase of a root key: its effect stands, or only those before.
+/// Out of memory in the phase of a root key: its effect stands, or only those before.
 fn behind_keys(before: u64, behind: u64, want: NoMemory) -> NoMemory
     ensures none { want.roots ≡ 0 → result.roots ≡ before }
     ensures one { want.roots ≡ 1 → result.roots ≡ behind }
@@ -93,7 +93,7 @@ fn behind_keys(before: u64, behind: u64, want: NoMemory) -> NoMemory
     }
 }
 
-/// Makes the task of a root key behind all others, and room for its place.
+/// Makes the task of a root key after all others, and room for its place.
 fn open_key<'a, V: Drop, F: Drop>(
     task: Task<'a, V>,
     plan: &mut TreePlan<'a, V>,
@@ -156,7 +156,7 @@ fn put_last(own: &mut Vec<Option<Piece>>, place: Option<Piece>)
     own[last] = place;
 }
 
-/// Answers root keys, one after another, each with all that is beneath it, also after a failure.
+/// Answers root keys, one after another, each with all that is under it, also after a failure.
 /// What comes are their places. Want of memory tells how many root keys have their effect.
 pub(crate) fn answer_keys<'a, R: ResolverSet, H: Rounds, P: Turns, S: Ledger>(
     alloc: Global,

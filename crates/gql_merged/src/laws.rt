@@ -22,7 +22,7 @@ pub fn members_are_merged<V>()
     ensures { MembersAreMerged V }
 {}
 
-/// A completed answer, taken apart and put together of the places of the tasks beneath it, is what
+/// A completed answer, taken apart and put together of the places of the tasks under it, is what
 /// merged execution says (section 6.4.3).
 pub fn trees_are_merged<V>()
     ensures { TreesAreMerged V }

@@ -1,6 +1,6 @@
 //! Execution, part by part (GraphQL, October 2021, sections 6.3 and 6.4): the fields that an object
 //! has in a set, collected and put into groups under their keys, with what each asks; what an
-//! answer comes to by its type; and places that are put together of those beneath; the plan that
+//! answer comes to by its type; and places that are put together of those under; the plan that
 //! runs the parts as tasks; and the whole execution of a query or a mutation: merged, where each
 //! key of a set is one task, or apart, where each occurrence of a field is one.
 #![tactic(auto)]

@@ -24,7 +24,7 @@ use gql_resolve::FieldValue;
 use std::alloc::Global;
 use std::rc::Rc;
 
-/// What the objects of a name share in a list beneath a field.
+/// What the objects of a name share in a list under a field.
 fn shared_by<'a, V>(
     alloc: Global,
     held: &Held<'a, V>,
@@ -41,7 +41,7 @@ fn shared_by<'a, V>(
     Ok(Shared { level, steps })
 }
 
-/// The objects of a name that a result is a list of, each with its tasks behind the others.
+/// The objects of a name that a result is a list of, each with its tasks after the others.
 pub(crate) fn place_list<'a, V: Drop>(
     alloc: Global,
     held: &Held<'a, V>,

@@ -38,7 +38,7 @@ use std::sync::ledger::Ledger;
 /// What is kept of the place of the whole response of a mutation, and the number of its root keys
 /// that asked an answer: whoever goes on from there can tell which effects stand. Each root key,
 /// merged over its occurrences, is answered alone, with its effect on the world, and then all
-/// beneath it in the world that it leaves, where each group of occurrences is one task; the next
+/// under it in the world that it leaves, where each group of occurrences is one task; the next
 /// one goes on from there, also after a failure. Want of memory tells how many root keys have their
 /// effect.
 pub fn run_mutation_grouped<R: ResolverSet, H: Rounds, P: Turns, S: Ledger>(

@@ -113,7 +113,7 @@ fn write_steps(alloc: Global, steps: &[Step<'_>], path: &mut Vec<PathSegment>) -
     Ok(())
 }
 
-/// Writes a step at a place of a path, with nothing behind it.
+/// Writes a step at a place of a path, with nothing after it.
 #[tactic(auto, using(crate::proofs::PathLemmas::written_last))]
 fn write_last(alloc: Global, path: &mut Vec<PathSegment>, place: usize, step: Step<'_>) -> Made<()>
     requires { place ≤ length path.old.items }
@@ -124,7 +124,7 @@ fn write_last(alloc: Global, path: &mut Vec<PathSegment>, place: usize, step: St
     write_step(alloc, path, place, step)
 }
 
-/// Writes a step at a place of a path, over what stands there, or behind all.
+/// Writes a step at a place of a path, over what stands there, or after all.
 #[tactic(auto, using(crate::proofs::PathLemmas::written_over))]
 fn write_step(alloc: Global, path: &mut Vec<PathSegment>, place: usize, step: Step<'_>) -> Made<()>
     requires { place ≤ length path.old.items }

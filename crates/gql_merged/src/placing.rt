@@ -25,7 +25,7 @@ use gql_place::Shape;
 use gql_resolve::FieldValue;
 use std::alloc::Global;
 
-/// What a result comes to at a type, without its objects, and these, each with its tasks behind the
+/// What a result comes to at a type, without its objects, and these, each with its tasks after the
 /// others. A list of objects of one name, which most with many objects are, needs no completion.
 pub(crate) fn place_answer<'a, V: Drop>(
     alloc: Global,

@@ -18,7 +18,7 @@ use gql_base::{Made, Name, Pairs};
 use std::alloc::Global;
 use std::rc::Rc;
 
-/// Objects that were found beneath a field, each with its fields, and their tasks behind the
+/// Objects that were found under a field, each with its fields, and their tasks after the
 /// others.
 #[tactic(auto, using(crate::proofs::BeneathLemmas::none_beneath, crate::proofs::BeneathLemmas::parents_more, crate::proofs::BeneathLemmas::placed_more))]
 pub(crate) fn place_found<'a, V: Drop>(
@@ -76,7 +76,7 @@ fn parent_of<'a, V: Drop>(
     Ok(parent)
 }
 
-/// The fields of the objects of a name beneath a field, which are made once.
+/// The fields of the objects of a name under a field, which are made once.
 #[tactic(auto, using(crate::proofs::BeneathLemmas::known_beneath))]
 fn level_beneath<'a>(
     alloc: Global,
@@ -122,7 +122,7 @@ fn add_level<'a>(
     Ok(level)
 }
 
-/// The fields of the objects of a name beneath a field.
+/// The fields of the objects of a name under a field.
 pub(crate) fn make_level<'a>(alloc: Global, node: &Node<'a>, object: &str) -> Made<Level<'a>>
     ensures { IfOk result (λ level. IsBeneath node.entry.now object.now level) }
 {

@@ -67,7 +67,7 @@ impl<'a, V: Drop> TreePlan<'a, V> {
         }
     }
 
-    /// Begins the phase of a root key of a mutation: its task stands behind all others, of which
+    /// Begins the phase of a root key of a mutation: its task stands after all others, of which
     /// nothing is kept.
     pub(crate) fn begin(&mut self, task: Task<'a, V>) -> Made<()>
         requires { self.old.kept.items ≡ [] }
@@ -112,7 +112,7 @@ impl<'a, V: Drop> TreePlan<'a, V> {
         Ok(())
     }
 
-    /// Keeps what a task was given, with the tasks beneath it.
+    /// Keeps what a task was given, with the tasks under it.
     fn complete_given(&mut self, alloc: Global, number: usize, given: Given<V>) -> Made<usize>
         requires { number < length (jobs_in self.old.tasks.items) }
         ensures { IfOk result (λ count. HasKept self.old self.new number given count) }

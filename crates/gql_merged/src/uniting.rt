@@ -24,7 +24,7 @@ pub(crate) fn item_for(alloc: Global, group: &Group<'_>) -> Made<Option<Field>>
     Ok(Some(item))
 }
 
-/// A first occurrence with the selections of others behind its own.
+/// A first occurrence with the selections of others after its own.
 #[tactic(auto, using(crate::proofs::UnitingLemmas::item_more))]
 fn united_item(alloc: Global, first: &Positioned<Field>, more: &[&Positioned<Field>]) -> Made<Field>
     ensures { IfOk result (λ item. item ≡ (with_others first.now (all_behind more.now)).node) }

@@ -183,7 +183,7 @@ module _ (fragments : Fragments) (covers : List ℕ → List ℕ → Bool) (bene
     conflicts_none zero (suc n) object = refl
     conflicts_none (suc levels) (suc n) object = refl
 
-    -- what is told of a field and beneath it, where so many levels are left
+    -- what is told of a field and under it, where so many levels are left
     abbrev tells : (levels left : ℕ) → List ℕ → List (Positioned Field) → List ℕ × Positioned Field → List E
     tells levels left object fs m =
         first_differing (reading_in levels) told m fs

@@ -21,7 +21,7 @@ module _ {O F X : Type 0} (reading : Reading O F X) (is : IsReading reading) whe
   keyed-append [] gs = refl
   keyed-append (f ∷ fs) gs = ap (λ ps. (reading.key f, f) ∷ ps) (keyed-append fs gs)
 
-  -- two fields fit at a level: they ask the same, and beneath both all agrees
+  -- two fields fit at a level: they ask the same, and under both all agrees
   pub record Fit (n : ℕ) (o : O) (f g : F) : Type 0 where
     pub alike : reading.alike f g ≡ true
     pub beneath : (inner : O) → Contains (reading.objects o f) inner → Agree reading n inner (reading.set f ++ reading.set g) (reading.set f ++ reading.set g)
@@ -114,7 +114,7 @@ module _ {O F X : Type 0} (reading : Reading O F X) (is : IsReading reading) whe
 
 module _ {O P F X Pl : Type 0} (placing : Placing O P F X Pl) (is : IsReading placing.reading) (join : Pl → Pl → Pl)
     (law : IsPlacing placing join) where
-  -- the place of a field, and what is beneath it merged
+  -- the place of a field, and what is under it merged
   place_at : ℕ → O → P → F → Pl
   place_at n o p f = placing.place o p f (λ inner parent. grouped placing n inner parent (placing.reading.set f))
 

@@ -47,7 +47,7 @@ module _ (setting : Setting) (object : List ℕ) (n : ℕ) where
           subst (λ xs. first_in (λ selection. option_and_then (deep_from setting.fragments m) (set_beneath setting.fragments selection)) xs ≡ None) (sym (set_of_both f g))
           (none_both _ (own_selections f) (own_selections g) h k)
 
-  -- what nests beneath a set nests within as many levels
+  -- what nests under a set nests within as many levels
   beneath_nests : (m : ℕ) (set : Positioned SelectionSet) (selection : Positioned Selection) (inner : Positioned SelectionSet)
       → deep_from setting.fragments m set ≡ None → Contains (selections_of set) selection → set_beneath setting.fragments selection ≡ Some inner
       → deep_from setting.fragments m inner ≡ None

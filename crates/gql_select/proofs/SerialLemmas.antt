@@ -1,4 +1,4 @@
--- Mutations: what is beneath the root keys may be answered apart or once.
+-- Mutations: what is under the root keys may be answered apart or once.
 use Rattle.std.proofs.Common.{◌≡◌, ℕ, suc, true, List, [], ◌∷◌, refl, sym, subst}
 use Rattle.std.specs.List.{Contains, AllByRecursion}
 use Rattle.std.specs.Str.{bytes_eq}
@@ -9,7 +9,7 @@ use Rattle.gql_select.proofs.UnitingLemmas.{each_united}
 use Rattle.gql_select.proofs.MergeLemmas.{Fit, fit_left, among_in, first_in, later_in, respond_grouped}
 
 module _ {O F X : Type 0} (reading : Reading O F X) (is : IsReading reading) (n : ℕ) (o : O) where
-  -- beneath a field all agrees
+  -- under a field all agrees
   abbrev pub AgreesBeneath : F → Type 0
   AgreesBeneath f = (inner : O) → Contains (reading.objects o f) inner → Agree reading n inner (reading.set f) (reading.set f)
 
@@ -25,7 +25,7 @@ module _ {O F X : Type 0} (reading : Reading O F X) (is : IsReading reading) (n 
       λ inner at. subst (λ xs. Agree reading n inner xs xs) (sym (is.set_of_both p.1 q.1))
       (fit.beneath inner (subst (λ os. Contains os inner) (is.objects_of_both o p.1 q.1) at))
 
-  -- beneath the merged fields of a set that agrees with itself all agrees
+  -- under the merged fields of a set that agrees with itself all agrees
   pub merged_agree : (set : List X) → Agree reading (suc n) o set set → AllByRecursion (λ p. AgreesBeneath p.1) (merged reading (reading.fields o set))
   merged_agree set agree =
       let fs : List F = reading.fields o set in

@@ -20,7 +20,7 @@ pub record Setting : Type 0 where
   pub levels : ℕ
   -- whether a condition on a type (the first name) lets an object type (the second) in
   pub covers : List ℕ → List ℕ → Bool
-  -- the object types that are possible beneath the field of a name (the second) on an object type
+  -- the object types that are possible under the field of a name (the second) on an object type
   -- (the first)
   pub beneath : List ℕ → List ℕ → List (List ℕ)
 

@@ -7,7 +7,7 @@ use Rattle.gql_base.specs.Pairs.{unite_all}
 use Rattle.gql_select.specs.Reading.{Reading, keyed}
 
 module _ {O F X : Type 0} (reading : Reading O F X) where
-  -- two sets agree on an object: of one key there is one field, and beneath it the sets agree on
+  -- two sets agree on an object: of one key there is one field, and under it the sets agree on
   -- each object that is possible there
   abbrev pub Agree : ℕ → O → List X → List X → Type 0
   Agree zero o one other = Unit {0}
@@ -33,7 +33,7 @@ module _ {O F X : Type 0} (reading : Reading O F X) where
         if bytes_eq (reading.key f) m.0 && not (reading.alike m.1 f)
         then told f ∷ [] else first_differing m fs
 
-    -- what is told of each key of a set that has unlike occurrences, and of the sets beneath, on
+    -- what is told of each key of a set that has unlike occurrences, and of the sets under, on
     -- each object that is possible there
     abbrev pub conflicts : ℕ → O → List X → List E
     conflicts zero o set = []

@@ -22,12 +22,12 @@ with_selections field selections =
           };
     })
 
--- the first of two occurrences, with the second's selections behind its own
+-- the first of two occurrences, with the second's selections after its own
 abbrev pub both : Positioned Field → Positioned Field → Positioned Field
 both f g =
     record { pos = f.pos; node = with_selections f.node (own_selections f ++ own_selections g) }
 
--- an occurrence with the selections of others behind its own
+-- an occurrence with the selections of others after its own
 abbrev pub with_others : Positioned Field → List (Positioned Field) → Positioned Field
 with_others field [] = field
 with_others field (other ∷ others) = with_others (both field other) others

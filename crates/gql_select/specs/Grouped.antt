@@ -6,12 +6,12 @@ use Rattle.std.specs.List.{Contains}
 use Rattle.gql_base.specs.Pairs.{unite_all}
 use Rattle.gql_select.specs.Reading.{Reading, over, keyed, merged}
 
--- what is beneath the objects of a place: the members of each, by its type and its value
+-- what is under the objects of a place: the members of each, by its type and its value
 abbrev pub Beneath : (O P Pl : Type 0) → Type 0
 Beneath O P Pl = O → P → List (List ℕ × Pl)
 
 -- how the fields of objects become places: how sets are read, and the place of a field on an
--- object, by what is beneath its own objects
+-- object, by what is under its own objects
 pub record Placing (O P F X Pl : Type 0) : Type 0 where
   pub reading : Reading O F X
   pub place : O → P → F → Beneath O P Pl → Pl
@@ -41,7 +41,7 @@ module _ {O P F X Pl : Type 0} (placing : Placing O P F X Pl) where
     abbrev pub respond : ℕ → O → P → List X → List (List ℕ × Pl)
     respond = respond_by (keyed placing.reading)
 
-    -- what is asked of the places of fields: they hang on what is beneath possible objects alone,
+    -- what is asked of the places of fields: they hang on what is under possible objects alone,
     -- and two that ask the same join as one
     pub record IsPlacing : Type 0 where
       pub same : (o : O) (p : P) (f : F) (b c : Beneath O P Pl)
@@ -55,7 +55,7 @@ module _ {O P F X Pl : Type 0} (placing : Placing O P F X Pl) where
           (λ inner parent. unite_all join (b inner parent) (c inner parent))
 
 -- the fields of a mutation's root, one after another (sections 6.2.2 and 6.3.1): each is answered
--- in the world that those before it left, and what is beneath it in the world that it leaves itself
+-- in the world that those before it left, and what is under it in the world that it leaves itself
 module _ {F Pl W : Type 0} (effect : W → F → W) (placed : W → W → F → Pl) where
   -- the places of the fields under their keys
   abbrev pub in_turn : W → List (List ℕ × F) → List (List ℕ × Pl)
@@ -63,12 +63,12 @@ module _ {F Pl W : Type 0} (effect : W → F → W) (placed : W → W → F → 
   in_turn world (m ∷ ms) =
       (m.0, placed world (effect world m.1) m.1) ∷ in_turn (effect world m.1) ms
 
--- the world behind the fields
+-- the world after the fields
 abbrev pub world_behind : {F W : Type 0} → (W → F → W) → W → List (List ℕ × F) → W
 world_behind effect world [] = world
 world_behind effect world (m ∷ ms) = world_behind effect (effect world m.1) ms
 
--- how a mutation is answered: its root keys by one function, what is beneath them by another, each
+-- how a mutation is answered: its root keys by one function, what is under them by another, each
 -- in a world, and what a root key does to the world
 pub record Mutating (O P F X Pl W : Type 0) : Type 0 where
   pub reading : Reading O F X
@@ -81,7 +81,7 @@ module _ {O P F X Pl W : Type 0} (mutating : Mutating O P F X Pl W) where
   abbrev pub at_root : W → Placing O P F X Pl
   at_root world = record { reading = mutating.reading; place = mutating.root world }
 
-  -- how fields beneath them do
+  -- how fields under them do
   abbrev pub below_root : W → Placing O P F X Pl
   below_root world = record { reading = mutating.reading; place = mutating.place world }
 

@@ -73,7 +73,7 @@ module _ (known : List ℕ → Value) where
       (out-InlineFragment fragment)
       { directives = others (out-InlineFragment fragment).directives })
 
-  -- a selection without the two directives, where it is kept; what stands beneath was looked at
+  -- a selection without the two directives, where it is kept; what stands under was looked at
   -- before
   abbrev pub selection_step : Selection-F (Option Selection) Field InlineFragment SelectionSet
       → Option Selection
@@ -124,13 +124,13 @@ module _ (known : List ℕ → Value) where
       → SelectionSet
   set_step set = roll-SelectionSet (record { items = filter_map if_kept set.items })
 
-  -- a selection with what is left beneath it, or none
+  -- a selection with what is left under it, or none
   abbrev pub kept_selection : Selection → Option Selection
   kept_selection =
       fold-Selection (Option Selection) Field InlineFragment SelectionSet selection_step field_step
       inline_step set_step
 
-  -- a field of which the set beneath is kept
+  -- a field of which the set under is kept
   abbrev pub kept_field : Field → Field
   kept_field =
       fold-Field (Option Selection) Field InlineFragment SelectionSet selection_step field_step

@@ -12,12 +12,12 @@ pub record Reading (O F X : Type 0) : Type 0 where
   pub key : F → List ℕ
   -- the set of an occurrence
   pub set : F → List X
-  -- the first of two occurrences, with the second's set behind its own: one field stands for all
+  -- the first of two occurrences, with the second's set after its own: one field stands for all
   -- occurrences of a key
   pub both : F → F → F
   -- whether two occurrences of one key ask the same
   pub alike : F → F → Bool
-  -- the objects that are possible beneath an occurrence on an object
+  -- the objects that are possible under an occurrence on an object
   pub objects : O → F → List O
 
 -- A set is read as its parts are. Of united occurrences the first one counts, with the sets of
