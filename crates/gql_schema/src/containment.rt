@@ -57,6 +57,7 @@ fn reaches_itself(alloc: Global, types: &Types, start: &str) -> Made<bool>
     'walk: while next < reached.len() {
         let name = Name::new(alloc, reached.at(next))?;
         add_needed(alloc, &mut reached, types.get(name.as_str()))?;
+        drop(name);
         next += 1;
     }
     Ok(reached.has(start))
