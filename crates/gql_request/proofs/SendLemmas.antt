@@ -243,7 +243,7 @@ pub batch_response_sync : IsSync batch_response.the_row
 batch_response_sync = search (response_sync, response_field_sync, items.the_sync, sendable) depth 20
 
 pub stream_poll_send : IsSend stream_poll.the_row
-stream_poll_send = search (response_send, response_field_send, server_error_send, items.the_send, sendable) depth 20
+stream_poll_send = search (response_field_send, server_error_send, items.the_send, sendable) depth 20
 
 pub stream_poll_sync : IsSync stream_poll.the_row
-stream_poll_sync = search (response_sync, response_field_sync, server_error_sync, items.the_sync, sendable) depth 20
+stream_poll_sync = search (response_field_sync, server_error_sync, items.the_sync, sendable) depth 20

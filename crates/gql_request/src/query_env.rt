@@ -93,6 +93,13 @@ impl QueryEnv {
         defined.get(name)
     }
 
+    /// A copy of the places of the definitions.
+    fn places(&self, alloc: Global) -> Made<Pairs<usize>>
+        ensures { IfOk result (λ places. places ≡ self.now.defined) }
+    {
+        definition_places(alloc, self.operation.node.variable_definitions.as_slice())
+    }
+
     /// How many levels of sets suffice for the operation and what it spreads.
     pub fn levels(&self) -> usize
         ensures levels { result ≡ levels_of self.now }
@@ -111,7 +118,7 @@ impl Copied for QueryEnv {
             fragments: self.fragments.try_clone(alloc)?,
             introspection_mode: self.introspection_mode,
             levels: self.levels,
-            defined: self.defined.try_clone(alloc)?,
+            defined: self.places(alloc)?,
         })
     }
 }
