@@ -59,7 +59,7 @@ fn of_layers<'a>() {
     shared::<Layers<'a>>();
 }
 
-fn of_resolver_context<'a, V: Sync>() {
+fn of_resolver_context<'a, V: Sync + 'a>() {
     shared::<ResolverContext<'a, V>>();
 }
 

@@ -5,4 +5,4 @@ use Rattle.gql_resolve.proofs.SendLemmas.{field_value_send}
 use Rattle.gql_resolve.proofs.shared.of_moved_value.Goals as goal
 
 pub moved-requires-send-T : goal.moved-requires-send-T
-moved-requires-send-T g c κs = param_send _ _ (arg_send _ no _ (field_value_send (param 0 g.row.V) c.type_bounds.send-V))
+moved-requires-send-T g c κs within = param_send _ _ (arg_send _ no _ (field_value_send (param 0 g.row.V) c.type_bounds.send-V))

@@ -5,7 +5,7 @@ use Rattle.gql_resolve.proofs.SendLemmas.{context_send, context_sync}
 use Rattle.gql_resolve.proofs.shared.of_resolver_context.Goals as goal
 
 pub shared-requires-send-T : goal.shared-requires-send-T
-shared-requires-send-T g c κs = param_send _ _ (arg_send _ no _ (context_send _ (param 0 g.row.V) c.type_bounds.sync-V))
+shared-requires-send-T g c κs within = param_send _ _ (arg_send _ no _ (context_send _ (param 0 g.row.V) c.type_bounds.sync-V))
 
 pub shared-requires-sync-T : goal.shared-requires-sync-T
-shared-requires-sync-T g c κs = param_sync _ _ (arg_sync _ no _ (context_sync _ (param 0 g.row.V) c.type_bounds.sync-V))
+shared-requires-sync-T g c κs within = param_sync _ _ (arg_sync _ no _ (context_sync _ (param 0 g.row.V) c.type_bounds.sync-V))
