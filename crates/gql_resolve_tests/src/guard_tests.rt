@@ -172,7 +172,7 @@ fn all_asked(alloc: Global, parts: &Parts) -> Made<Text> {
     let numbers = asked.get();
     let mut out = String::new(alloc);
     write!(out, "{numbers}")?;
-    Ok(Text::from_string(out))
+    Text::from_string(out)
 }
 
 #[test]
