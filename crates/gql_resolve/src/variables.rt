@@ -82,7 +82,6 @@ fn unknown_name<'a>(env: &QueryEnv, name: &'a str) -> Option<&'a str>
     }
 }
 
-#[tactic(auto, using(crate::proofs::VariableLemmas::found_any))]
 fn is_defined(env: &QueryEnv, name: &str) -> bool
     ensures { result ≡ defined env.now name.now }
 {
@@ -106,7 +105,7 @@ fn not_defined_message(alloc: Global, name: &str) -> Made<String>
 }
 
 /// A value of the document, with what its variables stand for (section 6.4.1). A variable that is
-/// neither given nor has a default is null. Only out of memory fails.
+/// neither given nor has a default is null. It fails only where memory runs out.
 #[cycle(resolve)]
 pub fn resolved_value(alloc: Global, env: &QueryEnv, value: &DocValue) -> Made<Value>
     ensures { IfOk result (λ made. made ≡ resolved (known_in env.now) value.now) }
