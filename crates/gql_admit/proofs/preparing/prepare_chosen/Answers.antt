@@ -5,8 +5,8 @@ use Rattle.gql_admit.specs.Prepared.{kept_operation}
 use Rattle.gql_admit.proofs.NestingLemmas.{nests_prepared}
 use Rattle.gql_admit.proofs.preparing.prepare_chosen.Goals as goal
 
-pub new-env-requires : goal.new-env-requires
-new-env-requires c =
+pub new-requires : goal.new-requires
+new-requires c =
     let chosen = c.args.chosen in
     let variables = c.in_ok-variables.variables in
     let definitions = chosen.operation.node.variable_definitions in
