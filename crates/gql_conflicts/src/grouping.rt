@@ -1,6 +1,6 @@
 //! Occurrences of fields in groups, one for each key.
 ghost use Rattle.std.specs.Prelude.{◌≡◌, [], ◌∷◌, ◌++◌, List, IfOk, OnOk, length};
-ghost use Rattle.gql_doc.specs.declared.document.Field.{Field as Asked};
+ghost use Rattle.gql_doc.specs.declared.document.Field.{Field as Occurrence};
 ghost use Rattle.gql_doc.specs.declared.document.Positioned.{Positioned as Placed};
 ghost use Rattle.gql_select.specs.Alike.{alike};
 ghost use Rattle.gql_select.specs.Collected.{Setting};
@@ -19,7 +19,7 @@ pub(crate) fn group_fields<'a>(
     alloc: Global,
     fields: &[&'a Positioned<Field>],
 ) -> Made<Vec<Group<'a>>>
-    ensures { (setting : Setting) (beneath : Placed Asked → List Told) → IfOk result (λ groups.
+    ensures { (setting : Setting) (beneath : Placed Occurrence → List Told) → IfOk result (λ groups.
         groups_tell beneath groups.items ≡ fields_tell setting beneath (all_behind fields.entry.now)) }
 {
     let mut keys = Pairs::new(alloc);
@@ -40,7 +40,7 @@ fn add_occurrence<'a>(
     field: &'a Positioned<Field>,
 ) -> Made<()>
     requires { length groups.old.items ≡ length keys.old }
-    ensures { OnOk result ((setting : Setting) (before : List (Placed Asked))
+    ensures { OnOk result ((setting : Setting) (before : List (Placed Occurrence))
         → AreGroups setting keys.old groups.old.items before
         → AreGroups setting keys.new groups.new.items (before ++ field.entry.now ∷ [])) }
 {

@@ -103,7 +103,8 @@ fn add_groups<'a>(
     Ok(())
 }
 
-/// Tells what a group tells: its first occurrence that doesn't ask the same, and what is under.
+/// Tells what a group tells: its first occurrence that doesn't ask the same, and what is under
+/// it.
 #[cycle(walk)]
 fn add_group<'a>(
     alloc: Global,
