@@ -5,4 +5,4 @@ use Rattle.gql_exec.proofs.SendLemmas.{dynamic_request_send}
 use Rattle.gql_exec.proofs.shared.of_moved_request.Goals as goal
 
 pub moved-requires-send-T : goal.moved-requires-send-T
-moved-requires-send-T g c κs = param_send _ _ (arg_send _ no _ (dynamic_request_send (param 0 g.row.V) c.type_bounds.send-V))
+moved-requires-send-T g c κs within = param_send _ _ (arg_send _ no _ (dynamic_request_send (param 0 g.row.V) c.type_bounds.send-V))
