@@ -37,7 +37,7 @@ returns-in_ok-push-in-None-clause-united c =
     let key : c.as_str-key.result.now ≡ key_text field = c.as_str-key.ensures ∙ ap (λ k. k.node) c.response_key.ensures in
     let none = sym (c.in-None.ensures.place ∙ ap (λ k. place_of k (names_of keys)) key) in
     let keys_are = c.in_ok-add_fresh-in-None.ensures.added ∙ ap (λ k. keys ++ (k, tt) ∷ []) (c.in_ok-try_clone-in-None.ensures ∙ ap (λ k. k.node) c.response_key.ensures) in
-    let group : Group = record { first = c.args.field; more = c.new-in-None.result } in
-    let alone : united group ≡ field = ap (λ others. with_others field (all_behind others)) c.new-in-None.ensures.items in
+    let group : Group = record { first = c.args.field; more = c.new.result } in
+    let alone : united group ≡ field = ap (λ others. with_others field (all_behind others)) c.new.ensures.items in
     (λ i. under_keys (keys_are i) (c.in_ok-push-in-None.ensures.items i))
     ∙ occurrence_fresh keys groups (key_text field) group field c.requires none alone
