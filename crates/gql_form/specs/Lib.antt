@@ -1,5 +1,6 @@
 pub mod AnswerForm
 pub mod Answered
+pub mod Asked
 pub mod BenchForm
 pub mod Delay
 pub mod EventForm

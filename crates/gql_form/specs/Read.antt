@@ -99,6 +99,12 @@ only names json = do
   members ← needed (as_object json)
   first_other names members
 
+-- a value, where an object has members of these names alone
+abbrev pub only_then : {A : Type 0} → List (List ℕ) → Data → A → Reading A
+only_then names json value = do
+  _ ← only names json
+  Ok value
+
 abbrev pub with_found : List ℕ → Option Data → List (List ℕ) → List (List ℕ)
 with_found name None others = others
 with_found name (Some json) others = name ∷ others

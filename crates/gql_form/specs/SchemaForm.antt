@@ -29,6 +29,11 @@ introspection_of json = do
       else (if bytes_eq word (codes "only") then Ok IntrospectionOnly
       else (if bytes_eq word (codes "disabled") then Ok Disabled else Err []))
 
+abbrev pub settings_words : List (List ℕ)
+settings_words =
+    codes "limitRecursiveDepth" ∷ codes "limitDirectives" ∷ codes "introspection"
+    ∷ codes "federation" ∷ codes "entities" ∷ []
+
 -- the limits of requests, and what the schema answers of itself
 abbrev pub settings_of : Data → Reading Settings
 settings_of json = do

@@ -1,5 +1,6 @@
 -- What a bench has for every command: its schema, and what runs over it start with.
-use Rattle.std.specs.Prelude.{ℕ, [], codes, Option, Some, None, Ok, Err, if◌then◌else◌}
+use Rattle.std.specs.Prelude.{ℕ, List, [], ◌∷◌, codes, Option, Some, None, Ok, Err}
+use Rattle.std.specs.Prelude.{if◌then◌else◌}
 use Rattle.std.specs.Option.{unwrap_or}
 use Rattle.std.specs.Str.{bytes_eq}
 use Rattle.serde_json.specs.Data.{Data}
@@ -24,6 +25,10 @@ hooks_of json = do
 abbrev pub null_or : Option Answered → Answered
 null_or None = answered.Value value.Null
 null_or (Some root) = root
+
+abbrev pub setup_words : List (List ℕ)
+setup_words =
+    codes "schema" ∷ codes "cells" ∷ codes "root" ∷ codes "turns" ∷ codes "hooks" ∷ []
 
 -- the members of a bench before the command's own, where it has so many cells
 abbrev pub setup_of : ℕ → Data → Reading SetupForm

@@ -1,8 +1,8 @@
 use crate::delay::{Delay, read_delay};
 use crate::fault::Fault;
 use crate::form::{Form, Reader};
-use crate::kit::{listed, only};
-use crate::rule_form::RuleForm;
+use crate::members::Members;
+use crate::rule_form::{RuleForm, read_rule};
 use gql_base::{Items, Text};
 use gql_request::HeaderOp;
 use serde_json::Value as Json;
@@ -23,19 +23,12 @@ impl Form for AnswerForm {
     ghost reading = { answer_of };
 
     fn read(reader: Reader, json: &Json) -> Result<AnswerForm, Fault> {
-        let delay = read_delay(reader, json)?;
-        let added = listed(reader, json, "added")?;
-        let headers = listed(reader, json, "headers")?;
-        let rule = RuleForm::read(reader, json)?;
-        only(
-            reader,
-            json,
-            &[
-                "delay", "added", "headers", "const", "none", "fail", "member", "arg", "sum",
-                "read", "bump",
-            ],
-        )?;
-        Ok(AnswerForm {
+        let mut members = Members::of(reader, json);
+        let delay = read_delay(&mut members)?;
+        let added = members.listed("added")?;
+        let headers = members.listed("headers")?;
+        let rule = read_rule(&mut members)?;
+        members.no_others(AnswerForm {
             delay,
             added,
             headers,

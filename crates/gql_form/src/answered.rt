@@ -10,7 +10,8 @@ ghost use Rattle.gql_form.specs.Faults.{IsRead};
 use crate::fault::Fault;
 use crate::form::{Form, Reader};
 use crate::kit::{bad, bad_member};
-use gql_base::{Boxed, EnumForm, Items, Name, Value, read_value};
+use crate::plain::value_in;
+use gql_base::{Boxed, EnumForm, Items, Name, Value};
 use serde_json::Value as Json;
 use std::collections::BTreeMap;
 
@@ -57,10 +58,7 @@ fn read_answered(reader: Reader, json: &Json) -> Result<Answered, Fault>
 fn read_plain(reader: Reader, json: &Json) -> Result<Answered, Fault>
     ensures { IsRead result (plain_of (view json.now)) }
 {
-    match read_value(reader.alloc, EnumForm::Plain, json)? {
-        Ok(value) => Ok(Answered::Value(value)),
-        Err(place) => Err(Fault::Bad(place)),
-    }
+    Ok(Answered::Value(value_in(reader, EnumForm::Plain, json)?))
 }
 
 /// Whether an object has a member that makes it special.
@@ -123,10 +121,7 @@ fn read_lone(reader: Reader, name: &str, json: &Json) -> Result<Answered, Fault>
 fn read_own(reader: Reader, json: &Json) -> Result<Answered, Fault>
     ensures { IsRead result (own_of (view json.now)) }
 {
-    match json.as_i64() {
-        Some(number) => Ok(Answered::Own(number)),
-        None => bad(reader),
-    }
+    Ok(Answered::Own(i64::read(reader, json)?))
 }
 
 fn read_enum(reader: Reader, json: &Json) -> Result<Answered, Fault>

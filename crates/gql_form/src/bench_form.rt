@@ -6,11 +6,11 @@ ghost use Rattle.gql_form.specs.Faults.{IsRead};
 
 use crate::command::Command;
 use crate::fault::Fault;
-use crate::form::{Form, Reader};
-use crate::kit::only;
+use crate::form::Reader;
+use crate::members::Members;
 use crate::place::place_text;
-use crate::setup_form::SetupForm;
-use crate::work_form::{WorkForm, own_word, read_work};
+use crate::setup_form::{SetupForm, read_setup};
+use crate::work_form::{WorkForm, read_work};
 use gql_base::{Made, Text};
 use serde_json::Value as Json;
 use std::alloc::{AllocError, Global};
@@ -51,13 +51,8 @@ fn count_cells(json: &Json) -> usize
 fn read_bench(reader: Reader, command: Command, json: &Json) -> Result<BenchForm, Fault>
     ensures { IsRead result (bench_of reader.cells command (view json.now)) }
 {
-    let setup = SetupForm::read(reader, json)?;
-    let work = read_work(reader, command, json)?;
-    let own = own_word(command);
-    only(
-        reader,
-        json,
-        &["schema", "cells", "root", "turns", "hooks", own],
-    )?;
-    Ok(BenchForm { setup, work })
+    let mut members = Members::of(reader, json);
+    let setup = read_setup(&mut members)?;
+    let work = read_work(&mut members, command)?;
+    members.no_others(BenchForm { setup, work })
 }

@@ -1,10 +1,11 @@
+ghost use Rattle.std.specs.Prelude.{◌≡◌, [], ◌∷◌, ◌++◌, codes, OnOk};
 ghost use Rattle.serde_json.specs.View.{view};
 ghost use Rattle.gql_form.specs.Faults.{IsRead};
 ghost use Rattle.gql_form.specs.Delay.{delay_in};
 
 use crate::fault::Fault;
 use crate::form::{Form, Reader};
-use crate::kit::optional;
+use crate::members::Members;
 use crate::plain::read_count_within;
 use serde_json::Value as Json;
 
@@ -31,10 +32,13 @@ impl Form for Delay {
 }
 
 /// The member `delay`, or no delay without one.
-pub(crate) fn read_delay(reader: Reader, json: &Json) -> Result<Delay, Fault>
-    ensures { IsRead result (delay_in (view json.now)) }
+pub(crate) fn read_delay(members: &mut Members) -> Result<Delay, Fault>
+    ensures read { IsRead result (delay_in (view members.old.json.now)) }
+    ensures asked { OnOk result (members.new.asked ≡ members.old.asked ++ codes "delay" ∷ []) }
+    ensures reader { members.new.reader ≡ members.old.reader }
+    ensures json { members.new.json ≡ members.old.json }
 {
-    match optional(reader, json, "delay")? {
+    match members.optional("delay")? {
         Some(delay) => Ok(delay),
         None => Ok(Delay { polls: 0 }),
     }

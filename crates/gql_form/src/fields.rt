@@ -3,8 +3,9 @@ use crate::answer_form::AnswerForm;
 use crate::event_form::EventForm;
 use crate::fault::Fault;
 use crate::form::{Form, Named, Reader};
-use crate::kit::{listed, member, only, optional};
-use gql_base::{EnumForm, Items, Name, TypeRef, Value, read_value};
+use crate::members::Members;
+use crate::plain::value_in;
+use gql_base::{EnumForm, Items, Name, TypeRef, Value};
 use serde_json::Value as Json;
 
 /// An argument of a field.
@@ -52,10 +53,7 @@ impl Form for Value {
     ghost reading = { λ cells. default_of };
 
     fn read(reader: Reader, json: &Json) -> Result<Value, Fault> {
-        match read_value(reader.alloc, EnumForm::Marked, json)? {
-            Ok(value) => Ok(value),
-            Err(place) => Err(Fault::Bad(place)),
-        }
+        value_in(reader, EnumForm::Marked, json)
     }
 }
 
@@ -65,11 +63,11 @@ impl Form for ArgumentForm {
     ghost reading = { λ cells. argument_of };
 
     fn read(reader: Reader, json: &Json) -> Result<ArgumentForm, Fault> {
-        let name = member(reader, json, "name")?;
-        let ty = member(reader, json, "type")?;
-        let default = optional(reader, json, "default")?;
-        only(reader, json, &["name", "type", "default"])?;
-        Ok(ArgumentForm { name, ty, default })
+        let mut members = Members::of(reader, json);
+        let name = members.needed("name")?;
+        let ty = members.needed("type")?;
+        let default = members.optional("default")?;
+        members.no_others(ArgumentForm { name, ty, default })
     }
 }
 
@@ -78,12 +76,11 @@ impl Named for FieldForm {
 
     ghost behind = { field_of };
 
-    fn read_behind(reader: Reader, json: &Json) -> Result<FieldForm, Fault> {
-        let ty = member(reader, json, "type")?;
-        let args = listed(reader, json, "args")?;
-        let answer = member(reader, json, "answer")?;
-        only(reader, json, &["name", "type", "args", "answer"])?;
-        Ok(FieldForm { ty, args, answer })
+    fn read_behind(mut members: Members) -> Result<FieldForm, Fault> {
+        let ty = members.needed("type")?;
+        let args = members.listed("args")?;
+        let answer = members.needed("answer")?;
+        members.no_others(FieldForm { ty, args, answer })
     }
 }
 
@@ -92,11 +89,10 @@ impl Named for InterfaceFieldForm {
 
     ghost behind = { λ cells. interface_field_of };
 
-    fn read_behind(reader: Reader, json: &Json) -> Result<InterfaceFieldForm, Fault> {
-        let ty = member(reader, json, "type")?;
-        let args = listed(reader, json, "args")?;
-        only(reader, json, &["name", "type", "args"])?;
-        Ok(InterfaceFieldForm { ty, args })
+    fn read_behind(mut members: Members) -> Result<InterfaceFieldForm, Fault> {
+        let ty = members.needed("type")?;
+        let args = members.listed("args")?;
+        members.no_others(InterfaceFieldForm { ty, args })
     }
 }
 
@@ -105,11 +101,10 @@ impl Named for InputFieldForm {
 
     ghost behind = { λ cells. input_field_of };
 
-    fn read_behind(reader: Reader, json: &Json) -> Result<InputFieldForm, Fault> {
-        let ty = member(reader, json, "type")?;
-        let default = optional(reader, json, "default")?;
-        only(reader, json, &["name", "type", "default"])?;
-        Ok(InputFieldForm { ty, default })
+    fn read_behind(mut members: Members) -> Result<InputFieldForm, Fault> {
+        let ty = members.needed("type")?;
+        let default = members.optional("default")?;
+        members.no_others(InputFieldForm { ty, default })
     }
 }
 
@@ -118,11 +113,10 @@ impl Named for SubscriptionFieldForm {
 
     ghost behind = { λ cells. subscription_field_of };
 
-    fn read_behind(reader: Reader, json: &Json) -> Result<SubscriptionFieldForm, Fault> {
-        let ty = member(reader, json, "type")?;
-        let args = listed(reader, json, "args")?;
-        let events = member(reader, json, "events")?;
-        only(reader, json, &["name", "type", "args", "events"])?;
-        Ok(SubscriptionFieldForm { ty, args, events })
+    fn read_behind(mut members: Members) -> Result<SubscriptionFieldForm, Fault> {
+        let ty = members.needed("type")?;
+        let args = members.listed("args")?;
+        let events = members.needed("events")?;
+        members.no_others(SubscriptionFieldForm { ty, args, events })
     }
 }

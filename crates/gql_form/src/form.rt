@@ -1,4 +1,5 @@
 use crate::fault::Fault;
+use crate::members::Members;
 use serde_json::Value as Json;
 use std::alloc::Global;
 
@@ -25,9 +26,9 @@ pub(crate) trait Form: Drop {
         ensures { IsRead result (reading reader.cells (view json.now)) };
 }
 
-/// A type that is read from an object, behind the object's member `name`.
+/// A type that is read from an object, after the object's member `name`.
 pub(crate) trait Named: Drop {
-    ghost use Rattle.std.specs.Prelude.{ℕ};
+    ghost use Rattle.std.specs.Prelude.{◌≡◌, ℕ, [], ◌∷◌, codes};
     ghost use Rattle.serde_json.specs.Data.{Data};
     ghost use Rattle.serde_json.specs.View.{view};
     ghost use Rattle.gql_base.specs.ReadJson.{Reading};
@@ -36,6 +37,7 @@ pub(crate) trait Named: Drop {
     /// What is read behind the name, where a bench has so many cells.
     ghost behind: { ℕ → Data → Reading Self };
 
-    fn read_behind(reader: Reader, json: &Json) -> Result<Self, Fault>
-        ensures { IsRead result (behind reader.cells (view json.now)) };
+    fn read_behind(members: Members) -> Result<Self, Fault>
+        requires { members.asked ≡ codes "name" ∷ [] }
+        ensures { IsRead result (behind members.entry.reader.cells (view members.entry.json.now)) };
 }

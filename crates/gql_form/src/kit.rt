@@ -6,12 +6,14 @@ ghost use Rattle.serde_json.specs.View.{view, items_view, members_view};
 ghost use Rattle.gql_base.specs.Pairs.{under};
 ghost use Rattle.gql_base.specs.declared.path_segment.PathSegment.TheVariants.{Field};
 ghost use Rattle.gql_form.specs.Faults.{IsRead, IsReadAs};
+ghost use Rattle.gql_form.specs.Plain.{needed};
 ghost use Rattle.gql_form.specs.Read.{there, perhaps, member, optional, items_behind, listed};
 ghost use Rattle.gql_form.specs.Read.{is_fresh, named_item, named_behind, first_other, only};
 ghost use Rattle.gql_form.specs.Read.{present, the_only, sole, long, nth};
 
 use crate::fault::Fault;
 use crate::form::{Form, Named, Reader};
+use crate::members::Members;
 use gql_base::{Items, JsonPlace, Name, Pairs};
 use serde_json::Value as Json;
 use std::collections::BTreeMap;
@@ -28,6 +30,16 @@ pub(crate) fn bad_member<T>(reader: Reader, name: &str) -> Result<T, Fault>
     ensures { IsRead result (Err (Field name.now ∷ [])) }
 {
     Err(Fault::Bad(JsonPlace::here(reader.alloc)).in_member(reader.alloc, name))
+}
+
+/// What has to be there.
+pub(crate) fn needed<T>(reader: Reader, found: Option<T>) -> Result<T, Fault>
+    ensures { IsRead result (needed found) }
+{
+    match found {
+        Some(found) => Ok(found),
+        None => bad(reader),
+    }
 }
 
 /// The member of this name, which has to be there.
@@ -150,11 +162,12 @@ fn read_named_item<T: Named>(
 ) -> Result<(Name, T), Fault>
     ensures { IsRead result (named_item (T.behind reader.cells) earlier.now (view json.now)) }
 {
-    let name: Name = member(reader, json, "name")?;
+    let mut members = Members::of(reader, json);
+    let name: Name = members.needed("name")?;
     if earlier.get(name.as_str()).is_some() {
         return bad_member(reader, "name");
     }
-    let value = T::read_behind(reader, json)?;
+    let value = T::read_behind(members)?;
     Ok((name, value))
 }
 

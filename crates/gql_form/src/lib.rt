@@ -12,6 +12,7 @@ mod fields;
 mod form;
 mod header;
 mod kit;
+mod members;
 mod path;
 mod place;
 mod plain;

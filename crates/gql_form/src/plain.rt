@@ -1,12 +1,14 @@
 //! Texts, names, numbers and truth values.
+ghost use Rattle.std.specs.Prelude.{◌≤◌, IfOk};
 ghost use Rattle.serde_json.specs.View.{view};
+ghost use Rattle.gql_base.specs.ReadJson.{read_in};
 ghost use Rattle.gql_form.specs.Faults.{IsRead};
 ghost use Rattle.gql_form.specs.Plain.{count_within};
 
 use crate::fault::Fault;
 use crate::form::{Form, Reader};
-use crate::kit::bad;
-use gql_base::{Name, Text, is_name};
+use crate::kit::{bad, needed};
+use gql_base::{EnumForm, Name, Text, Value, is_name, read_value};
 use serde_json::Value as Json;
 
 impl Form for Text {
@@ -42,10 +44,7 @@ impl Form for u64 {
     ghost reading = { λ cells. count_of };
 
     fn read(reader: Reader, json: &Json) -> Result<u64, Fault> {
-        match json.as_u64() {
-            Some(count) => Ok(count),
-            None => bad(reader),
-        }
+        needed(reader, json.as_u64())
     }
 }
 
@@ -56,10 +55,7 @@ impl Form for i64 {
     ghost reading = { λ cells. signed_of };
 
     fn read(reader: Reader, json: &Json) -> Result<i64, Fault> {
-        match json.as_i64() {
-            Some(number) => Ok(number),
-            None => bad(reader),
-        }
+        needed(reader, json.as_i64())
     }
 }
 
@@ -69,16 +65,24 @@ impl Form for bool {
     ghost reading = { λ cells. truth_of };
 
     fn read(reader: Reader, json: &Json) -> Result<bool, Fault> {
-        match json.as_bool() {
-            Some(truth) => Ok(truth),
-            None => bad(reader),
-        }
+        needed(reader, json.as_bool())
+    }
+}
+
+/// A value, in which enums stand in this form.
+pub(crate) fn value_in(reader: Reader, form: EnumForm, json: &Json) -> Result<Value, Fault>
+    ensures { IsRead result (read_in form (view json.now)) }
+{
+    match read_value(reader.alloc, form, json)? {
+        Ok(value) => Ok(value),
+        Err(place) => Err(Fault::Bad(place)),
     }
 }
 
 /// A whole number from 0 to a limit.
 pub(crate) fn read_count_within(reader: Reader, json: &Json, limit: u64) -> Result<u64, Fault>
-    ensures { IsRead result (count_within limit (view json.now)) }
+    ensures read { IsRead result (count_within limit (view json.now)) }
+    ensures within { IfOk result (λ count. count ≤ limit) }
 {
     let count = u64::read(reader, json)?;
     if count <= limit {

@@ -1,12 +1,16 @@
 //! The rules by which fields are answered.
+ghost use Rattle.std.specs.Prelude.{◌≡◌, OnOk};
 ghost use Rattle.serde_json.specs.View.{view};
+ghost use Rattle.gql_form.specs.Asked.{asked_after};
 ghost use Rattle.gql_form.specs.Faults.{IsRead};
 ghost use Rattle.gql_form.specs.RuleForm.{rule_under, asking_rule_of, cell_rule_of, rule_of};
+ghost use Rattle.gql_form.specs.RuleForm.{rule_words};
 
 use crate::answered::Answered;
 use crate::fault::Fault;
 use crate::form::{Form, Reader};
-use crate::kit::{bad, bad_member, member, sole};
+use crate::kit::{bad, bad_member};
+use crate::members::Members;
 use crate::path::Path;
 use gql_base::{Items, Name, Text};
 use serde_json::Value as Json;
@@ -53,60 +57,59 @@ impl Form for Cell {
     }
 }
 
-/// The one rule of an answer.
-impl Form for RuleForm {
-    ghost use Rattle.gql_form.specs.RuleForm.{rule_of};
-
-    ghost reading = { rule_of };
-
-    fn read(reader: Reader, json: &Json) -> Result<RuleForm, Fault> {
-        let word = sole(
-            reader,
-            json,
-            &[
-                "const", "none", "fail", "member", "arg", "sum", "read", "bump",
-            ],
-        )?;
-        read_rule(reader, json, word)
-    }
+/// The one rule among the members of an answer.
+pub(crate) fn read_rule(members: &mut Members) -> Result<RuleForm, Fault>
+    ensures read { IsRead result
+        (rule_of members.old.reader.cells (view members.old.json.now)) }
+    ensures asked { OnOk result (members.new.asked ≡ asked_after members.old.asked rule_words) }
+    ensures reader { members.new.reader ≡ members.old.reader }
+    ensures json { members.new.json ≡ members.old.json }
+{
+    let word = members.sole(&[
+        "const", "none", "fail", "member", "arg", "sum", "read", "bump",
+    ])?;
+    read_rule_under(members, word)
 }
 
 /// The rule under a word.
-fn read_rule(reader: Reader, json: &Json, word: &str) -> Result<RuleForm, Fault>
-    ensures { IsRead result (rule_under reader.cells word.now (view json.now)) }
+fn read_rule_under(members: &Members, word: &str) -> Result<RuleForm, Fault>
+    ensures { IsRead result
+        (rule_under members.now.reader.cells word.now (view members.now.json.now)) }
 {
     match word {
-        "const" => Ok(RuleForm::Const(member(reader, json, "const")?)),
+        "const" => Ok(RuleForm::Const(members.under("const")?)),
         "none" => {
-            if member(reader, json, "none")? {
+            if members.under("none")? {
                 Ok(RuleForm::None)
             } else {
-                bad_member(reader, "none")
+                bad_member(members.reader, "none")
             }
         }
-        "fail" => Ok(RuleForm::Fail(member(reader, json, "fail")?)),
-        _ => read_asking_rule(reader, json, word),
+        "fail" => Ok(RuleForm::Fail(members.under("fail")?)),
+        _ => read_asking_rule(members, word),
     }
 }
 
 /// A rule that reads the parent or the arguments.
-fn read_asking_rule(reader: Reader, json: &Json, word: &str) -> Result<RuleForm, Fault>
-    ensures { IsRead result (asking_rule_of reader.cells word.now (view json.now)) }
+fn read_asking_rule(members: &Members, word: &str) -> Result<RuleForm, Fault>
+    ensures { IsRead result
+        (asking_rule_of members.now.reader.cells word.now (view members.now.json.now)) }
 {
     match word {
-        "member" => Ok(RuleForm::Member(member(reader, json, "member")?)),
-        "arg" => Ok(RuleForm::Arg(member(reader, json, "arg")?)),
-        "sum" => Ok(RuleForm::Sum(member(reader, json, "sum")?)),
-        _ => read_cell_rule(reader, json, word),
+        "member" => Ok(RuleForm::Member(members.under("member")?)),
+        "arg" => Ok(RuleForm::Arg(members.under("arg")?)),
+        "sum" => Ok(RuleForm::Sum(members.under("sum")?)),
+        _ => read_cell_rule(members, word),
     }
 }
 
 /// A rule that reads a cell.
-fn read_cell_rule(reader: Reader, json: &Json, word: &str) -> Result<RuleForm, Fault>
-    ensures { IsRead result (cell_rule_of reader.cells word.now (view json.now)) }
+fn read_cell_rule(members: &Members, word: &str) -> Result<RuleForm, Fault>
+    ensures { IsRead result
+        (cell_rule_of members.now.reader.cells word.now (view members.now.json.now)) }
 {
     match word {
-        "read" => Ok(RuleForm::Read(member(reader, json, "read")?)),
-        _ => Ok(RuleForm::Bump(member(reader, json, "bump")?)),
+        "read" => Ok(RuleForm::Read(members.under("read")?)),
+        _ => Ok(RuleForm::Bump(members.under("bump")?)),
     }
 }

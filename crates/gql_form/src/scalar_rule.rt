@@ -5,7 +5,8 @@ ghost use Rattle.gql_form.specs.ScalarRule.{listed_texts, object_rule_of, word_r
 
 use crate::fault::Fault;
 use crate::form::{Form, Reader};
-use crate::kit::{bad, long, member, nth, only, sole};
+use crate::kit::{bad, long, nth};
+use crate::members::Members;
 use gql_base::{Items, Text};
 use gql_schema::{NameSet, ScalarRule};
 use serde_json::Value as Json;
@@ -61,22 +62,22 @@ fn read_word(reader: Reader, word: &str) -> Result<ScalarRule, Fault>
 fn read_object(reader: Reader, json: &Json) -> Result<ScalarRule, Fault>
     ensures { IsRead result (object_rule_of (view json.now)) }
 {
-    let rule = match sole(reader, json, &["between", "oneOf"])? {
+    let mut members = Members::of(reader, json);
+    let rule = match members.sole(&["between", "oneOf"])? {
         "between" => {
-            let ends: Between = member(reader, json, "between")?;
+            let ends: Between = members.under("between")?;
             ScalarRule::IntBetween(ends.low, ends.high)
         }
-        _ => ScalarRule::OneOf(read_texts(reader, json)?),
+        _ => ScalarRule::OneOf(read_texts(&members)?),
     };
-    only(reader, json, &["between", "oneOf"])?;
-    Ok(rule)
+    members.no_others(rule)
 }
 
 /// The texts that a scalar takes, each once.
-fn read_texts(reader: Reader, json: &Json) -> Result<NameSet, Fault>
-    ensures { IsRead result (listed_texts (view json.now)) }
+fn read_texts(members: &Members) -> Result<NameSet, Fault>
+    ensures { IsRead result (listed_texts (view members.now.json.now)) }
 {
-    let texts: Items<Text> = member(reader, json, "oneOf")?;
-    let set = NameSet::of_texts(reader.alloc, texts)?;
+    let texts: Items<Text> = members.under("oneOf")?;
+    let set = NameSet::of_texts(members.reader.alloc, texts)?;
     Ok(set)
 }

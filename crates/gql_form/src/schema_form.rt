@@ -1,6 +1,13 @@
+ghost use Rattle.std.specs.Prelude.{◌≡◌, OnOk};
+ghost use Rattle.serde_json.specs.View.{view};
+ghost use Rattle.gql_form.specs.Asked.{asked_after};
+ghost use Rattle.gql_form.specs.Faults.{IsRead};
+ghost use Rattle.gql_form.specs.SchemaForm.{settings_of, settings_words};
+
 use crate::fault::Fault;
 use crate::form::{Form, Reader};
-use crate::kit::{bad, member, only, optional};
+use crate::kit::bad;
+use crate::members::Members;
 use crate::plain::read_count_within;
 use crate::type_form::TypeForm;
 use gql_base::{Items, Text};
@@ -33,7 +40,7 @@ pub struct Settings {
 /// How many levels of sets a request may have.
 #[derive(Clone, Copy, PartialEq, Eq)]
 pub struct Depth {
-    pub levels: u64,
+    pub levels: u16,
 }
 
 impl Depth {
@@ -48,7 +55,9 @@ impl Form for Depth {
 
     fn read(reader: Reader, json: &Json) -> Result<Depth, Fault> {
         let levels = read_count_within(reader, json, Depth::DEEPEST)?;
-        Ok(Depth { levels })
+        Ok(Depth {
+            levels: levels as u16,
+        })
     }
 }
 
@@ -67,55 +76,19 @@ impl Form for IntrospectionMode {
     }
 }
 
-/// The settings among the members of a schema.
-impl Form for Settings {
-    ghost use Rattle.gql_form.specs.SchemaForm.{settings_of};
-
-    ghost reading = { λ cells. settings_of };
-
-    fn read(reader: Reader, json: &Json) -> Result<Settings, Fault> {
-        let depth = optional(reader, json, "limitRecursiveDepth")?;
-        let directives = optional(reader, json, "limitDirectives")?;
-        let introspection: Option<IntrospectionMode> = optional(reader, json, "introspection")?;
-        let federation: Option<bool> = optional(reader, json, "federation")?;
-        let entities: Option<bool> = optional(reader, json, "entities")?;
-        Ok(Settings {
-            depth,
-            directives,
-            introspection: introspection.unwrap_or(IntrospectionMode::Enabled),
-            federation: federation.unwrap_or(false),
-            entities: entities.unwrap_or(false),
-        })
-    }
-}
-
 impl Form for SchemaForm {
     ghost use Rattle.gql_form.specs.SchemaForm.{schema_of};
 
     ghost reading = { schema_of };
 
     fn read(reader: Reader, json: &Json) -> Result<SchemaForm, Fault> {
-        let query = member(reader, json, "query")?;
-        let mutation = optional(reader, json, "mutation")?;
-        let subscription = optional(reader, json, "subscription")?;
-        let types = member(reader, json, "types")?;
-        let settings = Settings::read(reader, json)?;
-        only(
-            reader,
-            json,
-            &[
-                "query",
-                "mutation",
-                "subscription",
-                "types",
-                "limitRecursiveDepth",
-                "limitDirectives",
-                "introspection",
-                "federation",
-                "entities",
-            ],
-        )?;
-        Ok(SchemaForm {
+        let mut members = Members::of(reader, json);
+        let query = members.needed("query")?;
+        let mutation = members.optional("mutation")?;
+        let subscription = members.optional("subscription")?;
+        let types = members.needed("types")?;
+        let settings = read_settings(&mut members)?;
+        members.no_others(SchemaForm {
             query,
             mutation,
             subscription,
@@ -123,4 +96,26 @@ impl Form for SchemaForm {
             settings,
         })
     }
+}
+
+/// The settings among the members of a schema.
+fn read_settings(members: &mut Members) -> Result<Settings, Fault>
+    ensures read { IsRead result (settings_of (view members.old.json.now)) }
+    ensures asked { OnOk result
+        (members.new.asked ≡ asked_after members.old.asked settings_words) }
+    ensures reader { members.new.reader ≡ members.old.reader }
+    ensures json { members.new.json ≡ members.old.json }
+{
+    let depth = members.optional("limitRecursiveDepth")?;
+    let directives = members.optional("limitDirectives")?;
+    let introspection: Option<IntrospectionMode> = members.optional("introspection")?;
+    let federation: Option<bool> = members.optional("federation")?;
+    let entities: Option<bool> = members.optional("entities")?;
+    Ok(Settings {
+        depth,
+        directives,
+        introspection: introspection.unwrap_or(IntrospectionMode::Enabled),
+        federation: federation.unwrap_or(false),
+        entities: entities.unwrap_or(false),
+    })
 }

@@ -1,6 +1,7 @@
 use crate::fault::Fault;
 use crate::form::{Form, Reader};
-use crate::kit::{bad, member, only, optional};
+use crate::kit::{bad, needed};
+use crate::members::Members;
 use gql_base::{Items, Text};
 use gql_protocols::Protocols;
 use serde_json::Value as Json;
@@ -33,10 +34,7 @@ impl Form for Protocols {
         let Some(text) = json.as_str() else {
             return bad(reader);
         };
-        match Protocols::from_str(text) {
-            Ok(protocol) => Ok(protocol),
-            Err(_) => bad(reader),
-        }
+        needed(reader, Protocols::from_str(text).ok())
     }
 }
 
@@ -46,10 +44,10 @@ impl Form for EntryForm {
     ghost reading = { λ cells. entry_of };
 
     fn read(reader: Reader, json: &Json) -> Result<EntryForm, Fault> {
-        let at = member(reader, json, "at")?;
-        let text = optional(reader, json, "text")?;
-        only(reader, json, &["at", "text"])?;
-        Ok(EntryForm { at, text })
+        let mut members = Members::of(reader, json);
+        let at = members.needed("at")?;
+        let text = members.optional("text")?;
+        members.no_others(EntryForm { at, text })
     }
 }
 
@@ -59,11 +57,11 @@ impl Form for SessionForm {
     ghost reading = { λ cells. session_of };
 
     fn read(reader: Reader, json: &Json) -> Result<SessionForm, Fault> {
-        let protocol = member(reader, json, "protocol")?;
-        let keepalive = optional(reader, json, "keepalive")?;
-        let script = member(reader, json, "script")?;
-        only(reader, json, &["protocol", "keepalive", "script"])?;
-        Ok(SessionForm {
+        let mut members = Members::of(reader, json);
+        let protocol = members.needed("protocol")?;
+        let keepalive = members.optional("keepalive")?;
+        let script = members.needed("script")?;
+        members.no_others(SessionForm {
             protocol,
             keepalive,
             script,

@@ -1,10 +1,14 @@
-ghost use Rattle.std.specs.Prelude.{◌≡◌};
-ghost use Rattle.gql_form.specs.SetupForm.{null_or};
+ghost use Rattle.std.specs.Prelude.{◌≡◌, OnOk};
+ghost use Rattle.serde_json.specs.View.{view};
+ghost use Rattle.gql_form.specs.Asked.{asked_after};
+ghost use Rattle.gql_form.specs.Faults.{IsRead};
+ghost use Rattle.gql_form.specs.SetupForm.{null_or, setup_of, setup_words};
 
 use crate::answered::Answered;
 use crate::fault::Fault;
 use crate::form::{Form, Reader};
-use crate::kit::{bad, listed, member, optional};
+use crate::kit::bad;
+use crate::members::Members;
 use crate::schema_form::SchemaForm;
 use gql_base::{Items, Value};
 use serde_json::Value as Json;
@@ -43,25 +47,25 @@ impl Form for HooksForm {
 }
 
 /// The members of a bench before the command's own.
-impl Form for SetupForm {
-    ghost use Rattle.gql_form.specs.SetupForm.{setup_of};
-
-    ghost reading = { setup_of };
-
-    fn read(reader: Reader, json: &Json) -> Result<SetupForm, Fault> {
-        let schema = member(reader, json, "schema")?;
-        let cells = listed(reader, json, "cells")?;
-        let root: Option<Answered> = optional(reader, json, "root")?;
-        let turns = listed(reader, json, "turns")?;
-        let hooks: Option<HooksForm> = optional(reader, json, "hooks")?;
-        Ok(SetupForm {
-            schema,
-            cells,
-            root: root_or_null(root),
-            turns,
-            hooks: hooks.unwrap_or(HooksForm::None),
-        })
-    }
+pub(crate) fn read_setup(members: &mut Members) -> Result<SetupForm, Fault>
+    ensures read { IsRead result
+        (setup_of members.old.reader.cells (view members.old.json.now)) }
+    ensures asked { OnOk result (members.new.asked ≡ asked_after members.old.asked setup_words) }
+    ensures reader { members.new.reader ≡ members.old.reader }
+    ensures json { members.new.json ≡ members.old.json }
+{
+    let schema = members.needed("schema")?;
+    let cells = members.listed("cells")?;
+    let root: Option<Answered> = members.optional("root")?;
+    let turns = members.listed("turns")?;
+    let hooks: Option<HooksForm> = members.optional("hooks")?;
+    Ok(SetupForm {
+        schema,
+        cells,
+        root: root_or_null(root),
+        turns,
+        hooks: hooks.unwrap_or(HooksForm::None),
+    })
 }
 
 /// The value of the object at the root, which is null if the bench says none.

@@ -1,12 +1,16 @@
 //! The types of a bench by their kinds.
+ghost use Rattle.std.specs.Prelude.{◌≡◌, [], ◌∷◌, codes};
 ghost use Rattle.serde_json.specs.View.{view};
 ghost use Rattle.gql_form.specs.Faults.{IsRead};
-ghost use Rattle.gql_form.specs.TypeForm.{type_of_kind, kind_in};
+ghost use Rattle.gql_form.specs.TypeForm.{type_of_kind, kind_in, object_of, interface_of};
+ghost use Rattle.gql_form.specs.TypeForm.{union_of, enum_type_of, input_of, scalar_of};
+ghost use Rattle.gql_form.specs.TypeForm.{subscription_of};
 
 use crate::fault::Fault;
 use crate::fields::{FieldForm, InputFieldForm, InterfaceFieldForm, SubscriptionFieldForm};
 use crate::form::{Form, Reader};
-use crate::kit::{bad, listed, member, only, optional};
+use crate::kit::bad;
+use crate::members::Members;
 use gql_base::{Items, Name, Pairs, Text};
 use gql_schema::ScalarRule;
 use serde_json::Value as Json;
@@ -116,129 +120,103 @@ impl Form for TypeForm {
     ghost reading = { type_of };
 
     fn read(reader: Reader, json: &Json) -> Result<TypeForm, Fault> {
-        let kind = member(reader, json, "kind")?;
-        read_of_kind(reader, kind, json)
+        let mut members = Members::of(reader, json);
+        let kind = members.needed("kind")?;
+        read_of_kind(kind, members)
     }
 }
 
 /// A type of this kind.
-fn read_of_kind(reader: Reader, kind: TypeKind, json: &Json) -> Result<TypeForm, Fault>
-    ensures { IsRead result (type_of_kind reader.cells kind (view json.now)) }
+fn read_of_kind(kind: TypeKind, members: Members) -> Result<TypeForm, Fault>
+    requires { members.asked ≡ codes "kind" ∷ [] }
+    ensures { IsRead result
+        (type_of_kind members.entry.reader.cells kind (view members.entry.json.now)) }
 {
     match kind {
-        TypeKind::Object => Ok(TypeForm::Object(ObjectForm::read(reader, json)?)),
-        TypeKind::Interface => Ok(TypeForm::Interface(InterfaceForm::read(reader, json)?)),
-        TypeKind::Union => Ok(TypeForm::Union(UnionForm::read(reader, json)?)),
-        TypeKind::Enum => Ok(TypeForm::Enum(EnumTypeForm::read(reader, json)?)),
-        TypeKind::Input => Ok(TypeForm::Input(InputForm::read(reader, json)?)),
-        TypeKind::Scalar => Ok(TypeForm::Scalar(ScalarForm::read(reader, json)?)),
-        TypeKind::Subscription => Ok(TypeForm::Subscription(SubscriptionForm::read(reader, json)?)),
+        TypeKind::Object => Ok(TypeForm::Object(read_object(members)?)),
+        TypeKind::Interface => Ok(TypeForm::Interface(read_interface(members)?)),
+        TypeKind::Union => Ok(TypeForm::Union(read_union(members)?)),
+        TypeKind::Enum => Ok(TypeForm::Enum(read_enum(members)?)),
+        TypeKind::Input => Ok(TypeForm::Input(read_input(members)?)),
+        TypeKind::Scalar => Ok(TypeForm::Scalar(read_scalar(members)?)),
+        TypeKind::Subscription => Ok(TypeForm::Subscription(read_subscription(members)?)),
     }
 }
 
-impl Form for ObjectForm {
-    ghost use Rattle.gql_form.specs.TypeForm.{object_of};
-
-    ghost reading = { object_of };
-
-    fn read(reader: Reader, json: &Json) -> Result<ObjectForm, Fault> {
-        let name = member(reader, json, "name")?;
-        let interfaces = listed(reader, json, "implements")?;
-        let key = optional(reader, json, "key")?;
-        let fields = member(reader, json, "fields")?;
-        only(
-            reader,
-            json,
-            &["kind", "name", "implements", "key", "fields"],
-        )?;
-        Ok(ObjectForm {
-            name,
-            interfaces,
-            key,
-            fields,
-        })
-    }
+fn read_object(mut members: Members) -> Result<ObjectForm, Fault>
+    requires { members.asked ≡ codes "kind" ∷ [] }
+    ensures { IsRead result (object_of members.entry.reader.cells (view members.entry.json.now)) }
+{
+    let name = members.needed("name")?;
+    let interfaces = members.listed("implements")?;
+    let key = members.optional("key")?;
+    let fields = members.needed("fields")?;
+    members.no_others(ObjectForm {
+        name,
+        interfaces,
+        key,
+        fields,
+    })
 }
 
-impl Form for InterfaceForm {
-    ghost use Rattle.gql_form.specs.TypeForm.{interface_of};
-
-    ghost reading = { λ cells. interface_of };
-
-    fn read(reader: Reader, json: &Json) -> Result<InterfaceForm, Fault> {
-        let name = member(reader, json, "name")?;
-        let fields = member(reader, json, "fields")?;
-        only(reader, json, &["kind", "name", "fields"])?;
-        Ok(InterfaceForm { name, fields })
-    }
+fn read_interface(mut members: Members) -> Result<InterfaceForm, Fault>
+    requires { members.asked ≡ codes "kind" ∷ [] }
+    ensures { IsRead result (interface_of (view members.entry.json.now)) }
+{
+    let name = members.needed("name")?;
+    let fields = members.needed("fields")?;
+    members.no_others(InterfaceForm { name, fields })
 }
 
-impl Form for UnionForm {
-    ghost use Rattle.gql_form.specs.TypeForm.{union_of};
-
-    ghost reading = { λ cells. union_of };
-
-    fn read(reader: Reader, json: &Json) -> Result<UnionForm, Fault> {
-        let name = member(reader, json, "name")?;
-        let members = member(reader, json, "members")?;
-        only(reader, json, &["kind", "name", "members"])?;
-        Ok(UnionForm { name, members })
-    }
+fn read_union(mut members: Members) -> Result<UnionForm, Fault>
+    requires { members.asked ≡ codes "kind" ∷ [] }
+    ensures { IsRead result (union_of (view members.entry.json.now)) }
+{
+    let name = members.needed("name")?;
+    let parts = members.needed("members")?;
+    members.no_others(UnionForm {
+        name,
+        members: parts,
+    })
 }
 
-impl Form for EnumTypeForm {
-    ghost use Rattle.gql_form.specs.TypeForm.{enum_type_of};
-
-    ghost reading = { λ cells. enum_type_of };
-
-    fn read(reader: Reader, json: &Json) -> Result<EnumTypeForm, Fault> {
-        let name = member(reader, json, "name")?;
-        let items = member(reader, json, "items")?;
-        only(reader, json, &["kind", "name", "items"])?;
-        Ok(EnumTypeForm { name, items })
-    }
+fn read_enum(mut members: Members) -> Result<EnumTypeForm, Fault>
+    requires { members.asked ≡ codes "kind" ∷ [] }
+    ensures { IsRead result (enum_type_of (view members.entry.json.now)) }
+{
+    let name = members.needed("name")?;
+    let items = members.needed("items")?;
+    members.no_others(EnumTypeForm { name, items })
 }
 
-impl Form for InputForm {
-    ghost use Rattle.gql_form.specs.TypeForm.{input_of};
-
-    ghost reading = { λ cells. input_of };
-
-    fn read(reader: Reader, json: &Json) -> Result<InputForm, Fault> {
-        let name = member(reader, json, "name")?;
-        let oneof: Option<bool> = optional(reader, json, "oneof")?;
-        let fields = member(reader, json, "fields")?;
-        only(reader, json, &["kind", "name", "oneof", "fields"])?;
-        Ok(InputForm {
-            name,
-            oneof: oneof.unwrap_or(false),
-            fields,
-        })
-    }
+fn read_input(mut members: Members) -> Result<InputForm, Fault>
+    requires { members.asked ≡ codes "kind" ∷ [] }
+    ensures { IsRead result (input_of (view members.entry.json.now)) }
+{
+    let name = members.needed("name")?;
+    let oneof: Option<bool> = members.optional("oneof")?;
+    let fields = members.needed("fields")?;
+    members.no_others(InputForm {
+        name,
+        oneof: oneof.unwrap_or(false),
+        fields,
+    })
 }
 
-impl Form for ScalarForm {
-    ghost use Rattle.gql_form.specs.TypeForm.{scalar_of};
-
-    ghost reading = { λ cells. scalar_of };
-
-    fn read(reader: Reader, json: &Json) -> Result<ScalarForm, Fault> {
-        let name = member(reader, json, "name")?;
-        let rule = optional(reader, json, "rule")?;
-        only(reader, json, &["kind", "name", "rule"])?;
-        Ok(ScalarForm { name, rule })
-    }
+fn read_scalar(mut members: Members) -> Result<ScalarForm, Fault>
+    requires { members.asked ≡ codes "kind" ∷ [] }
+    ensures { IsRead result (scalar_of (view members.entry.json.now)) }
+{
+    let name = members.needed("name")?;
+    let rule = members.optional("rule")?;
+    members.no_others(ScalarForm { name, rule })
 }
 
-impl Form for SubscriptionForm {
-    ghost use Rattle.gql_form.specs.TypeForm.{subscription_of};
-
-    ghost reading = { λ cells. subscription_of };
-
-    fn read(reader: Reader, json: &Json) -> Result<SubscriptionForm, Fault> {
-        let name = member(reader, json, "name")?;
-        let fields = member(reader, json, "fields")?;
-        only(reader, json, &["kind", "name", "fields"])?;
-        Ok(SubscriptionForm { name, fields })
-    }
+fn read_subscription(mut members: Members) -> Result<SubscriptionForm, Fault>
+    requires { members.asked ≡ codes "kind" ∷ [] }
+    ensures { IsRead result (subscription_of (view members.entry.json.now)) }
+{
+    let name = members.needed("name")?;
+    let fields = members.needed("fields")?;
+    members.no_others(SubscriptionForm { name, fields })
 }

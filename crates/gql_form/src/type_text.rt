@@ -4,7 +4,7 @@ ghost use Rattle.gql_form.specs.TypeText.{type_in};
 
 use crate::fault::Fault;
 use crate::form::{Form, Reader};
-use crate::kit::bad;
+use crate::kit::{bad, needed};
 use gql_base::{Made, TypeRef};
 use gql_doc::parse_type;
 use serde_json::Value as Json;
@@ -19,10 +19,7 @@ impl Form for TypeRef {
         let Some(text) = json.as_str() else {
             return bad(reader);
         };
-        match type_of_text(reader.alloc, text)? {
-            Some(ty) => Ok(ty),
-            None => bad(reader),
-        }
+        needed(reader, type_of_text(reader.alloc, text)?)
     }
 }
 
