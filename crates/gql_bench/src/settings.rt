@@ -12,7 +12,7 @@ use gql_base::{Made, Text};
 use gql_form::{Depth, SchemaForm, TypeForm};
 use gql_request::IntrospectionMode;
 use gql_settings::SchemaBuilder;
-use std::alloc::{AllocError, Global};
+use std::alloc::Global;
 
 /// How deep sets may lie in a schema that says nothing of it.
 const DEFAULT_DEPTH: usize = 32;
@@ -22,8 +22,8 @@ pub(crate) fn builder_with_settings(alloc: Global, schema: &SchemaForm) -> Made<
     ensures table { IfOk result (λ builder. table_of builder ≡ []) }
     ensures settings { IfOk result (λ builder. settings_of builder ≡ settings_in schema.now) }
 {
-    let depth = levels_of(schema.settings.depth)?;
-    let directives = limit_of(schema.settings.directives)?;
+    let depth = levels_of(schema.settings.depth);
+    let directives = limit_of(schema.settings.directives);
     let entities = entities_of(schema)?;
     let bare = SchemaBuilder::new(
         alloc,
@@ -47,41 +47,24 @@ fn text_of(text: &Option<Text>) -> Option<&str>
     }
 }
 
-/// How deep sets may lie. The end of `usize`, which no bench says, counts as want of memory.
-fn levels_of(depth: Option<Depth>) -> Made<usize>
-    ensures levels { IfOk result (λ levels. levels ≡ depth_in depth) }
-    ensures limited { IfOk result (λ levels. levels < MAX) }
+/// How deep sets may lie.
+fn levels_of(depth: Option<Depth>) -> usize
+    ensures levels { result ≡ depth_in depth }
+    ensures limited { result < MAX }
 {
     match depth {
-        Some(depth) => levels_within(depth.levels),
-        None => Ok(DEFAULT_DEPTH),
-    }
-}
-
-fn levels_within(levels: u64) -> Made<usize>
-    ensures levels { IfOk result (λ within. within ≡ levels) }
-    ensures limited { IfOk result (λ within. within < MAX) }
-{
-    let Ok(levels) = usize::try_from(levels) else {
-        return Err(AllocError);
-    };
-    if levels < usize::MAX {
-        Ok(levels)
-    } else {
-        Err(AllocError)
+        Some(depth) => depth.levels as usize,
+        None => DEFAULT_DEPTH,
     }
 }
 
 /// How many directives a field may have, where there is such a limit.
-fn limit_of(directives: Option<u64>) -> Made<Option<usize>>
-    ensures { IfOk result (λ limit. limit ≡ directives) }
+fn limit_of(directives: Option<u64>) -> Option<usize>
+    ensures { result ≡ directives }
 {
-    let Some(directives) = directives else {
-        return Ok(None);
-    };
-    match usize::try_from(directives) {
-        Ok(limit) => Ok(Some(limit)),
-        Err(_) => Err(AllocError),
+    match directives {
+        Some(directives) => Some(directives as usize),
+        None => None,
     }
 }
 
