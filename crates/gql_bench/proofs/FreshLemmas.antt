@@ -43,7 +43,7 @@ fresh-more fields n x (p ∷ ps) none (here, rest) =
       | false ↦ λ other h. (beside fields p.0 n x here (other-way p.0 n other), fresh-more fields n x ps h rest)
     ]) refl none
 
--- what is left goes behind the fields that stand, whose names are others
+-- what is left goes after the fields that stand, whose names are others
 pub record IsGoing {F T : Type 0} (made : ℕ → List ℕ → F → T) (start : ℕ) (all : List (List ℕ × F)) (fields : List (List ℕ × T)) (number : ℕ)
     (left : List (List ℕ × F)) : Type 0 where
   pub is : fields_behind made [] start all ≡ fields_behind made fields number left

@@ -35,7 +35,7 @@ abbrev pub cell_told : ℤ → Option ℤ → ℤ
 cell_told cell None = cell
 cell_told cell (Some total) = if is_i64 total then total else cell
 
--- the cell behind it
+-- the cell after it
 abbrev pub bumped : List (List ℕ × Value) → ℤ → ℤ
 bumped arguments cell = cell_told cell (raised arguments cell)
 
@@ -44,12 +44,12 @@ abbrev pub cells_bumped : ℕ → List (List ℕ × Value) → List ℤ → List
 cells_bumped place arguments cells =
     slice_set cells place (bumped arguments (get_or cells place (pos 0)))
 
--- the cells behind a call of `bump`: a root of a mutation raises its cell, others raise none
+-- the cells after a call of `bump`: a root of a mutation raises its cell, others raise none
 abbrev pub bump_effect : ℕ → Call ℤ → List ℤ → List ℤ
 bump_effect place call cells =
     if call.is_root then cells_bumped place call.arguments cells else cells
 
--- the cells behind a call by what its resolver answers
+-- the cells after a call by what its resolver answers
 abbrev pub kind_effect : RuleKind → Call ℤ → List ℤ → List ℤ
 kind_effect (kinds.Bump place) call cells = bump_effect place call cells
 kind_effect _ call cells = cells

@@ -13,7 +13,7 @@ use Rattle.gql_bench.specs.Outcome.{Outcome, plain_error}
 abbrev pub typename_in : Value → Option (List ℕ)
 typename_in value = option_and_then string_of (under (codes "__typename") (members_of_value value))
 
--- a representation with the name of its type, for the fields beneath
+-- a representation with the name of its type, for the fields under
 abbrev pub entity_named : Value → List ℕ → FieldValue ℤ
 entity_named value name = given.WithType (given.Value value) name
 
@@ -21,7 +21,7 @@ entity_named value name = given.WithType (given.Value value) name
 abbrev pub entity_in : Value → Option (FieldValue ℤ)
 entity_in value = option_map (entity_named value) (typename_in value)
 
--- representations behind earlier ones, where each has its type
+-- representations after earlier ones, where each has its type
 abbrev pub entities_behind : List (FieldValue ℤ) → List Value → Option (List (FieldValue ℤ))
 entities_behind earlier [] = Some earlier
 entities_behind earlier (value ∷ values) =

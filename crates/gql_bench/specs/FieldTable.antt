@@ -15,7 +15,7 @@ use Rattle.gql_schema.specs.declared.subscription_field.SubscriptionField.{Subsc
 abbrev pub argument_in : ArgumentForm → InputValue
 argument_in form = record { name = form.name; ty = form.ty; default = form.default }
 
--- arguments behind earlier ones, by their names; one of a name that is there takes its place
+-- arguments after earlier ones, by their names; one of a name that is there takes its place
 abbrev pub arguments_behind : List (List ℕ × InputValue) → List ArgumentForm
     → List (List ℕ × InputValue)
 arguments_behind earlier [] = earlier
@@ -46,7 +46,7 @@ abbrev pub event_field_in : ℕ → List ℕ → SubscriptionFieldForm → Subsc
 event_field_in number name form =
     record { name = name; ty = form.ty; source = number; arguments = arguments_behind [] form.args }
 
--- fields behind earlier ones, under their names, numbered from here on
+-- fields after earlier ones, under their names, numbered from here on
 abbrev pub fields_behind : {F T : Type 0} → (ℕ → List ℕ → F → T) → List (List ℕ × T) → ℕ
     → List (List ℕ × F) → List (List ℕ × T)
 fields_behind made earlier number [] = earlier

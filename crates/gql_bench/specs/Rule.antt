@@ -59,7 +59,7 @@ entity_rule = record { delay = 0; added = []; headers = []; kind = kinds.Entitie
 abbrev pub entity_rules : Bool → List Rule
 entity_rules set = if set then entity_rule ∷ [] else []
 
--- the rules of the resolvers of a schema: those of its types, and behind them the entity rule,
+-- the rules of the resolvers of a schema: those of its types, and after them the entity rule,
 -- where it is set
 abbrev pub schema_rules : SchemaForm → List Rule
 schema_rules schema = rules_of schema.types ++ entity_rules schema.settings.entities

@@ -9,7 +9,7 @@ use Rattle.gql_schema.specs.Types.{type_name}
 use Rattle.gql_bench.specs.declared.numbers.Numbers.{Numbers}
 use Rattle.gql_bench.specs.TypeTable.{type_in}
 
--- the next numbers behind a type
+-- the next numbers after a type
 abbrev pub after : Numbers → TypeForm → Numbers
 after numbers (forms.Object form) =
     record numbers { resolver = numbers.resolver + length form.fields }
@@ -17,7 +17,7 @@ after numbers (forms.Subscription form) =
     record numbers { source = numbers.source + length form.fields }
 after numbers _ = numbers
 
--- the next numbers behind types
+-- the next numbers after types
 abbrev pub after_all : Numbers → List TypeForm → Numbers
 after_all numbers [] = numbers
 after_all numbers (form ∷ forms) = after_all (after numbers form) forms

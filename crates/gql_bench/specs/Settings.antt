@@ -12,7 +12,7 @@ abbrev pub depth_in : Option Depth → ℕ
 depth_in None = default_depth
 depth_in (Some depth) = depth.levels
 
--- the number of the resolver of entities, where the entity rule is set: the one behind all others
+-- the number of the resolver of entities, where the entity rule is set: the one after all others
 abbrev pub entities_in : SchemaForm → Option ℕ
 entities_in schema =
     if schema.settings.entities then Some (after_all first_numbers schema.types).resolver else None

@@ -35,7 +35,7 @@ pub(crate) fn bump_of(alloc: Global, arguments: &Pairs<Value>, cell: i64) -> Mad
     told(alloc, total_of(arguments, cell))
 }
 
-/// The cell behind that. Where it would be no whole number of 64 bits with a sign, it stays.
+/// The cell after that. Where it would be no whole number of 64 bits with a sign, it stays.
 pub(crate) fn bumped(arguments: &Pairs<Value>, cell: i64) -> i64
     ensures { result ≡ bumped arguments.now cell }
 {

@@ -26,7 +26,7 @@ impl Numbers {
         }
     }
 
-    /// The next numbers behind a type.
+    /// The next numbers after a type.
     pub(crate) fn after(self, form: &TypeForm) -> Made<Numbers>
         ensures { IfOk result (λ numbers. numbers ≡ after self form.now) }
     {
@@ -49,7 +49,7 @@ impl Numbers {
     }
 }
 
-/// The number that stands so far behind another. A number beyond 32 bits counts as want of memory.
+/// The number that stands so far after another. A number beyond 32 bits counts as out of memory.
 pub(crate) fn number_behind(number: u32, count: usize) -> Made<u32>
     ensures { IfOk result (λ next. next ≡ number + count) }
 {

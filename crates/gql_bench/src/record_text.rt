@@ -1,4 +1,4 @@
-//! The lines that tell a record, and a text behind them.
+//! The lines that tell a record, and a text after them.
 ghost use Rattle.std.specs.Prelude.{◌≡◌, ◌++◌, IfOk, OnOk, string_bytes};
 ghost use Rattle.gql_bench.specs.RecordText.{entry_line, poll_word, record_lines};
 
@@ -6,7 +6,7 @@ use gql_base::{Made, Text};
 use gql_resolve::RecordEntry;
 use std::alloc::Global;
 
-/// The lines of a record, and this text behind them.
+/// The lines of a record, and this text after them.
 pub fn text_behind(alloc: Global, entries: &[RecordEntry], text: &Text) -> Made<Text>
     ensures { IfOk result (λ joined. joined ≡ record_lines entries.now ++ text.now) }
 {

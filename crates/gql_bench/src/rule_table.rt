@@ -21,7 +21,7 @@ impl RuleTable {
     ghost use Rattle.gql_bench.specs.Rule.{entity_rules, rules_in, rules_of};
     ghost use Rattle.gql_bench.specs.Rule.{sources_in, sources_of};
 
-    /// Those of these types, in the order of the bench. The entity rule stands behind all others,
+    /// Those of these types, in the order of the bench. The entity rule stands after all others,
     /// where it is set.
     pub(crate) fn of(alloc: Global, types: Items<TypeForm>, entities: bool) -> Made<RuleTable>
         ensures rules { IfOk result

@@ -80,7 +80,7 @@ fn entities_of(schema: &SchemaForm) -> Made<Option<u32>>
     }
 }
 
-/// The next numbers behind types.
+/// The next numbers after types.
 fn numbers_behind(forms: &[TypeForm]) -> Made<Numbers>
     ensures { IfOk result (λ numbers. numbers ≡ after_all first_numbers forms.now) }
 {

@@ -79,7 +79,7 @@ mutual
       let line : is_line_end c ≡ false = grind (arith, nat_tests) in
       rw passes (rw line (comment_skipped cs rest (next_place place c (cs ++ rest)) h))
 
--- nothing that is ignored stands behind what is ignored
+-- nothing that is ignored stands after what is ignored
 gap_stops : (b : Bool) (gap rest : List ℕ) → IsGap b gap rest → begins (goes_on false) rest ≡ false
 gap_stops false [] rest h = h
 gap_stops true [] [] h = refl

@@ -99,7 +99,7 @@ abbrev mutual
     Ok (answered.List parts)
   parts_of (object _) = Err []
 
-  -- behind the parts that were read before
+  -- after the parts that were read before
   pub parts_behind : List Answered → Items → Reading (List Answered)
   parts_behind earlier no_items = Ok earlier
   parts_behind earlier (item json items) = do

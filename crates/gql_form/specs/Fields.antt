@@ -27,7 +27,7 @@ argument_of json = do
   _ ← only (codes "name" ∷ codes "type" ∷ codes "default" ∷ []) json
   Ok (record { name = name; ty = ty; default = default })
 
--- a field of an object, behind its name
+-- a field of an object, after its name
 abbrev pub field_of : ℕ → Data → Reading FieldForm
 field_of cells json = do
   ty ← member (codes "type") type_ref_of json
@@ -36,7 +36,7 @@ field_of cells json = do
   _ ← only (codes "name" ∷ codes "type" ∷ codes "args" ∷ codes "answer" ∷ []) json
   Ok (record { ty = ty; args = args; answer = answer })
 
--- a field of an interface, behind its name
+-- a field of an interface, after its name
 abbrev pub interface_field_of : Data → Reading InterfaceFieldForm
 interface_field_of json = do
   ty ← member (codes "type") type_ref_of json
@@ -44,7 +44,7 @@ interface_field_of json = do
   _ ← only (codes "name" ∷ codes "type" ∷ codes "args" ∷ []) json
   Ok (record { ty = ty; args = args })
 
--- a field of an input object, behind its name
+-- a field of an input object, after its name
 abbrev pub input_field_of : Data → Reading InputFieldForm
 input_field_of json = do
   ty ← member (codes "type") type_ref_of json
@@ -52,7 +52,7 @@ input_field_of json = do
   _ ← only (codes "name" ∷ codes "type" ∷ codes "default" ∷ []) json
   Ok (record { ty = ty; default = default })
 
--- a field of the subscription, behind its name
+-- a field of the subscription, after its name
 abbrev pub subscription_field_of : Data → Reading SubscriptionFieldForm
 subscription_field_of json = do
   ty ← member (codes "type") type_ref_of json

@@ -14,7 +14,7 @@ abbrev pub first_step_text : PathSegment → List ℕ
 first_step_text (Field name) = name
 first_step_text (Index place) = index_text place
 
--- a step behind others
+-- a step after others
 abbrev pub step_text : PathSegment → List ℕ
 step_text (Field name) = codes "." ++ name
 step_text (Index place) = index_text place

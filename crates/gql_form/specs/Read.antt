@@ -36,7 +36,7 @@ optional name read json = do
   _ ← needed (as_object json)
   inside (Field name) (perhaps read (get name json))
 
--- the items of a list, behind those that were read before
+-- the items of a list, after those that were read before
 abbrev pub items_behind : {A : Type 0} → (Data → Reading A) → List A → Items → Reading (List A)
 items_behind read earlier no_items = Ok earlier
 items_behind read earlier (item json items) = do
@@ -73,7 +73,7 @@ named_item behind earlier json = do
   value ← behind json
   Ok (fresh, value)
 
--- the items of a list of named objects, behind those that were read before
+-- the items of a list of named objects, after those that were read before
 abbrev pub named_behind : {A : Type 0} → (Data → Reading A) → List (List ℕ × A) → Items
     → Reading (List (List ℕ × A))
 named_behind behind earlier no_items = Ok earlier

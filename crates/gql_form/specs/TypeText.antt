@@ -21,7 +21,7 @@ use Rattle.gql_form.specs.Plain.{needed, text_of, ◌>>=◌}
 abbrev pub token_at : Pos → Lexeme → Token
 token_at place lexeme = record { lexeme = lexeme; pos = place }
 
--- the tokens behind this one
+-- the tokens after this one
 abbrev pub behind : Token → Option (List Token) → Option (List Token)
 behind token tokens = option_map (λ others. token ∷ others) tokens
 

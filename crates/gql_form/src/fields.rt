@@ -16,7 +16,7 @@ pub struct ArgumentForm {
     pub default: Option<Value>,
 }
 
-/// A field of an object, behind its name.
+/// A field of an object, after its name.
 #[derive(Drop)]
 pub struct FieldForm {
     pub ty: TypeRef,
@@ -24,21 +24,21 @@ pub struct FieldForm {
     pub answer: AnswerForm,
 }
 
-/// A field of an interface, behind its name.
+/// A field of an interface, after its name.
 #[derive(Drop)]
 pub struct InterfaceFieldForm {
     pub ty: TypeRef,
     pub args: Items<ArgumentForm>,
 }
 
-/// A field of an input object, behind its name.
+/// A field of an input object, after its name.
 #[derive(Drop)]
 pub struct InputFieldForm {
     pub ty: TypeRef,
     pub default: Option<Value>,
 }
 
-/// A field of the subscription, behind its name.
+/// A field of the subscription, after its name.
 #[derive(Drop)]
 pub struct SubscriptionFieldForm {
     pub ty: TypeRef,

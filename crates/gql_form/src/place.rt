@@ -31,7 +31,7 @@ fn push_first_step(out: &mut String, step: PathSegment) -> Made<()>
     }
 }
 
-/// Appends the steps behind the first.
+/// Appends the steps after the first.
 fn push_steps(out: &mut String, place: JsonPlace) -> Made<()>
     ensures { OnOk result (string_bytes out.new ≡ string_bytes out.old ++ steps_text place) }
 {

@@ -27,11 +27,11 @@ returns c =
     let types : member (codes "types") (each (type_of c.args.reader.cells)) json ≡ Ok form.types = search rules in
     let settings : settings_of json ≡ Ok form.settings = search rules in
     let asked : c.read_settings.new.members.asked ≡ schema_words = c.in_ok-settings.ensures.asked
-        ∙ ap (λ names. asked_after names settings_words)
-        (also_asked _ c.in_ok-types.ensures.asked
-        (also_asked _ c.in_ok-subscription.ensures.asked
-        (also_asked _ c.in_ok-mutation.ensures.asked
-        (also_asked _ c.in_ok-query.ensures.asked c.of-members.ensures.asked)))) in
+    ∙ ap (λ names. asked_after names settings_words)
+    (also_asked _ c.in_ok-types.ensures.asked
+    (also_asked _ c.in_ok-subscription.ensures.asked
+    (also_asked _ c.in_ok-mutation.ensures.asked
+    (also_asked _ c.in_ok-query.ensures.asked c.of-members.ensures.asked)))) in
     let object : view c.read_settings.new.members.json.now ≡ json = search rules in
     schema_read c.args.reader.cells json form c.no_others.result query mutation subscription types settings
     (subst (λ names. IsRead c.no_others.result (only_then names json form)) asked
