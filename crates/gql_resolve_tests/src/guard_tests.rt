@@ -91,6 +91,7 @@ fn note(asked: &Cell<u64>, number: u64) {
 }
 
 /// A guard that writes down that it was asked, and passes or fails.
+#[derive(Drop)]
 struct Noted<'c> {
     asked: &'c Cell<u64>,
     number: u64,
