@@ -114,7 +114,7 @@ impl<'c> Guard<u64> for Noted<'c> {
 }
 
 /// The guard of this number.
-fn noted(asked: &Cell<u64>, number: u64, passes: bool) -> Noted<'_> {
+fn numbered(asked: &Cell<u64>, number: u64, passes: bool) -> Noted<'_> {
     Noted {
         asked,
         number,
@@ -129,7 +129,7 @@ fn ask_both(
     asked: &Cell<u64>,
     passes: bool,
 ) -> Made<()> {
-    let guard = noted(asked, 1, passes).and(noted(asked, 2, true));
+    let guard = numbered(asked, 1, passes).and(numbered(asked, 2, true));
     drop(guard.check(alloc, context)?);
     Ok(())
 }
@@ -141,7 +141,7 @@ fn ask_either(
     asked: &Cell<u64>,
     passes: bool,
 ) -> Made<()> {
-    let guard = noted(asked, 1, passes).or(noted(asked, 2, true));
+    let guard = numbered(asked, 1, passes).or(numbered(asked, 2, true));
     drop(guard.check(alloc, context)?);
     Ok(())
 }
