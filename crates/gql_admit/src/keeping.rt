@@ -1,20 +1,40 @@
 //! What `@skip` and `@include` leave of a set (section 6.3.2). What stays is moved and not copied.
 ghost use Rattle.std.specs.Prelude.{◌≡◌, ◌++◌, IfOk, OnOk};
 ghost use Rattle.std.specs.Option.{option_to_list};
+ghost use Rattle.gql_select.specs.Constants.{variable_value};
 ghost use Rattle.gql_select.specs.Kept.{kept, kept_set};
 ghost use Rattle.gql_admit.specs.Known.{known_by};
 ghost use Rattle.gql_admit.specs.Left.{left_field, left_inline, left_selection, left_set};
 ghost use Rattle.gql_admit.specs.Left.{left_spread};
 
 use crate::conditions::{Known, other_directives};
-use gql_base::{Items, Made, Pos};
-use gql_doc::{Field, FragmentSpread, InlineFragment, Positioned, Selection, SelectionSet};
+use gql_base::{Items, Made, Pos, Variables};
+use gql_doc::{
+    Field, FragmentSpread, InlineFragment, Positioned, Selection, SelectionSet, VariableDefinition,
+};
+use gql_request::definition_places;
 use std::alloc::Global;
 
 /// A set without the selections that `@skip` and `@include` leave out, at every depth, and without
 /// these directives on the others.
+pub fn keep(
+    alloc: Global,
+    set: SelectionSet,
+    definitions: &[Positioned<VariableDefinition>],
+    variables: &Variables,
+) -> Made<SelectionSet>
+    ensures { IfOk result (λ left. left
+        ≡ kept_set (variable_value variables.now definitions.now) set) }
+{
+    let places = definition_places(alloc, definitions)?;
+    let known = Known::new(definitions, &places, variables);
+    let left = keep_known(alloc, set, &known)?;
+    Ok(left)
+}
+
+/// The same by what the variables stand for.
 #[tactic(auto, using(crate::proofs::KeepLemmas::set_kept))]
-pub fn keep(alloc: Global, set: SelectionSet, known: &Known<'_>) -> Made<SelectionSet>
+pub(crate) fn keep_known(alloc: Global, set: SelectionSet, known: &Known<'_>) -> Made<SelectionSet>
     ensures { IfOk result (λ left. left ≡ kept_set (known_by known.now) set) }
 {
     let SelectionSet { items } = set;

@@ -21,7 +21,7 @@ use crate::chosen::Chosen;
 use crate::conditions::Known;
 use crate::depth::check_depth;
 use crate::directives::check_directives;
-use crate::keeping::keep;
+use crate::keeping::keep_known;
 use crate::operation::choose_operation;
 use crate::refusals::refuse;
 use crate::rules::check_rules;
@@ -268,7 +268,7 @@ fn keep_own_set(
 {
     let known = Known::new(definitions, places, variables);
     let Positioned { pos, node } = set;
-    let node = keep(alloc, node, &known)?;
+    let node = keep_known(alloc, node, &known)?;
     Ok(Positioned { pos, node })
 }
 
@@ -322,7 +322,7 @@ fn keep_fragment(
     } = node;
     let selection_set = Positioned {
         pos: selection_set.pos,
-        node: keep(alloc, selection_set.node, known)?,
+        node: keep_known(alloc, selection_set.node, known)?,
     };
     Ok(Positioned {
         pos,
