@@ -43,7 +43,7 @@ fn failed(alloc: Global, text: &str) -> Made<WsMessage>
     )?;
     push_quoted(&mut out, text)?;
     out.push_str("}}")?;
-    Ok(WsMessage::Text(Text::from_string(out)))
+    Ok(WsMessage::Text(Text::from_string(out)?))
 }
 
 /// What refuses a client.
@@ -75,7 +75,7 @@ pub(crate) fn taken_id(alloc: Global, id: &str) -> Made<WsMessage>
     let mut reason = String::from_str(alloc, "Subscriber for ")?;
     reason.push_str(id)?;
     reason.push_str(" already exists")?;
-    Ok(WsMessage::Close(4409, Text::from_string(reason)))
+    Ok(WsMessage::Close(4409, Text::from_string(reason)?))
 }
 
 /// A text that begins so, with an id, up to its payload.
@@ -104,7 +104,7 @@ pub(crate) fn data(alloc: Global, id: &str, response: &Response) -> Made<WsMessa
     ensures { IfOk result (λ message. message ≡ message_of (frame.Data id.now response.now)) }
 {
     let text = response_text(alloc, "{\"type\":\"data\",\"id\":", id, response)?;
-    Ok(WsMessage::Text(Text::from_string(text)))
+    Ok(WsMessage::Text(Text::from_string(text)?))
 }
 
 /// A response under an id by the newer protocol.
@@ -112,7 +112,7 @@ fn next(alloc: Global, id: &str, response: &Response) -> Made<WsMessage>
     ensures { IfOk result (λ message. message ≡ message_of (frame.Next id.now response.now)) }
 {
     let text = response_text(alloc, "{\"type\":\"next\",\"id\":", id, response)?;
-    Ok(WsMessage::Text(Text::from_string(text)))
+    Ok(WsMessage::Text(Text::from_string(text)?))
 }
 
 /// A response under an id.
@@ -147,7 +147,7 @@ pub(crate) fn error(alloc: Global, id: &str, errors: &[ServerError]) -> Made<WsM
     ensures { IfOk result (λ message. message ≡ message_of (frame.Error id.now errors.now)) }
 {
     let text = error_text(alloc, id, errors)?;
-    Ok(WsMessage::Text(Text::from_string(text)))
+    Ok(WsMessage::Text(Text::from_string(text)?))
 }
 
 /// That no more comes under an id.
@@ -157,7 +157,7 @@ pub(crate) fn complete(alloc: Global, id: &str) -> Made<WsMessage>
     let mut out = String::from_str(alloc, "{\"type\":\"complete\",\"id\":")?;
     push_quoted(&mut out, id)?;
     out.push('}')?;
-    Ok(WsMessage::Text(Text::from_string(out)))
+    Ok(WsMessage::Text(Text::from_string(out)?))
 }
 
 /// The answer to a ping.
@@ -176,5 +176,5 @@ fn pong_with(alloc: Global, payload: &Value) -> Made<WsMessage>
     let mut out = String::from_str(alloc, "{\"type\":\"pong\",\"payload\":")?;
     push_json(&mut out, payload)?;
     out.push('}')?;
-    Ok(WsMessage::Text(Text::from_string(out)))
+    Ok(WsMessage::Text(Text::from_string(out)?))
 }
