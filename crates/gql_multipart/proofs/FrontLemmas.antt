@@ -49,7 +49,7 @@ pub empty_of : (text : List ℕ) → length text ≡ 0 → text ≡ []
 empty_of [] h = refl
 empty_of (c ∷ cs) h = absurd (omega arith)
 
--- a token is read again, whatever no character of a token stands behind it
+-- a token is read again, whatever no character of a token stands after it
 pub token_again : (token rest : List ℕ) → IsToken token → begins is_token_character rest ≡ false →
     token_at (token ++ rest) ≡ Some (token, rest)
 token_again token rest is stop =
@@ -62,7 +62,7 @@ token_again token rest is stop =
     some : (length token == 0) ≡ false
     some = ne_eqb (length token) 0 (λ e. is.0 (empty_of token e))
 
--- behind blanks comes what begins with none
+-- after blanks comes what begins with none
 pub unspaced_again : (blanks rest : List ℕ) → AreBlanks blanks → begins is_blank rest ≡ false →
     unspaced (blanks ++ rest) ≡ rest
 unspaced_again blanks rest are stop =

@@ -18,7 +18,7 @@ use Rattle.gql_multipart.specs.Quoted.{closing, ends, said, string_at, unescaped
 use Rattle.gql_multipart.specs.Step.{◌>>=◌}
 use Rattle.gql_multipart.specs.Token.{behind, is_blank, is_token_character, token_at, unspaced}
 
--- where something is read behind another, the first was read
+-- where something is read after another, the first was read
 bind_ok : {A B : Type 0} (r : Option A) (f : A → Option B) (y : B) → (r >>= f) ≡ Some y →
     (x : A) × (r ≡ Some x) × (f x ≡ Some y)
 bind_ok None f y h = absurd (none-some y h)
@@ -30,7 +30,7 @@ pub map_ok : {A B : Type 0} (f : A → B) (r : Option A) (y : B) → option_map 
 map_ok f None y h = absurd (none-some y h)
 map_ok f (Some x) y h = (x, refl, same_Some (f x) y h)
 
--- a front and what is behind it
+-- a front and what is after it
 fronts : (p : ℕ → Bool) (text : List ℕ) → text ≡ take_while p text ++ drop (prefix_len p text) text
 fronts p text = sym (take-append-drop (prefix_len p text) text)
 
@@ -91,7 +91,7 @@ ends_behind c cs m no_quote no_backslash that =
     differs : (d : ℕ) → (c == d) ≡ false → c ≡ d → ⊥
     differs d h e = false≢true (sym h ∙ eq-eqb c d e)
 
--- a backslash and the character behind it more
+-- a backslash and the character after it more
 ends_behind_two : (c d : ℕ) (ds : List ℕ) (k : ℕ) → (c == 92) ≡ true → Ends ds k →
     Ends (c ∷ d ∷ ds) ((k + 1) + 1)
 ends_behind_two c d ds k backslash that =
@@ -105,7 +105,7 @@ ends_behind_two c d ds k backslash that =
     escaped =
         ap (λ b. cond b (unescaped true (d ∷ take k ds)) (c ∷ unescaped false (d ∷ take k ds))) backslash
 
--- behind a backslash and a character
+-- after a backslash and a character
 two_further : (c d : ℕ) (ds : List ℕ) (m : ℕ) → (c == 92) ≡ true →
     (k : ℕ) × (closing false ds ≡ Some k) × (k + 1 ≡ m) →
     ((k : ℕ) → closing false ds ≡ Some k → Ends ds k) → Ends (c ∷ d ∷ ds) (m + 1)
@@ -140,7 +140,7 @@ quoted_read (c ∷ d ∷ ds) n h =
     (λ m e found. two_further c d ds m e (map_ok (λ n. n + 1) (closing false ds) m found)
     (λ k last. quoted_read ds k last))
 
--- a text says this between quotes, and this is behind them
+-- a text says this between quotes, and this is after them
 abbrev SaysThen : List ℕ → List ℕ → List ℕ → Type 0
 SaysThen text value rest = (inner : List ℕ) × (text ≡ inner ++ (34 ∷ rest)) × IsQuoted inner value
 
@@ -184,7 +184,7 @@ value_read (c ∷ cs) value rest h = go (c == 34) refl h
     go true e found = quoted (eqb-true c 34 e) (string_read cs value rest found)
     go false e found = plain (token_read (c ∷ cs) value rest found)
 
--- a text begins with a parameter, and this is behind it
+-- a text begins with a parameter, and this is after it
 abbrev BeginsWith : List ℕ → Given → List ℕ → Type 0
 BeginsWith text p rest = (first : List ℕ) × (text ≡ first ++ rest) × IsParameter first p
 

@@ -34,7 +34,7 @@ end_then text e weight positive =
     zero_more : 0 ≡ weight * 0 + 0
     zero_more = omega arith
 
--- one digit, and then what is behind it
+-- one digit, and then what is after it
 pub first_digit : (text one : List ℕ) (a : ℕ) → DigitThen text a one →
     decimals 100 text ≡ option_map (λ n. 100 * a + n) (decimals 10 one)
 first_digit text one a h = h 100 (lit< tt)

@@ -15,7 +15,7 @@ use Rattle.gql_multipart.specs.Token.{behind, is_token_character, token_at, unsp
 abbrev further : Option ℕ → Option ℕ
 further o = option_map (λ n. n + 1) o
 
--- the quote behind a text between quotes is found, and what the text says
+-- the quote after a text between quotes is found, and what the text says
 quoted_again : (text value rest : List ℕ) → IsQuoted text value →
     (closing false (text ++ (34 ∷ rest)) ≡ Some (length text)) × (said text ≡ value)
 quoted_again text [] rest e =
@@ -111,7 +111,7 @@ parts_again before after name spelled value rest blanks more is spells stop =
     ∙ (ap (λ o. o >>= with_name) (front.token_again name (61 ∷ (spelled ++ rest)) is front.tokens_no_equals)
     ∙ ap (λ o. o >>= with_value name) (value_again spelled value rest spells stop)))
 
--- what stands behind a parameter stands behind its last part
+-- what stands after a parameter stands after its last part
 pub regrouped : (before after name spelled rest : List ℕ) →
     (before ++ (59 ∷ (after ++ (name ++ (61 ∷ spelled))))) ++ rest
     ≡ before ++ (59 ∷ (after ++ (name ++ (61 ∷ (spelled ++ rest)))))

@@ -25,7 +25,7 @@ best_offer accept = fold better None (offers accept)
 abbrev pub prefers_multipart : List ℕ → Bool
 prefers_multipart accept = option_map_or (λ offer. offer.is_multipart) (best_offer accept) false
 
--- an offer is one of these, more wanted than each before it and as much as each behind it
+-- an offer is one of these, more wanted than each before it and as much as each after it
 pub record IsBest (offers : List (Option Offer)) (best : Offer) : Type 0 where
   pub before : List (Option Offer)
   pub after : List (Option Offer)

@@ -13,7 +13,7 @@ IsToken text = (text ≢ []) × AllByRecursion (λ c. is_token_character c ≡ t
 abbrev pub AreBlanks : List ℕ → Type 0
 AreBlanks text = AllByRecursion (λ c. is_blank c ≡ true) text
 
--- a text between quotes says these characters, each plain or behind a backslash
+-- a text between quotes says these characters, each plain or after a backslash
 abbrev pub IsQuoted : List ℕ → List ℕ → Type 0
 IsQuoted text [] = text ≡ []
 IsQuoted text (c ∷ others) =
@@ -38,7 +38,7 @@ pub record IsParameter (text : List ℕ) (parameter : Given) : Type 0 where
   pub name : IsToken parameter.name
   pub value : IsValue spelled parameter.value
 
--- parameters, one behind another
+-- parameters, one after another
 abbrev pub AreParameters : List ℕ → List Given → Type 0
 AreParameters text [] = text ≡ []
 AreParameters text (parameter ∷ others) =

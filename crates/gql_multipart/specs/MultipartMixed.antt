@@ -16,6 +16,6 @@ part_head =
 abbrev pub part : List ℕ → List ℕ
 part json = part_head ++ (json ++ line_end)
 
--- what ends a body, behind its last part
+-- what ends a body, after its last part
 abbrev pub body_end : List ℕ
 body_end = codes "--graphql--" ++ line_end

@@ -8,7 +8,7 @@ use Rattle.gql_multipart.specs.Quoted.{value_at}
 use Rattle.gql_multipart.specs.Step.{◌>>=◌}
 use Rattle.gql_multipart.specs.Token.{behind, token_at, unspaced}
 
--- a name, and what the value behind it says
+-- a name, and what the value after it says
 pub record Given : Type 0 where
   pub name : List ℕ
   pub value : List ℕ

@@ -4,11 +4,11 @@ use Rattle.std.specs.Prelude.{Option, Some, None, take, drop, if◌then◌else�
 use Rattle.std.specs.Option.{option_map}
 use Rattle.gql_multipart.specs.Token.{token_at}
 
--- `"` ends a quoted string, but not behind a backslash that escapes it
+-- `"` ends a quoted string, but not after a backslash that escapes it
 abbrev pub ends : Bool → ℕ → Bool
 ends escaped c = not escaped && c == 34
 
--- `\` escapes the character behind it, and is itself plain where it's escaped
+-- `\` escapes the character after it, and is itself plain where it's escaped
 abbrev pub escapes : Bool → ℕ → Bool
 escapes escaped c = not escaped && c == 92
 
@@ -29,12 +29,12 @@ unescaped escaped (c ∷ cs) =
 abbrev pub said : List ℕ → List ℕ
 said text = unescaped false text
 
--- what a quoted string says, whose first quote stands before the text, and what is behind it
+-- what a quoted string says, whose first quote stands before the text, and what is after it
 abbrev pub string_at : List ℕ → Option (List ℕ × List ℕ)
 string_at text =
     option_map (λ end. (said (take end text), drop (end + 1) text)) (closing false text)
 
--- the value that a text begins with, a quoted string or a token, and what is behind it
+-- the value that a text begins with, a quoted string or a token, and what is after it
 abbrev pub value_at : List ℕ → Option (List ℕ × List ℕ)
 value_at [] = None
 value_at (c ∷ cs) = if c == 34 then string_at cs else token_at (c ∷ cs)

@@ -21,13 +21,13 @@ unspaced text = drop (prefix_len is_blank text) text
 abbrev pub trimmed : List ℕ → List ℕ
 trimmed text = let rest = unspaced text in take (length rest - suffix_len is_blank rest) rest
 
--- the token that a text begins with, as long as can be, and what is behind it
+-- the token that a text begins with, as long as can be, and what is after it
 abbrev pub token_at : List ℕ → Option (List ℕ × List ℕ)
 token_at text =
     let n = prefix_len is_token_character text in
     if n == 0 then None else Some (take n text, drop n text)
 
--- what is behind a character, where a text begins with it
+-- what is after a character, where a text begins with it
 abbrev pub behind : ℕ → List ℕ → Option (List ℕ)
 behind c [] = None
 behind c (d ∷ ds) = if d == c then Some ds else None

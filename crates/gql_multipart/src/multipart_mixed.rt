@@ -39,7 +39,7 @@ impl MultipartMixed {
         ended(out)
     }
 
-    /// What ends the body, behind the last part.
+    /// What ends the body, after the last part.
     pub fn end(self, alloc: Global) -> Made<Items<u8>>
         ensures { IfOk result (λ bytes. bytes ≡ body_end) }
     {

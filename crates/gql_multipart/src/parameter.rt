@@ -5,7 +5,7 @@ ghost use Rattle.gql_multipart.specs.Read.{given};
 use crate::quoted::value_at;
 use crate::token::{behind, token_at, unspaced};
 
-/// A parameter that was read: its name, its value with the backslashes in it, and what is behind
+/// A parameter that was read: its name, its value with the backslashes in it, and what is after
 /// it.
 #[derive(Clone, Copy, Debug)]
 pub struct Parameter<'a> {
@@ -14,7 +14,7 @@ pub struct Parameter<'a> {
     pub rest: &'a [u8],
 }
 
-/// The parameter that the text begins with, behind a semicolon.
+/// The parameter that the text begins with, after a semicolon.
 #[tactic(auto, unfolding(crate::specs::Parameter::parameter_at))]
 pub fn parameter_at(text: &[u8]) -> Option<Parameter<'_>>
     ensures value { MatchOption result (parameter_at text.now ≡ None)

@@ -17,7 +17,7 @@ fn whole(c: u8) -> Option<u16>
     }
 }
 
-/// The digit that a value says first, and what stands behind it. Nothing says a zero.
+/// The digit that a value says first, and what stands after it. Nothing says a zero.
 #[tactic(auto, using(crate::proofs::QualityLemmas::one_digit))]
 fn digit_at(value: &[u8]) -> Option<(u16, &[u8])>
     ensures value { MatchOption result ((weight : ℕ) → decimals weight (said value.now) ≡ None)

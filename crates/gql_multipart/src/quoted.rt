@@ -12,7 +12,7 @@ fn ends(escaped: bool, c: u8) -> bool
     !escaped && c == b'"'
 }
 
-/// True exactly for a backslash that escapes the character behind it.
+/// True exactly for a backslash that escapes the character after it.
 fn escapes(escaped: bool, c: u8) -> bool
     ensures { result ≡ escapes escaped c }
 {
@@ -35,7 +35,7 @@ fn closing(text: &[u8]) -> Option<usize>
     None
 }
 
-/// The quoted string whose first quote stands before the text, and what is behind it.
+/// The quoted string whose first quote stands before the text, and what is after it.
 fn string_at(text: &[u8]) -> Option<(&[u8], &[u8])>
     ensures value { MatchOption result (string_at text.now ≡ None)
         (λ found. string_at text.now ≡ Some (said found.0.now, found.1.now)) }
@@ -45,7 +45,7 @@ fn string_at(text: &[u8]) -> Option<(&[u8], &[u8])>
     Some((&text[..end], &text[end + 1..]))
 }
 
-/// The value that the text begins with, with the backslashes in it, and what is behind it.
+/// The value that the text begins with, with the backslashes in it, and what is after it.
 #[tactic(auto, using(crate::proofs::ReadingLemmas::token_value))]
 pub fn value_at(text: &[u8]) -> Option<(&[u8], &[u8])>
     ensures value { MatchOption result (value_at text.now ≡ None)
@@ -58,7 +58,7 @@ pub fn value_at(text: &[u8]) -> Option<(&[u8], &[u8])>
     }
 }
 
-/// The first character that a value says, and what stands behind it.
+/// The first character that a value says, and what stands after it.
 pub fn character_at(value: &[u8]) -> Option<(u8, &[u8])>
     ensures { MatchOption result (said value.now ≡ [])
         (λ found. said value.now ≡ found.0 ∷ said found.1.now) }
@@ -71,7 +71,7 @@ pub fn character_at(value: &[u8]) -> Option<(u8, &[u8])>
     Some((*c, more))
 }
 
-/// What stands behind a character, where the value says it first.
+/// What stands after a character, where the value says it first.
 #[tactic(auto, using(crate::proofs::ReadingLemmas::beginning))]
 fn past(value: &[u8], wanted: u8) -> Option<&[u8]>
     ensures { MatchOption result

@@ -59,7 +59,7 @@ pub fn trimmed(text: &[u8]) -> &[u8]
     &text[..text.len() - blanks_after(text)]
 }
 
-/// The token that the text begins with, and what is behind it.
+/// The token that the text begins with, and what is after it.
 #[tactic(auto, using(crate::proofs::FrontLemmas::front_within))]
 pub fn token_at(text: &[u8]) -> Option<(&[u8], &[u8])>
     ensures value { MatchOption result (token_at text.now ≡ None)
@@ -72,7 +72,7 @@ pub fn token_at(text: &[u8]) -> Option<(&[u8], &[u8])>
     }
 }
 
-/// What is behind a character, where the text begins with it.
+/// What is after a character, where the text begins with it.
 pub fn behind(text: &[u8], c: u8) -> Option<&[u8]>
     ensures value { option_copied result ≡ behind c text.now }
     ensures within { IfSome result (λ found. length found.now < length text.now) }

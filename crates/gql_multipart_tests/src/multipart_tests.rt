@@ -8,7 +8,7 @@ use std::test::Fail;
 /// What stands before the JSON text of a part.
 const HEAD: &[u8] = b"--graphql\r\nContent-Type: application/json\r\n\r\n";
 
-/// Whether bytes are the head of a part and these behind it.
+/// Whether bytes are the head of a part and these after it.
 fn is_part(bytes: &Items<u8>, behind: &[u8]) -> bool {
     match bytes.as_slice().strip_prefix(HEAD) {
         Some(rest) => rest == behind,

@@ -14,7 +14,7 @@ by_third text =
     if get_or text 11 0 == 109 then complete_message
     else (if get_or text 20 0 == 97 then acknowledgement else failure)
 
--- by the first letter of the type, behind `{"type":"`
+-- by the first letter of the type, after `{"type":"`
 abbrev by_first : List ℕ → Kind
 by_first text =
     if get_or text 9 0 == 100 then data_message

@@ -130,7 +130,7 @@ GivesMessage bytes given =
 abbrev pub GivesNotJson : List ℕ → Reading ClientMessage → Type 0
 GivesNotJson bytes given = (IsUtf8 bytes → read bytes ≡ None) → given ≡ Err fault.NotJson
 
--- that a reader answers what there is to read, unless memory is wanting
+-- that a reader answers what there is to read, unless memory runs out
 abbrev pub IsRead : {A : Type 0} → Result A Fault → Reading A → Type 0
 IsRead (Ok value) given = given ≡ Ok value
 IsRead (Err (Bad wrong)) given = given ≡ Err wrong

@@ -165,7 +165,7 @@ EverySessionIsSafe =
     (spoken : Protocols) → (connection : Held) → (events : List WsEvent)
     → Safe spoken events (steps_from (new_core spoken connection) events)
 
--- the moments of a list of events, behind those that are past, the latest first
+-- the moments of a list of events, after those that are past, the latest first
 abbrev pub past_after : List Moment → WsCore → List WsEvent → List Moment
 past_after past core [] = past
 past_after past core (now ∷ events) =

@@ -235,7 +235,7 @@ session_of core = session_at core core.stage
 abbrev pub shown : Step → WsStep
 shown step = record { out = option_map message_of step.out; job = step.job }
 
--- that a call gives an outcome, or leaves the state as it was where memory is wanting
+-- that a call gives an outcome, or leaves the state as it was where memory runs out
 abbrev pub Gives : {E : Type 0} → WsCore → Result WsStep E → WsCore → Outcome → Type 0
 Gives old (Ok step) core outcome = (step ≡ shown outcome.1) × (core ≡ outcome.0)
 Gives old (Err wanting) core outcome = core ≡ old

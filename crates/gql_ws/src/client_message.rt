@@ -68,7 +68,7 @@ fn read_json(alloc: Global, json: &serde_json::Value) -> Made<Result<ClientMessa
     }
 }
 
-/// What was read, with the want of memory outside.
+/// What was read, with that memory ran out outside.
 fn told(read: Result<ClientMessage, Fault>) -> Made<Result<ClientMessage, MessageFault>>
     ensures { IfOk result (λ outside. IsTold read outside) }
 {

@@ -72,7 +72,7 @@ impl WsCore {
         }
     }
 
-    /// What an event gives. Where memory is wanting, the session is as it was.
+    /// What an event gives. Where memory runs out, the session is as it was.
     pub fn step(&mut self, alloc: Global, event: WsEvent) -> Made<WsStep>
         ensures { Gives self.old result self.new (ws_step self.old event) }
     {

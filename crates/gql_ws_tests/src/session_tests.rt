@@ -358,14 +358,14 @@ fn pings_are_answered(rt: HostRuntime) -> Result<(), Fail> {
 /// What a session writes and asks for up to its first start.
 const STARTED: &str = "init null\ntext {\"type\":\"connection_ack\"}\nstart 0 1 { a }\n";
 
-/// What a session writes and asks for in all of a script behind a start of the id 1.
+/// What a session writes and asks for in all of a script after a start of the id 1.
 fn after_start(alloc: Global, protocol: Protocols, script: &[Entry]) -> Made<String> {
     let mut all = Vec::from_slice(alloc, &[INIT, Entry::Welcome("x"), FIRST])?;
     all.extend_from_slice(script)?;
     lines(alloc, protocol, all.as_slice())
 }
 
-/// Whether this is what a session writes and asks for behind a start.
+/// Whether this is what a session writes and asks for after a start.
 fn tells_behind(alloc: Global, row: &Row) -> Made<bool> {
     let (protocol, script, told) = *row;
     let text = after_start(alloc, protocol, script)?;
@@ -375,7 +375,7 @@ fn tells_behind(alloc: Global, row: &Row) -> Made<bool> {
     }
 }
 
-/// The place of the first row that doesn't hold behind a start.
+/// The place of the first row that doesn't hold after a start.
 fn first_wrong_start(alloc: Global, rows: &[Row]) -> Made<Option<usize>> {
     for (place, row) in rows.iter().enumerate() {
         if !tells_behind(alloc, row)? {
