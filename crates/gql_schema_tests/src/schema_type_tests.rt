@@ -39,7 +39,6 @@ fn is_field(name: &str, field: &Field) -> bool {
         && field.ty().type_name() == "Int"
         && field.resolver() == 7
         && field.arguments().len() == 1
-        && is_declared(DeclaredField::of_object(field), Some(7))
 }
 
 fn is_object(object: &Object) -> bool {
@@ -61,7 +60,6 @@ fn is_promised(name: &str, field: &InterfaceField) -> bool {
         && field.name() == "f"
         && field.ty().type_name() == "Int"
         && field.arguments().len() == 1
-        && is_declared(DeclaredField::of_interface(field), None)
 }
 
 fn is_interface(interface: &Interface) -> bool {
@@ -83,7 +81,6 @@ fn is_event(name: &str, field: &SubscriptionField) -> bool {
         && field.ty().type_name() == "Int"
         && field.source() == 9
         && field.arguments().len() == 1
-        && is_declared(DeclaredField::of_subscription(field), Some(9))
 }
 
 fn is_subscription(subscription: &Subscription) -> bool {
