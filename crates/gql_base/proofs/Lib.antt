@@ -9,3 +9,4 @@ pub mod ErrorJsonLemmas
 pub mod ErrorExtensionsLemmas
 pub mod InOrderLemmas
 pub mod SameLemmas
+pub mod NumberLemmas

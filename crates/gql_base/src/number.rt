@@ -1,6 +1,6 @@
 ghost use Rattle.std.specs.Prelude.{◌≡◌, ◌↔◌, IsTrue, pos, FitsSigned, SomeIff};
 ghost use Rattle.std.specs.Int.{w64};
-ghost use Rattle.gql_base.specs.Number.{unsigned_of};
+ghost use Rattle.gql_base.specs.Number.{int32_of, unsigned_of};
 
 use std::fmt;
 use std::marker::Model;
@@ -76,6 +76,16 @@ impl Number {
         } else {
             distance
         })
+    }
+
+    /// The number as one of 32 bits with a sign, exactly where it is one: as one of the type `Int`.
+    pub fn as_i32(&self) -> Option<i32>
+        ensures { result ≡ int32_of self.now }
+    {
+        match self.as_i64() {
+            Some(whole) if -2147483648 <= whole && whole <= 2147483647 => Some(whole as i32),
+            _ => None,
+        }
     }
 
     /// The number as an unsigned integer, exactly where it isn't negative.
