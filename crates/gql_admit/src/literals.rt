@@ -5,7 +5,7 @@ ghost use Rattle.gql_schema.specs.Fits.{are_given, fits_whole, has_number, is_gi
 ghost use Rattle.gql_schema.specs.Fits.{is_one};
 ghost use Rattle.gql_schema.specs.NameSet.{is_among};
 ghost use Rattle.gql_schema.specs.ScalarRule.{always, is_between, is_boolean, is_number, is_string};
-ghost use Rattle.gql_schema.specs.ScalarRule.{takes_bare};
+ghost use Rattle.gql_schema.specs.ScalarRule.{is_int32, takes_bare};
 ghost use Rattle.gql_schema.specs.Table.{types_of};
 ghost use Rattle.gql_admit.specs.Literals.{all_fit, bare_literal, declares, fills_field};
 ghost use Rattle.gql_admit.specs.Literals.{fits_field, fits_members, fittings};
@@ -180,7 +180,7 @@ fn takes(rule: &ScalarRule, value: &DocValue) -> bool
     match rule {
         ScalarRule::Any => true,
         ScalarRule::Bool => is_boolean_literal(value),
-        ScalarRule::Int => is_within(value, -2147483648, 2147483647),
+        ScalarRule::Int => is_small_number(value),
         ScalarRule::Text => is_any_string(value),
         ScalarRule::Id => is_any_string(value) || is_any_number(value),
         ScalarRule::IntBetween(least, most) => is_within(value, *least, *most),
@@ -204,6 +204,17 @@ fn is_any_number(value: &DocValue) -> bool
     ensures { result ≡ is_number always (bare_literal value.now) }
 {
     matches!(value, DocValue::Number(_))
+}
+
+/// True exactly where the value is a whole number of 32 bits with a sign.
+#[tactic(auto, using(gql_base::proofs::NumberLemmas::int32_there))]
+fn is_small_number(value: &DocValue) -> bool
+    ensures { result ≡ is_number is_int32 (bare_literal value.now) }
+{
+    match value {
+        DocValue::Number(number) => number.as_i32().is_some(),
+        _ => false,
+    }
 }
 
 /// True exactly where the value is a whole number from the first to the second.

@@ -1,9 +1,9 @@
 -- What values give at an input type.
-use Rattle.std.specs.Prelude.{◌≡◌, ℕ, ℤ, List, Option, Some, None, Result, Ok, Err, int_le, pos}
-use Rattle.std.specs.Prelude.{negsuc, ◌&&◌}
+use Rattle.std.specs.Prelude.{◌≡◌, ℕ, ℤ, List, Option, Some, None, Result, Ok, Err}
 use Rattle.std.specs.Prelude.{if◌then◌else◌, option_and_then}
 use Rattle.std.specs.Option.{ok_or, unwrap_or}
 use Rattle.gql_base.specs.Kinds.{is_null, number_of}
+use Rattle.gql_base.specs.Number.{int32_of}
 use Rattle.gql_base.specs.declared.value.Value.{Value}
 use Rattle.gql_base.specs.declared.value.Value.TheVariants as value
 use Rattle.gql_input.specs.declared.input_value_error.InputValueError.{InputValueError}
@@ -28,12 +28,8 @@ abbrev pub read_as : {T : Type 0} → (Value → Option T) → List ℕ → Opti
 read_as kind name given = ok_or (kind (or_null given)) (plain (expected_text name (or_null given)))
 
 -- the number where it has 32 bits with its sign
-abbrev pub if_small : ℤ → Option ℤ
-if_small number =
-    if int_le (negsuc 2147483647) number && int_le number (pos 2147483647) then Some number else None
-
 abbrev pub small_number_of : Value → Option ℤ
-small_number_of given = option_and_then if_small (number_of given)
+small_number_of given = option_and_then int32_of (number_of given)
 
 abbrev pub some_read : {T : Type 0} → Result T Refusal → Result (Option T) Refusal
 some_read (Ok read) = Ok (Some read)

@@ -228,10 +228,7 @@ fn small_number(value: &Value) -> Option<i32>
     ensures { result ≡ small_number_of value.now }
 {
     match value {
-        Value::Number(number) => match number.as_i64() {
-            Some(whole) if -2147483648 <= whole && whole <= 2147483647 => Some(whole as i32),
-            _ => None,
-        },
+        Value::Number(number) => number.as_i32(),
         _ => None,
     }
 }

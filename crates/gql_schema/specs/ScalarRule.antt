@@ -1,6 +1,6 @@
 -- Which values the rule of a scalar takes (GraphQL, October 2021, section 3.5).
-use Rattle.std.specs.Prelude.{◌≡◌, ℕ, ℤ, pos, negsuc, ◌^◌, ◌-◌, ◌&&◌, ◌||◌, Bool, true, false, List}
-use Rattle.std.specs.Prelude.{[], ◌∷◌, codes, int_le, refl}
+use Rattle.std.specs.Prelude.{◌≡◌, ℕ, ℤ, pos, ◌||◌, Bool, true, false, List, [], ◌∷◌, codes, refl}
+pub use Rattle.gql_base.specs.Number.{is_between, is_int32}
 use Rattle.gql_base.specs.declared.value.Value.{Value, out-Value}
 use Rattle.gql_base.specs.declared.value.Value.TheOpen.{Value-F}
 use Rattle.gql_schema.specs.NameSet.{is_among}
@@ -36,14 +36,6 @@ is_string test _ = false
 
 abbrev pub always : {A : Type 0} → A → Bool
 always x = true
-
--- whether a number is one of those from the first to the second
-abbrev pub is_between : ℤ → ℤ → ℤ → Bool
-is_between least most number = int_le least number && int_le number most
-
--- the whole numbers of 32 bits with a sign
-abbrev pub is_int32 : ℤ → Bool
-is_int32 = is_between (negsuc (2 ^ 31 - 1)) (pos (2 ^ 31 - 1))
 
 abbrev pub takes_bare : ScalarRule → Value-F (Unit {0}) → Bool
 takes_bare rules.Any value = true

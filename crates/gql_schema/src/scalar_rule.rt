@@ -1,7 +1,7 @@
 ghost use Rattle.std.specs.Prelude.{◌≡◌};
 ghost use Rattle.gql_schema.specs.NameSet.{is_among};
 ghost use Rattle.gql_schema.specs.ScalarRule.{always, bare_of, is_boolean, is_number, is_string};
-ghost use Rattle.gql_schema.specs.ScalarRule.{is_between};
+ghost use Rattle.gql_schema.specs.ScalarRule.{is_between, is_int32};
 
 use crate::name_set::NameSet;
 use crate::same::Same;
@@ -37,7 +37,7 @@ impl ScalarRule {
         match self {
             ScalarRule::Any => true,
             ScalarRule::Bool => is_boolean_value(value),
-            ScalarRule::Int => is_within(value, -2147483648, 2147483647),
+            ScalarRule::Int => is_small_number(value),
             ScalarRule::Text => is_any_string(value),
             ScalarRule::Id => is_any_string(value) || is_any_number(value),
             ScalarRule::IntBetween(least, most) => is_within(value, *least, *most),
@@ -62,6 +62,17 @@ fn is_any_number(value: &Value) -> bool
     ensures { result ≡ is_number always (bare_of value.now) }
 {
     matches!(value, Value::Number(_))
+}
+
+/// True exactly where the value is a whole number of 32 bits with a sign.
+#[tactic(auto, using(gql_base::proofs::NumberLemmas::int32_there))]
+fn is_small_number(value: &Value) -> bool
+    ensures { result ≡ is_number is_int32 (bare_of value.now) }
+{
+    match value {
+        Value::Number(number) => number.as_i32().is_some(),
+        _ => false,
+    }
 }
 
 /// True exactly where the value is a whole number from the first to the second.
