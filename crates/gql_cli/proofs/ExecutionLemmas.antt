@@ -14,7 +14,7 @@ use Rattle.gql_tasks.specs.Parts.{due_by}
 use Rattle.gql_tasks.specs.Phases.{IsPhase, Phases, RunsInTurn, Serving, after_root, serving_by, story_in}
 use Rattle.gql_tasks.specs.Progress.{RunsWhole, Seen, stage_of, story_of}
 use Rattle.gql_tasks.specs.Record.{Choice, Made, Stage, Story, Turned, fresh, made_at, state_at, waiting}
-use Rattle.gql_merged.specs.declared.scene.Scene.{Scene}
+use Rattle.gql_engine.specs.declared.scene.Scene.{Scene}
 use Rattle.gql_exec.specs.Batch.{ExecutesAll, ExecutesOne}
 use Rattle.gql_exec.specs.Execution.{Ask, asks, ComesOf as Came, Executes, GoesOn as Went, mutates, place_by, RanBy, Runs, world_by}
 use Rattle.gql_exec.specs.PlaceResponse.{response_at}
@@ -22,9 +22,9 @@ use Rattle.gql_exec.specs.Root.{root_for}
 use Rattle.gql_exec.specs.Scene.{scene_for}
 use Rattle.gql_exec.specs.declared.dynamic_request.DynamicRequest.{DynamicRequest}
 use Rattle.gql_exec.specs.declared.schema.Schema.{Schema}
-use Rattle.gql_merged.specs.Jobs.{Job}
-use Rattle.gql_merged.specs.Run.{job_subject, merged_response, merged_work, root_jobs}
-use Rattle.gql_merged.specs.Serial.{key_jobs, key_work, last_world_of, serial_response}
+use Rattle.gql_engine.specs.Jobs.{Job}
+use Rattle.gql_engine.specs.ExecuteQuery.{job_subject, merged_response, merged_work, root_jobs}
+use Rattle.gql_engine.specs.ExecuteMutation.{key_jobs, key_work, last_world_of, serial_response}
 use Rattle.gql_request.specs.QueryEnv.{levels_of}
 use Rattle.gql_request.specs.declared.query_env.QueryEnv.{QueryEnv}
 use Rattle.gql_request.specs.declared.response.Response.{Response}

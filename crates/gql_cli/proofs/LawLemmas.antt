@@ -20,7 +20,7 @@ use Rattle.gql_cli.specs.Request.{AreAlike, requests_for}
 use Rattle.gql_form.specs.declared.command.Command.{Command}
 use Rattle.gql_cli.specs.declared.outcome.Outcome.{Outcome}
 use Rattle.gql_cli.specs.declared.outcome.Outcome.TheVariants.{Answered, BadSchema, BadShape, HasErrors, Loaded, NotBuilt, NotJson, ReadFault, TooLong, Usage}
-use Rattle.gql_merged.specs.declared.scene.Scene.{Scene}
+use Rattle.gql_engine.specs.declared.scene.Scene.{Scene}
 use Rattle.gql_cli.proofs.SchemaLemmas.{one_builder}
 use Rattle.gql_exec.proofs.SchemaLemmas.{one_schema}
 use Rattle.gql_exec.proofs.ReadyLemmas.{one_ready}
@@ -33,9 +33,9 @@ use Rattle.gql_exec.specs.Schema.{settings_of as schema_settings, types_in}
 use Rattle.gql_exec.specs.declared.dynamic_request.DynamicRequest.{DynamicRequest}
 use Rattle.gql_exec.specs.declared.schema.Schema.{Schema}
 use Rattle.gql_form.specs.declared.bench_form.BenchForm.{BenchForm}
-use Rattle.gql_merged.specs.Jobs.{Job}
-use Rattle.gql_merged.specs.Run.{job_subject, root_jobs}
-use Rattle.gql_merged.specs.Serial.{key_jobs}
+use Rattle.gql_engine.specs.Jobs.{Job}
+use Rattle.gql_engine.specs.ExecuteQuery.{job_subject, root_jobs}
+use Rattle.gql_engine.specs.ExecuteMutation.{key_jobs}
 use Rattle.gql_request.specs.BatchResponse.{responses_of}
 use Rattle.gql_request.specs.declared.batch_request.BatchRequest.{BatchRequest}
 use Rattle.gql_request.specs.declared.batch_request.BatchRequest.TheVariants as batch

@@ -10,7 +10,7 @@ use Rattle.gql_tasks.specs.Pace.{EachPaced}
 use Rattle.gql_tasks.specs.Phases.{Phases, Serving}
 use Rattle.gql_tasks.specs.Progress.{story_of}
 use Rattle.gql_tasks.specs.Record.{Made, Stage, Story, Turned, fresh, made_at, state_at, waiting}
-use Rattle.gql_merged.specs.declared.scene.Scene.{Scene}
+use Rattle.gql_engine.specs.declared.scene.Scene.{Scene}
 use Rattle.gql_exec.specs.Execution.{Ask, asks, error_response, fault_response, mutates}
 use Rattle.gql_exec.specs.PlaceResponse.{response_at}
 use Rattle.gql_exec.specs.Ready.{IsMadeReady}
@@ -18,9 +18,9 @@ use Rattle.gql_exec.specs.Root.{root_for}
 use Rattle.gql_exec.specs.Scene.{scene_for}
 use Rattle.gql_exec.specs.declared.dynamic_request.DynamicRequest.{DynamicRequest}
 use Rattle.gql_exec.specs.declared.schema.Schema.{Schema}
-use Rattle.gql_merged.specs.Jobs.{Job}
-use Rattle.gql_merged.specs.Run.{job_subject, merged_response, root_jobs}
-use Rattle.gql_merged.specs.Serial.{key_jobs, last_world_of, serial_response}
+use Rattle.gql_engine.specs.Jobs.{Job}
+use Rattle.gql_engine.specs.ExecuteQuery.{job_subject, merged_response, root_jobs}
+use Rattle.gql_engine.specs.ExecuteMutation.{key_jobs, last_world_of, serial_response}
 use Rattle.gql_place.specs.declared.place.Place.{Place}
 use Rattle.gql_request.specs.QueryEnv.{levels_of}
 use Rattle.gql_request.specs.declared.query_env.QueryEnv.{QueryEnv}

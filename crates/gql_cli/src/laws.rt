@@ -6,7 +6,7 @@ ghost use Rattle.gql_cli.specs.Gives.{Gives, IfResponse};
 ghost use Rattle.gql_cli.specs.Load.{IsLoaded};
 ghost use Rattle.gql_form.specs.declared.command.Command.{Command as OneCommand};
 ghost use Rattle.gql_cli.specs.declared.outcome.Outcome.{Outcome as OneOutcome};
-ghost use Rattle.gql_merged.specs.declared.scene.Scene.{Scene as OneScene};
+ghost use Rattle.gql_engine.specs.declared.scene.Scene.{Scene as OneScene};
 ghost use Rattle.gql_io.specs.Limits.{input_limit};
 ghost use Rattle.gql_resolve.specs.declared.record_entry.RecordEntry.{RecordEntry as OneEntry};
 

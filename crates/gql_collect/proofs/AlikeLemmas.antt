@@ -11,8 +11,8 @@ use Rattle.gql_doc.specs.declared.document.Selection.{Selection, out-Selection}
 use Rattle.gql_doc.specs.declared.document.Selection.TheOpen.{Selection-F}
 use Rattle.gql_doc.specs.declared.document.SelectionSet.{SelectionSet}
 use Rattle.gql_select.specs.Collected.{Setting, collect, collect_within, fields_of, fields_of_spread, fields_under}
-use Rattle.gql_collect.specs.Collecting.{collected, ReadsAlike, setting_by}
-use Rattle.gql_collect.specs.declared.collector.Collector.{Collector}
+use Rattle.gql_collect.specs.CollectFields.{collected, ReadsAlike, setting_by}
+use Rattle.gql_collect.specs.declared.collect.Collector.{Collector}
 
 module _ (s t : Setting) (fragments_are : s.fragments ≡ t.fragments) (covers_are : s.covers ≡ t.covers) (object : List ℕ) where
   module _ (deeper other : List (Positioned Selection) → List (Positioned Field)) (same : deeper ≡ other) where

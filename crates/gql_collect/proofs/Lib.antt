@@ -1,3 +1,11 @@
-mod AlikeLemmas
+pub mod AlikeLemmas
+pub mod AsksLemmas
+pub mod CoerceLemmas
+pub mod GroupLemmas
+pub mod GroupingLemmas
+pub mod LevelLemmas
+pub mod NestingLemmas
+pub mod NodesLemmas
 pub mod OccurrenceLemmas
-mod Rows
+pub mod Rows
+pub mod UnitingLemmas

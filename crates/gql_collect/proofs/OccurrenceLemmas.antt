@@ -10,8 +10,8 @@ use Rattle.gql_select.specs.Collected.{own_selections}
 use Rattle.gql_select.specs.Documents.{both, with_others}
 use Rattle.gql_select.proofs.DocumentLemmas.{is_reading, name_of_both, set_of_both}
 use Rattle.gql_select.proofs.OccurrenceLemmas.{behind_append, with_one_more}
-use Rattle.gql_collect.specs.Collecting.{collected, setting_by}
-use Rattle.gql_collect.specs.declared.collector.Collector.{Collector}
+use Rattle.gql_collect.specs.CollectFields.{collected, setting_by}
+use Rattle.gql_collect.specs.declared.collect.Collector.{Collector}
 
 -- the one field that stands for occurrences is named as the first of them
 pub name_with_others : (first : Positioned Field) (others : List (Positioned Field)) → name_of (with_others first others) ≡ name_of first

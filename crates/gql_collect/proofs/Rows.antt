@@ -1,7 +1,7 @@
 -- Which settings read sets as a collector does.
 use Rattle.std.proofs.Common.{suc, [], ◌∷◌, refl, arith}
-use Rattle.gql_collect.specs.Collecting.{ReadsAlike, setting_by}
-use Rattle.gql_collect.specs.declared.collector.Collector.{Collector}
+use Rattle.gql_collect.specs.CollectFields.{ReadsAlike, setting_by}
+use Rattle.gql_collect.specs.declared.collect.Collector.{Collector}
 
 module _ (collector : Collector) where
   -- what is possible under fields counts for nothing

@@ -1,1 +1,12 @@
-pub mod Collecting
+pub mod Asks
+pub mod Basis
+pub mod CoerceArguments
+pub mod CollectFields
+pub mod Execution
+pub mod GroupFields
+pub mod Groups
+pub mod KeyNames
+pub mod Known
+pub mod Levels
+pub mod Nesting
+pub mod TableSetting

@@ -1,4 +1,4 @@
-ghost use Rattle.gql_collect.specs.Collecting.{ReadsAlike};
+ghost use Rattle.gql_collect.specs.CollectFields.{ReadsAlike};
 ghost use Rattle.gql_conflicts.specs.Reader.{setting_by};
 
 use crate::rooted_types::RootedTypes;

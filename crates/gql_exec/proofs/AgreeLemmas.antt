@@ -36,10 +36,10 @@ use Rattle.gql_admit.specs.declared.chosen.Chosen.{Chosen}
 use Rattle.gql_conflicts.specs.DocumentConflicts.{conflicts_at, document_conflicts, IsConflict, operation_conflicts, told}
 use Rattle.gql_conflicts.specs.Rooted.{object_named as root_named, objects_beneath, objects_of as objects_at, Rooted, root_of, setting_of as setting_at}
 use Rattle.gql_conflicts.specs.declared.conflict.Conflict.{Conflict}
-use Rattle.gql_merged.specs.declared.scene.Scene.{Scene}
-use Rattle.gql_meaning.specs.TableSetting.{entities_field, field_in, objects_of}
-use Rattle.gql_merged.specs.Basis.{setting_by}
-use Rattle.gql_merged.specs.Run.{AgreesInside, basis_of, root_selections}
+use Rattle.gql_engine.specs.declared.scene.Scene.{Scene}
+use Rattle.gql_collect.specs.TableSetting.{entities_field, field_in, objects_of}
+use Rattle.gql_collect.specs.Basis.{setting_by}
+use Rattle.gql_engine.specs.ExecuteQuery.{AgreesInside, basis_of, root_selections}
 use Rattle.gql_request.specs.QueryEnv.{levels_of}
 use Rattle.gql_request.specs.declared.query_env.QueryEnv.{QueryEnv}
 use Rattle.gql_request.specs.declared.request.Request.{Request}

@@ -12,20 +12,20 @@ use Rattle.gql_tasks.specs.Parts.{choice_by, due_by}
 use Rattle.gql_tasks.specs.Progress.{RunsWhole, RunStopped, Seen, stage_of, story_at}
 use Rattle.gql_tasks.specs.Pace.{EachPacedSoFar}
 use Rattle.gql_tasks.specs.Record.{Story, fresh}
-use Rattle.gql_merged.specs.declared.scene.Scene.{Scene}
+use Rattle.gql_engine.specs.declared.scene.Scene.{Scene}
 use Rattle.gql_exec.proofs.RecordLemmas.{mapped, fresh-mapped, paced-mapped, so-far-mapped, ran-mapped, stopped-mapped}
 use Rattle.gql_exec.specs.Bare.{bare_basis, bare_job, bare_layers, bare_scene}
 use Rattle.gql_exec.specs.Scene.{shown}
-use Rattle.gql_meaning.specs.Execution.{Asking, Execution, field_asking, setting_in}
+use Rattle.gql_collect.specs.Execution.{Asking, Execution, field_asking, setting_in}
 use Rattle.gql_meaning.specs.Responses.{Asked, placed, root_place, world_after}
-use Rattle.gql_merged.specs.Basis.{execution_of}
-use Rattle.gql_merged.specs.Jobs.{Job, completed_by, job_of, jobs_at, jobs_at_as, jobs_beneath}
-use Rattle.gql_merged.specs.Grouped.{grouping_at, groups_by}
-use Rattle.gql_merged.specs.Run.{basis_by, basis_of, merged_response, root_jobs_by, root_selections, root_spot, work_by}
-use Rattle.gql_merged.specs.Serial.{key_jobs_by, last_world_of, levels_beneath, root_asked, serial_response}
-use Rattle.gql_merged.specs.Stored.{Spot, spots}
-use Rattle.gql_merged.specs.declared.basis.Basis.{Basis}
-use Rattle.gql_merged.specs.declared.basis.Grouping.{Grouping}
+use Rattle.gql_collect.specs.Basis.{execution_of}
+use Rattle.gql_engine.specs.Jobs.{Job, completed_by, job_of, jobs_at, jobs_at_as, jobs_beneath}
+use Rattle.gql_collect.specs.GroupFields.{grouping_at, groups_by}
+use Rattle.gql_engine.specs.ExecuteQuery.{basis_by, basis_of, merged_response, root_jobs_by, root_selections, root_spot, work_by}
+use Rattle.gql_engine.specs.ExecuteMutation.{key_jobs_by, last_world_of, levels_beneath, root_asked, serial_response}
+use Rattle.gql_complete.specs.FoundObjects.{Spot, spots}
+use Rattle.gql_collect.specs.declared.basis.Basis.{Basis}
+use Rattle.gql_collect.specs.declared.basis.Grouping.{Grouping}
 use Rattle.gql_place.specs.declared.place.Place.{Place}
 use Rattle.gql_resolve.specs.Call.{Call}
 use Rattle.gql_resolve.specs.Layers.{layers_of}

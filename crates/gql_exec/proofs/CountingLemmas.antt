@@ -2,7 +2,7 @@
 use Rattle.std.proofs.Common.{◌≡◌, ◌+◌, ℕ, Bool, true, false, List, Result, Ok, Err, OnOk, ap, sym, ◌∙◌, subst}
 use Rattle.gql_base.specs.Pairs.{values_of}
 use Rattle.gql_tasks.specs.Parts.{due_by}
-use Rattle.gql_merged.specs.declared.scene.Scene.{Scene}
+use Rattle.gql_engine.specs.declared.scene.Scene.{Scene}
 use Rattle.gql_exec.proofs.BareLemmas.{execution-bare}
 use Rattle.gql_exec.specs.Bare.{bare_scene}
 use Rattle.gql_exec.specs.Counting.{answers_of, CountsAnswers, CountsOf, CountsOn, CountsTasks, tasks_by}
@@ -12,16 +12,16 @@ use Rattle.gql_exec.specs.Root.{root_for}
 use Rattle.gql_exec.specs.Scene.{scene_for}
 use Rattle.gql_admit.specs.Prepared.{Prepared}
 use Rattle.gql_meaning.specs.Counted.{count_as, total}
-use Rattle.gql_meaning.specs.Execution.{Execution, setting_in}
+use Rattle.gql_collect.specs.Execution.{Execution, setting_in}
 use Rattle.gql_meaning.specs.Responses.{world_after}
-use Rattle.gql_merged.proofs.CountedKeysLemmas.{serial_count_is}
-use Rattle.gql_merged.proofs.CountedLemmas.{merged_count_is}
-use Rattle.gql_merged.specs.Counted.{count_by, serial_count_by}
-use Rattle.gql_merged.specs.Grouped.{groups_by}
-use Rattle.gql_merged.specs.Run.{basis_by, root_selections, root_spot}
-use Rattle.gql_merged.specs.Serial.{levels_beneath, root_asked}
-use Rattle.gql_merged.specs.declared.basis.Grouping.{Grouping}
-use Rattle.gql_merged.specs.declared.basis.Grouping.TheVariants as grouping
+use Rattle.gql_engine.proofs.KeyCountLemmas.{serial_count_is}
+use Rattle.gql_engine.proofs.TaskCountLemmas.{merged_count_is}
+use Rattle.gql_engine.specs.TaskCounts.{count_by, serial_count_by}
+use Rattle.gql_collect.specs.GroupFields.{groups_by}
+use Rattle.gql_engine.specs.ExecuteQuery.{basis_by, root_selections, root_spot}
+use Rattle.gql_engine.specs.ExecuteMutation.{levels_beneath, root_asked}
+use Rattle.gql_collect.specs.declared.basis.Grouping.{Grouping}
+use Rattle.gql_collect.specs.declared.basis.Grouping.TheVariants as grouping
 use Rattle.gql_request.specs.QueryEnv.{levels_of}
 use Rattle.gql_request.specs.declared.query_env.QueryEnv.{QueryEnv}
 use Rattle.gql_request.specs.declared.response.Response.{Response}

@@ -2,13 +2,13 @@
 use Rattle.std.proofs.Common.{◌≡◌, ◌⊎◌, ℕ, Bool, [], Result, Ok, Err, IfErr, IfOk, inr, ap, sym, ◌∙◌, subst}
 use Rattle.gql_base.specs.declared.no_memory.NoMemory.{NoMemory}
 use Rattle.gql_tasks.specs.Progress.{Seen}
-use Rattle.gql_merged.specs.declared.scene.Scene.{Scene}
+use Rattle.gql_engine.specs.declared.scene.Scene.{Scene}
 use Rattle.gql_exec.specs.Bare.{bare_scene}
 use Rattle.gql_exec.specs.Execution.{Ask, asked_scene, CutAs, ExecutesAs, GoesOnAs, HaltsAs, mutates, place_by, RanAs, RunsAs, StandAs, StopsAs, world_by}
 use Rattle.gql_exec.specs.PlaceResponse.{response_at}
 use Rattle.gql_exec.specs.Ready.{IsMadeReady}
 use Rattle.gql_exec.specs.Root.{root_for}
-use Rattle.gql_merged.specs.declared.basis.Grouping.{Grouping}
+use Rattle.gql_collect.specs.declared.basis.Grouping.{Grouping}
 use Rattle.gql_place.specs.Alike.{Same}
 use Rattle.gql_place.specs.declared.place.Place.{Place}
 use Rattle.gql_place.proofs.PieceLemmas.{told_same}

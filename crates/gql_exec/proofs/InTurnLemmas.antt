@@ -7,15 +7,15 @@ use Rattle.gql_tasks.specs.Parts.{choice_by}
 use Rattle.gql_tasks.specs.Phases.{after_root, answers_in, AreCut, CutBefore, HaltsInTurn, IsCutPhase, IsPhase, none_made, PacedSince, PacedSinceSoFar, Phases, RootsStand, RunsInTurn, Serving, serving_at, story_in, with_root, world_past}
 use Rattle.gql_tasks.specs.Progress.{Seen, stage_of}
 use Rattle.gql_tasks.specs.Record.{Choice, Made, Stage, Story, untold}
-use Rattle.gql_merged.specs.declared.scene.Scene.{Scene}
+use Rattle.gql_engine.specs.declared.scene.Scene.{Scene}
 use Rattle.gql_exec.proofs.BareLemmas.{beneath-bare, keys-bare}
 use Rattle.gql_exec.proofs.RecordLemmas.{mapped, ran-mapped, staged, stopped-mapped}
 use Rattle.gql_exec.specs.Bare.{bare_job, bare_scene}
-use Rattle.gql_merged.specs.Jobs.{Job}
-use Rattle.gql_merged.specs.Run.{job_subject}
-use Rattle.gql_merged.proofs.SerialLemmas.{last_past}
-use Rattle.gql_merged.specs.Serial.{key_jobs_by, key_work_by, last_world_of}
-use Rattle.gql_merged.specs.declared.basis.Grouping.{Grouping}
+use Rattle.gql_engine.specs.Jobs.{Job}
+use Rattle.gql_engine.specs.ExecuteQuery.{job_subject}
+use Rattle.gql_engine.proofs.MutationLemmas.{last_past}
+use Rattle.gql_engine.specs.ExecuteMutation.{key_jobs_by, key_work_by, last_world_of}
+use Rattle.gql_collect.specs.declared.basis.Grouping.{Grouping}
 use Rattle.gql_resolve.specs.declared.record_entry.RecordEntry.{RecordEntry}
 use Rattle.gql_resolve.specs.declared.resolver_set.ResolverSet.{Ghosts as Resolving}
 use Rattle.gql_resolve.specs.declared.turns.Turns.{Ghosts as Choosing}

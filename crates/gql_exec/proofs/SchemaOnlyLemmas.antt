@@ -16,7 +16,7 @@ use Rattle.gql_tasks.specs.Parts.{choice_by}
 use Rattle.gql_tasks.specs.Phases.{none_made, Phases, RunsInTurn, serving_at}
 use Rattle.gql_tasks.specs.Progress.{RunsWhole, Seen, stage_of, story_at}
 use Rattle.gql_tasks.specs.Record.{Choice, Story, Turned, begun_at, fresh}
-use Rattle.gql_merged.specs.declared.scene.Scene.{Scene}
+use Rattle.gql_engine.specs.declared.scene.Scene.{Scene}
 use Rattle.gql_exec.specs.Admission.{terms_for}
 use Rattle.gql_exec.specs.Execution.{Ask, asked_scene, ComesOfAs, ExecutesAs, GoesOnAs, mutates, RanAs}
 use Rattle.gql_exec.specs.Ready.{IsMadeReady, prepared_under}
@@ -25,13 +25,13 @@ use Rattle.gql_exec.specs.Schema.{settings_of}
 use Rattle.gql_exec.specs.SchemaOnly.{is_schema_only, StartsNone}
 use Rattle.gql_settings.specs.Settings.{mode_for}
 use Rattle.gql_exec.specs.declared.schema.Schema.{Schema}
-use Rattle.gql_meaning.specs.Execution.{Execution, field_asking, is_typename}
-use Rattle.gql_merged.specs.Basis.{execution_of, is_introspection_only}
-use Rattle.gql_merged.specs.Grouped.{groups_in}
-use Rattle.gql_merged.specs.Jobs.{job_of, jobs_at_as}
-use Rattle.gql_merged.specs.Run.{basis_by, root_selections, root_spot, work_by}
-use Rattle.gql_merged.specs.Serial.{key_work_by}
-use Rattle.gql_merged.specs.declared.basis.Grouping.{Grouping}
+use Rattle.gql_collect.specs.Execution.{Execution, field_asking, is_typename}
+use Rattle.gql_collect.specs.Basis.{execution_of, is_introspection_only}
+use Rattle.gql_collect.specs.GroupFields.{groups_in}
+use Rattle.gql_engine.specs.Jobs.{job_of, jobs_at_as}
+use Rattle.gql_engine.specs.ExecuteQuery.{basis_by, root_selections, root_spot, work_by}
+use Rattle.gql_engine.specs.ExecuteMutation.{key_work_by}
+use Rattle.gql_collect.specs.declared.basis.Grouping.{Grouping}
 use Rattle.gql_request.specs.declared.query_env.IntrospectionMode.{IntrospectionMode}
 use Rattle.gql_request.specs.declared.query_env.QueryEnv.{QueryEnv}
 use Rattle.gql_request.specs.declared.request.Request.{Request}

@@ -1,9 +1,9 @@
 -- Scenes and what executions stand on, with what their references show alone.
 use Rattle.std.specs.Option.{option_map}
-use Rattle.gql_merged.specs.declared.scene.Scene.{Scene}
+use Rattle.gql_engine.specs.declared.scene.Scene.{Scene}
 use Rattle.gql_exec.specs.Scene.{shown}
-use Rattle.gql_merged.specs.Jobs.{Job}
-use Rattle.gql_merged.specs.declared.basis.Basis.{Basis}
+use Rattle.gql_engine.specs.Jobs.{Job}
+use Rattle.gql_collect.specs.declared.basis.Basis.{Basis}
 use Rattle.gql_resolve.specs.declared.layers.Layers.{Layers}
 
 -- layers of data

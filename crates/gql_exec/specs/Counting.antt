@@ -3,13 +3,13 @@
 use Rattle.std.specs.Prelude.{◌≡◌, ◌+◌, ℕ, Bool, true, false, List, Result, Ok, Err}
 use Rattle.gql_admit.specs.Prepared.{Prepared}
 use Rattle.gql_tasks.specs.Parts.{due_by}
-use Rattle.gql_merged.specs.declared.scene.Scene.{Scene}
+use Rattle.gql_engine.specs.declared.scene.Scene.{Scene}
 use Rattle.gql_exec.specs.Execution.{Ask, mutates}
 use Rattle.gql_exec.specs.Ready.{IsMadeReady}
 use Rattle.gql_exec.specs.Root.{root_for}
 use Rattle.gql_exec.specs.Scene.{scene_for}
-use Rattle.gql_merged.specs.Counted.{count_by, merged_count, serial_count, serial_count_by}
-use Rattle.gql_merged.specs.declared.basis.Grouping.{Grouping}
+use Rattle.gql_engine.specs.TaskCounts.{count_by, merged_count, serial_count, serial_count_by}
+use Rattle.gql_collect.specs.declared.basis.Grouping.{Grouping}
 use Rattle.gql_request.specs.QueryEnv.{levels_of}
 use Rattle.gql_request.specs.declared.query_env.QueryEnv.{QueryEnv}
 use Rattle.gql_resolve.specs.declared.resolver_set.ResolverSet.{Ghosts as Resolving}

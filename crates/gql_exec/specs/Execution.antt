@@ -8,17 +8,17 @@ use Rattle.gql_base.specs.declared.value.Value.TheVariants as value
 use Rattle.gql_tasks.specs.Parts.{due_by}
 use Rattle.gql_tasks.specs.Phases.{HaltsInTurn, RootsStand, RunsInTurn}
 use Rattle.gql_tasks.specs.Progress.{RunStopped, RunsWhole, Seen}
-use Rattle.gql_merged.specs.declared.scene.Scene.{Scene}
+use Rattle.gql_engine.specs.declared.scene.Scene.{Scene}
 use Rattle.gql_exec.specs.PlaceResponse.{response_at}
 use Rattle.gql_exec.specs.Ready.{IsMadeReady}
 use Rattle.gql_exec.specs.Root.{root_for}
 use Rattle.gql_exec.specs.Scene.{scene_for}
 use Rattle.gql_exec.specs.declared.dynamic_request.DynamicRequest.{DynamicRequest}
 use Rattle.gql_exec.specs.declared.schema.Schema.{Schema}
-use Rattle.gql_merged.specs.Run.{merged_response, work_by}
-use Rattle.gql_merged.specs.Serial.{key_work_by, last_world_of, serial_response}
-use Rattle.gql_merged.specs.declared.basis.Grouping.{Grouping}
-use Rattle.gql_merged.specs.declared.basis.Grouping.TheVariants as grouping
+use Rattle.gql_engine.specs.ExecuteQuery.{merged_response, work_by}
+use Rattle.gql_engine.specs.ExecuteMutation.{key_work_by, last_world_of, serial_response}
+use Rattle.gql_collect.specs.declared.basis.Grouping.{Grouping}
+use Rattle.gql_collect.specs.declared.basis.Grouping.TheVariants as grouping
 use Rattle.gql_place.specs.declared.place.Place.{Place}
 use Rattle.gql_request.specs.QueryEnv.{levels_of}
 use Rattle.gql_request.specs.declared.query_env.QueryEnv.{QueryEnv}

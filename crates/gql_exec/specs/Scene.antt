@@ -1,7 +1,7 @@
 -- The scene of an execution, of plain data: what a reference shows is all that matters of it.
 use Rattle.std.specs.Prelude.{[], None}
 use Rattle.std.specs.Borrow.{Bor}
-use Rattle.gql_merged.specs.declared.scene.Scene.{Scene}
+use Rattle.gql_engine.specs.declared.scene.Scene.{Scene}
 use Rattle.gql_exec.specs.Schema.{settings_of, types_in}
 use Rattle.gql_settings.specs.Settings.{entities_for}
 use Rattle.gql_exec.specs.declared.dynamic_request.DynamicRequest.{DynamicRequest}

@@ -3,7 +3,7 @@ use Rattle.std.specs.Prelude.{◌≡◌, Bool}
 use Rattle.gql_exec.specs.Schema.{settings_of}
 use Rattle.gql_settings.specs.Settings.{mode_for}
 use Rattle.gql_exec.specs.declared.schema.Schema.{Schema}
-use Rattle.gql_merged.specs.Basis.{is_introspection_only}
+use Rattle.gql_collect.specs.Basis.{is_introspection_only}
 use Rattle.gql_request.specs.declared.request.Request.{Request}
 use Rattle.gql_resolve.specs.declared.resolver_set.ResolverSet.{Ghosts as Resolving}
 

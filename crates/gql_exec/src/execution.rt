@@ -10,15 +10,16 @@ ghost use Rattle.gql_exec.specs.Execution.{fault_response, HaltsAs, mutates, Run
 ghost use Rattle.gql_exec.specs.Execution.{StopsApart, StopsAs};
 ghost use Rattle.gql_exec.specs.Scene.{scene_for};
 ghost use Rattle.gql_exec.specs.SchemaOnly.{is_schema_only, StartsNone};
-ghost use Rattle.gql_merged.specs.Run.{AgreesInside};
+ghost use Rattle.gql_engine.specs.ExecuteQuery.{AgreesInside};
 ghost use Rattle.gql_request.specs.QueryEnv.{levels_of};
 
 use crate::dynamic_request::DynamicRequest;
 use crate::place_response::response_of;
 use crate::schema::Schema;
 use gql_base::{Items, Made, NoMemory, ServerError, Steps};
+use gql_collect::Grouping;
 use gql_doc::OperationType;
-use gql_merged::{Grouping, Scene, run_grouped, run_mutation_grouped};
+use gql_engine::{Scene, run_grouped, run_mutation_grouped};
 use gql_request::{Data, Hooks, QueryEnv, Response};
 use gql_resolve::{Layers, ResolverSet, Turns};
 use gql_schema::Object;

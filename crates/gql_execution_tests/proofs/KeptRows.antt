@@ -1,8 +1,8 @@
 -- A plan that keeps what its second task was given still holds what it held of the first.
 use Rattle.std.proofs.Common.{ℕ}
 use Rattle.gql_tasks.specs.declared.given.Given.{Given}
-use Rattle.gql_merged.specs.TreePlan.{HasKept, HoldsIn}
-use Rattle.gql_merged.specs.declared.tree_plan.TreePlan.{TreePlan}
+use Rattle.gql_engine.specs.TreePlan.{HasKept, HoldsIn}
+use Rattle.gql_engine.specs.declared.execute_field.tree_plan.TreePlan.{TreePlan}
 
 module _ {V : Type 0} (old new : TreePlan V) (given first : Given V) (count : ℕ) where
   first_still_held : HasKept old new 1 given count → HoldsIn old 0 first → HoldsIn new 0 first

@@ -3,7 +3,7 @@
 use crate::answers::{Answers, Ends};
 use crate::scenes::{LISTS, response_of};
 use gql_base::{Made, NoMemory};
-use gql_merged::Grouping;
+use gql_collect::Grouping;
 use std::alloc::Global;
 use std::test::Fail;
 

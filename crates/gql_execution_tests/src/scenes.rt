@@ -11,11 +11,12 @@ use gql_admit::check_depth;
 use gql_base::{
     Made, NoMemory, Pairs, Steps, Text, TypeRef, Value, Variables, json_of, push_errors,
 };
+use gql_collect::Grouping;
 use gql_doc::{
     DocumentOperations, ExecutableDocument, FragmentDefinition, OperationDefinition, OperationType,
     Positioned, parse_query,
 };
-use gql_merged::{Grouping, Scene, run_apart, run_grouped, run_merged, run_mutation_grouped};
+use gql_engine::{Scene, run_apart, run_grouped, run_merged, run_mutation_grouped};
 use gql_place::{Place, faults, raise};
 use gql_request::{Data, Hooks, IntrospectionMode, QueryEnv};
 use gql_resolve::{FieldValue, Layers, Turns};

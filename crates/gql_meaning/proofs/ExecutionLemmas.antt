@@ -9,9 +9,10 @@ use Rattle.gql_doc.specs.declared.document.Field.{Field}
 use Rattle.gql_doc.specs.declared.document.Positioned.{Positioned}
 use Rattle.gql_meaning.proofs.CompletionLemmas.{absent_fits, leaf_fits, shape_fits}
 use Rattle.gql_meaning.specs.Counted.{asked_count, count_at, counting, one_if, parents_in, total}
-use Rattle.gql_meaning.specs.Execution.{answered_outcome, asking, asking_at, Asking, Execution, field_outcome, is_typename, named_outcome, setting_in, typename_outcome}
+use Rattle.gql_meaning.specs.Outcomes.{answered_outcome, field_outcome, named_outcome, typename_outcome}
+use Rattle.gql_collect.specs.Execution.{asking, asking_at, Asking, Execution, is_typename, setting_in}
 use Rattle.gql_meaning.specs.Responses.{Asked, kept_in, kept_reading, query_merged, root_asking, world_after, world_of}
-use Rattle.gql_meaning.specs.TableSetting.{declared_arguments, field_in, objects_of}
+use Rattle.gql_collect.specs.TableSetting.{declared_arguments, field_in, objects_of}
 use Rattle.gql_place.specs.Answered.{answering}
 use Rattle.gql_place.specs.Filled.{objects_in}
 use Rattle.gql_place.specs.Laws.{AreFitting}

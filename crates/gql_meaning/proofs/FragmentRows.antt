@@ -19,7 +19,7 @@ use Rattle.gql_doc.specs.declared.document.Selection.TheBlock.{shown-the_row-Sel
 use Rattle.gql_doc.specs.declared.document.VariableDefinition.{VariableDefinition}
 use denote.Hole.Carrier.{out, roll, shown, hidden}
 use Rattle.gql_meaning.specs.Completion.{union_texts}
-use Rattle.gql_meaning.specs.Execution.{Execution}
+use Rattle.gql_collect.specs.Execution.{Execution}
 use Rattle.gql_meaning.specs.Responses.{Response}
 use Rattle.gql_place.specs.Faults.{located}
 use Rattle.gql_place.specs.declared.place.Tree.{the_lemmas as tree_lemmas}

@@ -6,10 +6,11 @@ use Rattle.gql_doc.specs.declared.document.Positioned.{Positioned}
 use Rattle.gql_doc.specs.declared.document.Selection.{Selection}
 use Rattle.gql_meaning.proofs.CompletionLemmas.{shape_fits}
 use Rattle.gql_meaning.proofs.ExecutionLemmas.{are_fitting, asks_nothing, needs_no_answer, no_world_changed, only_asking}
-use Rattle.gql_meaning.specs.Execution.{field_outcome, named_outcome, setting_in}
+use Rattle.gql_meaning.specs.Outcomes.{field_outcome, named_outcome}
+use Rattle.gql_collect.specs.Execution.{setting_in}
 use Rattle.gql_meaning.specs.Laws.{CompletionFits, IntrospectionAsksNothing, IntrospectionChangesNoWorld, IntrospectionNeedsNoAnswer, MutationApartIsMerged, OnlyAnswersChangeWorlds, QueryApartIsMerged}
 use Rattle.gql_meaning.specs.Responses.{asking_keys, kept_in, kept_reading, root_asking, root_keys, world_after, world_of}
-use Rattle.gql_meaning.specs.TableSetting.{declared_arguments}
+use Rattle.gql_collect.specs.TableSetting.{declared_arguments}
 use Rattle.gql_place.proofs.LawProofs.{is_answering, documents_apart_are_merged, mutation_places_apart_are_merged}
 use Rattle.gql_resolve.specs.declared.field_value.FieldValue.{FieldValue}
 use Rattle.gql_select.proofs.ConflictLemmas.{agree_from}

@@ -1,8 +1,8 @@
 pub mod CompletionLemmas
+pub mod DocumentRows
 pub mod ExecutionLemmas
+pub mod FragmentRows
 pub mod LawProofs
-mod DocumentRows
-mod FragmentRows
-mod MutationRows
-mod Rows
-mod Written
+pub mod MutationRows
+pub mod Rows
+pub mod Written

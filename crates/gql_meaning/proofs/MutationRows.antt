@@ -16,7 +16,7 @@ use Rattle.gql_doc.specs.declared.document.Selection.{out-Selection, Selection}
 use Rattle.gql_doc.specs.declared.document.Selection.TheBlock.{shown-the_row-SelectionSet-items-2-0}
 use denote.Hole.Carrier.{out, roll, shown, hidden}
 use Rattle.gql_meaning.specs.Counted.{count_as, mutation_asked_count, total}
-use Rattle.gql_meaning.specs.Execution.{Execution, setting_in}
+use Rattle.gql_collect.specs.Execution.{Execution, setting_in}
 use Rattle.gql_meaning.specs.Responses.{Asked, last_world, Members, mutation_merged, placed as place_of, Response, response, world_after}
 use Rattle.gql_place.specs.declared.place.Place.{Place}
 use Rattle.gql_place.specs.declared.place.Tree.{the_lemmas as tree_lemmas}

@@ -8,9 +8,10 @@ use Rattle.gql_base.specs.declared.value.Value.{Value, the_lemmas as value_lemma
 use Rattle.gql_base.specs.declared.value.Value.TheVariants as value
 use Rattle.gql_base.specs.declared.pos.Pos.{Pos}
 use Rattle.gql_meaning.specs.Completion.{completed, fault, no_scalar, no_value, union_texts}
-use Rattle.gql_meaning.specs.Execution.{absent_outcome, asking, Execution, named_outcome}
+use Rattle.gql_meaning.specs.Outcomes.{absent_outcome, named_outcome}
+use Rattle.gql_collect.specs.Execution.{asking, Execution}
 use Rattle.gql_meaning.specs.Responses.{Members, response}
-use Rattle.gql_meaning.specs.TableSetting.{setting_of}
+use Rattle.gql_collect.specs.TableSetting.{setting_of}
 use Rattle.gql_base.specs.declared.error.Error.{Error}
 use Rattle.gql_base.specs.declared.path_segment.PathSegment.TheVariants.{Field}
 use Rattle.gql_place.specs.Answered.{answering}

@@ -22,7 +22,7 @@ use Rattle.gql_doc.specs.declared.document.Selection.TheOpen.{Field-F, InlineFra
 use Rattle.gql_doc.specs.declared.document.Selection.TheVariants as selection
 use Rattle.gql_doc.specs.declared.document.SelectionSet.{SelectionSet, roll-SelectionSet}
 use Rattle.gql_meaning.specs.Counted.{asked_count, count_at, total}
-use Rattle.gql_meaning.specs.Execution.{Execution, setting_in}
+use Rattle.gql_collect.specs.Execution.{Execution, setting_in}
 use Rattle.gql_meaning.specs.Responses.{Asked, placed as place_of, query_apart, query_merged, Response, response}
 use Rattle.gql_place.specs.Join.{join}
 use Rattle.gql_resolve.specs.Call.{Call}

@@ -6,7 +6,8 @@ use Rattle.gql_base.specs.Pairs.{values_of}
 use Rattle.gql_doc.specs.declared.document.Field.{Field}
 use Rattle.gql_doc.specs.declared.document.Positioned.{Positioned}
 use Rattle.gql_doc.specs.declared.document.Selection.{Selection}
-use Rattle.gql_meaning.specs.Execution.{Asking, Execution, field_asking, field_outcome}
+use Rattle.gql_collect.specs.Execution.{Asking, Execution, field_asking}
+use Rattle.gql_meaning.specs.Outcomes.{field_outcome}
 use Rattle.gql_meaning.specs.Responses.{Asked, kept_in, kept_reading, world_after}
 use Rattle.gql_place.specs.declared.shape.Shape.{Shape}
 use Rattle.gql_place.specs.declared.shape.Shape.TheOpen.{Shape-F}

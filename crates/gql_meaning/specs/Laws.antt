@@ -8,7 +8,7 @@ use Rattle.gql_doc.specs.declared.document.Field.{Field}
 use Rattle.gql_doc.specs.declared.document.Positioned.{Positioned}
 use Rattle.gql_meaning.specs.Completion.{shape_of}
 use Rattle.gql_meaning.specs.Counted.{asked_count}
-use Rattle.gql_meaning.specs.Execution.{Execution, setting_in}
+use Rattle.gql_collect.specs.Execution.{Execution, setting_in}
 use Rattle.gql_meaning.specs.Responses.{Asked, asking_keys, last_world, mutation_apart}
 use Rattle.gql_meaning.specs.Responses.{mutation_merged}
 use Rattle.gql_meaning.specs.Responses.{query_apart, query_merged, world_behind_first}

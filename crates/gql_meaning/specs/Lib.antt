@@ -1,6 +1,5 @@
 pub mod Completion
 pub mod Counted
-pub mod Execution
 pub mod Laws
+pub mod Outcomes
 pub mod Responses
-pub mod TableSetting

@@ -9,7 +9,8 @@ use Rattle.gql_base.specs.declared.value.Value.{Value}
 use Rattle.gql_doc.specs.declared.document.Field.{Field}
 use Rattle.gql_doc.specs.declared.document.Positioned.{Positioned}
 use Rattle.gql_doc.specs.declared.document.Selection.{Selection}
-use Rattle.gql_meaning.specs.Execution.{Asking, Execution, field_asking, field_outcome, setting_in}
+use Rattle.gql_collect.specs.Execution.{Asking, Execution, field_asking, setting_in}
+use Rattle.gql_meaning.specs.Outcomes.{field_outcome}
 use Rattle.gql_place.specs.Answered.{answered}
 use Rattle.gql_place.specs.Faults.{faults_of}
 use Rattle.gql_place.specs.HeaderOps.{ops_of}

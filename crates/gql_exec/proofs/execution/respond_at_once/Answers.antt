@@ -4,12 +4,12 @@ use Rattle.gql_tasks.specs.Parts.{due_by}
 use Rattle.gql_tasks.specs.Progress.{seen}
 use Rattle.gql_exec.proofs.BareLemmas.{response-bare, stopped-bare, whole-bare}
 use Rattle.gql_exec.proofs.ExecutionLemmas.{halts_by, response_same, runs_by}
-use Rattle.gql_merged.proofs.ApartLemmas.{alike_by}
+use Rattle.gql_engine.proofs.ApartLemmas.{alike_by}
 use Rattle.gql_exec.specs.Bare.{bare_scene}
 use Rattle.gql_exec.specs.Counting.{tasks_by}
 use Rattle.gql_exec.specs.Execution.{HaltsAs}
 use Rattle.gql_exec.specs.PlaceResponse.{response_at}
-use Rattle.gql_merged.specs.Grouped.{keeps_whole}
+use Rattle.gql_collect.specs.GroupFields.{keeps_whole}
 use Rattle.gql_request.specs.QueryEnv.{levels_of}
 use Rattle.gql_exec.proofs.execution.respond_at_once.Goals as goal
 

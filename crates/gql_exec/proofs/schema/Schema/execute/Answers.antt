@@ -1,7 +1,7 @@
 use Rattle.gql_tasks.specs.Progress.{seen}
 use Rattle.gql_exec.proofs.SchemaOnlyLemmas.{starts_ok}
 use Rattle.gql_exec.specs.Execution.{asks}
-use Rattle.gql_merged.specs.declared.basis.Grouping.TheVariants as grouping
+use Rattle.gql_collect.specs.declared.basis.Grouping.TheVariants as grouping
 use Rattle.gql_exec.proofs.schema.Schema.execute.Goals as goal
 
 pub returns-clause-starts : goal.returns-clause-starts

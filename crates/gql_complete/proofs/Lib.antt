@@ -1,0 +1,5 @@
+pub mod CompleteLemmas
+pub mod FillLemmas
+pub mod LeafLemmas
+pub mod ListingLemmas
+pub mod ObjectListLemmas

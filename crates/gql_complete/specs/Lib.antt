@@ -1,0 +1,5 @@
+pub mod CompleteAbstract
+pub mod CompleteValue
+pub mod FillShape
+pub mod FoundObjects
+pub mod ObjectLists

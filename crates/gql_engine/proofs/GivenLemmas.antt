@@ -1,0 +1,152 @@
+-- What a task comes to with its answer, and the tasks under it.
+use Rattle.std.proofs.Common.{rules, ◌≡◌, not, Bool, List, [], ◌++◌, map, refl, ap, subst, sym, ◌∙◌}
+use Rattle.std.specs.List.{AllByRecursion, flat_map}
+use Rattle.std.specs.declared.alloc.Global.{Global}
+use Rattle.std.specs.declared.rc.Rc.{Rc}
+use Rattle.std.specs.declared.vec.Vec.{Vec}
+use Rattle.gql_base.specs.TypeRef.{is_nullable}
+use Rattle.gql_base.specs.declared.path_segment.PathSegment.{PathSegment}
+use Rattle.gql_base.specs.declared.pos.Pos.{Pos}
+use Rattle.gql_base.specs.declared.value.Value.{Value}
+use Rattle.gql_tasks.specs.declared.given.Given.TheVariants.{Answered}
+use Rattle.gql_meaning.specs.Completion.{Completed, shape_of}
+use Rattle.gql_meaning.specs.Responses.{Members}
+use Rattle.gql_place.proofs.PieceLemmas.{leaf_same}
+use Rattle.gql_place.specs.declared.piece.Piece.TheVariants as piece
+use Rattle.gql_place.specs.declared.place.Tree.TheVariants as tree
+use Rattle.gql_place.specs.declared.shape.Shape.{the_lemmas}
+use Rattle.gql_place.specs.declared.shape.Shape.TheVariants as shape
+use Rattle.gql_resolve.specs.declared.answer.Answer.{Answer}
+use Rattle.gql_schema.specs.Table.{types_of}
+use Rattle.gql_select.specs.Collected.{own_selections}
+use Rattle.gql_collect.specs.Asks.{type_in}
+use Rattle.gql_select.specs.Behind.{all_behind}
+use Rattle.gql_collect.specs.GroupFields.{keeps_whole}
+use Rattle.gql_engine.specs.KeptTasks.{IsFilled}
+use Rattle.gql_collect.specs.Groups.{united}
+use Rattle.gql_engine.specs.Jobs.{completed_by, Job, jobs_beneath}
+use Rattle.gql_engine.specs.Parents.{jobs_of_standing, spot_found, Standing, standing_at, standing_behind}
+use Rattle.gql_engine.specs.Assembly.{members_each, place_made}
+use Rattle.gql_complete.specs.CompleteValue.{IsLeaf, leaf_in}
+use Rattle.gql_complete.specs.FillShape.{tree_with}
+use Rattle.gql_engine.specs.PlanHolds.{ComesAlone, IsLeafAlone}
+use Rattle.gql_engine.specs.ListParents.{AreBelow}
+use Rattle.gql_engine.specs.CompletedObjects.{IsPlaced}
+use Rattle.gql_complete.specs.FoundObjects.{bare, Spot, spots}
+use Rattle.gql_engine.specs.Tasks.{IsDeep, job_of_task, job_with, path_with}
+use Rattle.gql_collect.specs.declared.group.Group.{Group}
+use Rattle.gql_engine.specs.declared.assembly.kept.Filled.{Filled}
+use Rattle.gql_engine.specs.declared.assembly.kept.Placed.{Placed}
+use Rattle.gql_collect.specs.declared.level.Node.{Node}
+use Rattle.gql_engine.specs.declared.objects.parent.Found.{Found}
+use Rattle.gql_engine.specs.declared.objects.parent.Parent.{Parent}
+use Rattle.gql_engine.specs.declared.execute_field.task.Task.{Task}
+use Rattle.gql_engine.proofs.ObjectLevelLemmas.{deep_spots, found_below, placed_jobs}
+use Rattle.gql_collect.proofs.LevelLemmas.{pos_with_others}
+use Rattle.gql_engine.proofs.FoundLemmas.{spots-Leaf}
+
+-- a united field stands where its first occurrence does
+pub pos_united : (group : Group) → group.first.now.pos ≡ (united group).pos
+pos_united group = sym (pos_with_others group.first.now (all_behind group.more.items))
+
+-- objects that were found in a completed answer
+module _ {V : Type 0} (made whole : Completed V) (path : List PathSegment) (start found : List (Found V)) (whole_is : made ≡ whole) (none : start ≡ [])
+    (found_is : map spot_found found ≡ map spot_found start ++ spots made path) where
+  found_spots : map spot_found found ≡ spots whole path
+  found_spots = found_is ∙ ap (λ fs. map spot_found fs ++ spots made path) none ∙ ap (λ w. spots w path) whole_is
+
+  pub completed_below : AreBelow (spots whole path)
+  completed_below = subst AreBelow found_spots (found_below found)
+
+  pub completed_parents : (at : Spot V → Standing V) (parents : List (Standing V)) → parents ≡ map at (map spot_found found) → parents ≡ map at (spots whole path)
+  completed_parents at parents is = is ∙ ap (map at) found_spots
+
+  pub completed_tasks : (at : Spot V → Standing V) (old new : List (Job V)) → new ≡ old ++ flat_map jobs_of_standing (map at (map spot_found found))
+      → new ≡ old ++ flat_map jobs_of_standing (map at (spots whole path))
+  completed_tasks at old new is = is ∙ ap (λ ss. old ++ flat_map jobs_of_standing (map at ss)) found_spots
+
+module _ {V : Type 0} (parent : Parent V) (node : Node) (answer : Answer V) where
+  -- an answer that is completed and taken apart, with its objects
+  pub record Takes (whole : Completed V) (found : List (Spot V)) : Type 0 where
+    pub whole_is : whole ≡ shape_of (types_of node.basis.types.now) (type_in node.asks) answer.result
+    pub found_is : found ≡ spots whole (path_with parent.held node)
+    pub below : AreBelow found
+
+  -- an answer whose objects are placed
+  pub takes_placed : (old new : List (Job V)) (placed : Placed V)
+      → IsPlaced node (path_with parent.held node) old new (shape_of (types_of node.basis.types.now) (type_in node.asks) answer.result) placed
+      → Takes (shape_of (types_of node.basis.types.now) (type_in node.asks) answer.result)
+      (spots (shape_of (types_of node.basis.types.now) (type_in node.asks) answer.result) (path_with parent.held node))
+  takes_placed old new placed is = record { whole_is = refl; found_is = refl; below = is.below }
+
+  module _ (leaf : Value) (is : IsLeaf (shape_of (types_of node.basis.types.now) (type_in node.asks) answer.result) leaf) where
+    -- an answer that is a leaf as it stands has no objects
+    leaf_takes : Takes (shape.Leaf leaf) []
+    leaf_takes = record { whole_is = sym is; found_is = sym (spots-Leaf V leaf (path_with parent.held node)); below = tt }
+
+    bare-Leaf : bare {V = V} (shape.Leaf leaf) ≡ shape.Leaf leaf
+    bare-Leaf = search (rules, the_lemmas)
+
+  module _ (whole : Completed V) (found : List (Spot V)) (takes : Takes whole found) where
+    spots_are : found ≡ spots (completed_by (job_with parent node) answer) (path_with parent.held node)
+    spots_are = takes.found_is ∙ ap (λ c. spots c (path_with parent.held node)) takes.whole_is
+
+    pub takes_filled : (filled : Filled V) (nullable : Bool)
+        → filled.pos ≡ node.group.first.now.pos → nullable ≡ is_nullable (type_in node.asks) → filled.non_null ≡ not nullable
+        → filled.added ≡ answer.added → filled.headers ≡ answer.headers → filled.whole ≡ keeps_whole node.basis.grouping
+        → filled.shape ≡ bare whole → map standing_behind filled.parents.items ≡ map (standing_at node.basis (own_selections (united node.group))) found
+        → IsFilled (job_with parent node) answer filled
+    takes_filled filled nullable pos_is nullable_is non_null_is added_is headers_is whole_is shape_is parents_are = record {
+      pos_is = pos_is ∙ pos_united node.group;
+      non_null_is = non_null_is ∙ ap not nullable_is;
+      added_is = added_is;
+      headers_is = headers_is;
+      whole_is = whole_is;
+      shape_is = shape_is ∙ ap bare takes.whole_is;
+      parents_are = parents_are ∙ ap (map (standing_at node.basis (own_selections (united node.group)))) spots_are;
+    }
+
+    pub takes_jobs : (old new : List (Job V))
+        → new ≡ old ++ flat_map jobs_of_standing (map (standing_at node.basis (own_selections (united node.group))) found)
+        → new ≡ old ++ jobs_beneath (job_with parent node) answer
+    takes_jobs old new added =
+        added
+        ∙ ap (λ ss. old ++ flat_map jobs_of_standing (map (standing_at node.basis (own_selections (united node.group))) ss)) spots_are
+        ∙ ap (λ js. old ++ js) (placed_jobs node.basis (own_selections (united node.group)) (spots (completed_by (job_with parent node) answer) (path_with parent.held node)))
+
+    pub takes_deep : AllByRecursion IsDeep (jobs_beneath (job_with parent node) answer)
+    takes_deep = deep_spots (job_with parent node) answer (subst AreBelow spots_are takes.below)
+
+-- what an answer that is a leaf as it stands comes to, with no objects
+abbrev alone_with : {V : Type 0} → Node → Answer V → Vec (Rc (Parent V) Global) Global → Filled V
+alone_with node answer none = record {
+  pos = node.group.first.now.pos;
+  non_null = not (is_nullable (type_in node.asks));
+  added = answer.added;
+  headers = answer.headers;
+  whole = keeps_whole node.basis.grouping;
+  shape = shape.Leaf (leaf_in answer.result);
+  parents = none;
+}
+
+made-Leaf : (pos : Pos) (leaf : Value) (members : List Members) → tree_with pos (shape.Leaf leaf) members ≡ tree.Leaf leaf
+made-Leaf pos leaf members = search (rules, the_lemmas)
+
+-- a leaf as it stands, with nothing beside it, is all that is kept of its place
+pub leaf_comes : {V : Type 0} (task : Task V) (answer : Answer V) (none : Vec (Rc (Parent V) Global) Global) → none.items ≡ [] → IsLeafAlone task.node.value answer
+    → ComesAlone (Answered answer) (job_of_task task) (piece.Data (leaf_in answer.result))
+leaf_comes {V = V} task answer none none_is alone =
+    let node = task.node.value in
+    let parent = task.parent.value in
+    let leaf = leaf_in answer.result in
+    let filled : Filled V = alone_with node answer none in
+    record {
+      filled = filled;
+      fits =
+          takes_filled parent node answer (shape.Leaf leaf) [] (leaf_takes parent node answer leaf alone.leaf) filled (is_nullable (type_in node.asks))
+          refl refl refl refl refl refl (sym (bare-Leaf parent node answer leaf alone.leaf)) (ap (map standing_behind) none_is);
+      none = none_is;
+      made = λ apart.
+          leaf_same (keeps_whole node.basis.grouping) leaf (place_made filled []) alone.part alone.added alone.headers
+          (made-Leaf node.group.first.now.pos leaf (members_each (map standing_behind none.items) []));
+    }

@@ -1,0 +1,41 @@
+-- What executions by groups are: merged execution, or apart execution.
+use Rattle.std.proofs.Common.{◌≡◌, ℕ, refl, ap}
+use Rattle.gql_engine.specs.declared.scene.Scene.{Scene}
+use Rattle.gql_place.specs.Join.{join}
+use Rattle.gql_resolve.specs.Call.{Call}
+use Rattle.gql_resolve.specs.declared.answer.Answer.{Answer}
+use Rattle.gql_select.proofs.GroupLemmas.{by_merged_groups}
+use Rattle.gql_select.specs.Collected.{own_selections}
+use Rattle.gql_select.specs.Grouped.{below_root, in_turn}
+use Rattle.gql_engine.specs.ExecuteQuery.{apart_response, merged_response, place_at_root, placing_in, response_by, root_selections, root_spot}
+use Rattle.gql_engine.specs.ExecuteMutation.{answering, keys_of, levels_beneath, serial_apart_response, serial_response, serial_response_by}
+use Rattle.gql_collect.specs.declared.basis.Grouping.TheVariants as grouping
+
+module _ {V : Type 0} (scene : Scene V) where
+  -- by groups of one key: merged execution
+  pub by_key_is_merged : (answer : Call V → Answer V) (n : ℕ) → response_by grouping.ByKey scene answer n ≡ merged_response scene answer n
+  by_key_is_merged answer n =
+      ap (place_at_root scene) (by_merged_groups (placing_in scene answer) join n (root_spot scene).object (root_spot scene).parent (root_selections scene))
+
+  -- so it is where places are kept whole
+  pub by_key_whole_is_merged : (answer : Call V → Answer V) (n : ℕ) → response_by grouping.ByKeyWhole scene answer n ≡ merged_response scene answer n
+  by_key_whole_is_merged answer n = by_key_is_merged answer n
+
+  -- of each occurrence alone: apart execution
+  pub each_is_apart : (answer : Call V → Answer V) (n : ℕ) → response_by grouping.Each scene answer n ≡ apart_response scene answer n
+  each_is_apart answer n = refl
+
+  module _ {W : Type 0} (answer : Call V → W → Answer V) (effect : Call V → W → W) where
+    pub serial_by_key : (world : W) (n : ℕ) → serial_response_by scene answer effect grouping.ByKey world n ≡ serial_response scene answer effect world n
+    serial_by_key world n =
+        λ i. place_at_root scene
+        (in_turn (answering scene answer effect).effect
+        (λ before behind field. (answering scene answer effect).root before (root_spot scene).object (root_spot scene).parent field
+        (λ object parent. by_merged_groups (below_root (answering scene answer effect) behind) join (levels_beneath n) object parent (own_selections field) i))
+        world (keys_of scene))
+
+    pub serial_by_key_whole : (world : W) (n : ℕ) → serial_response_by scene answer effect grouping.ByKeyWhole world n ≡ serial_response scene answer effect world n
+    serial_by_key_whole world n = serial_by_key world n
+
+    pub serial_each : (world : W) (n : ℕ) → serial_response_by scene answer effect grouping.Each world n ≡ serial_apart_response scene answer effect world n
+    serial_each world n = refl

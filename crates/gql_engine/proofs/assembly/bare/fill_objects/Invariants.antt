@@ -1,0 +1,16 @@
+use Rattle.std.proofs.Common.{◌≡◌, ℕ, ◌+◌, map}
+use Rattle.gql_place.specs.Pieces.{place_in, places_in}
+use Rattle.gql_engine.specs.Assembly.{AreApart, members_each}
+use Rattle.gql_complete.specs.FillShape.{all_trees}
+use Rattle.gql_engine.specs.Parents.{standing_behind}
+use Rattle.gql_engine.specs.PlaceStore.{present}
+use Rattle.gql_engine.proofs.BareLemmas.{IsGoing, some_objects}
+use Rattle.gql_engine.proofs.assembly.bare.fill_objects.Given as goal
+
+abbrev pub invariant-loop-object : goal.invariant-loop-object
+invariant-loop-object g l =
+    (left : ℕ) → l._object + left ≡ l.count → AreApart l.whole (map standing_behind l.initial.parents.items)
+    → IsGoing l.pos l.non_null l.whole left (places_in l.pieces)
+    (all_trees l.pos l.non_null (some_objects l.count)
+    (members_each (map standing_behind l.initial.parents.items) (map place_in (present l.initial.own.items))))
+    (map standing_behind l.parents.items) (map place_in (present l.own.items))

@@ -1,0 +1,48 @@
+//! Apart execution of an operation that is no mutation (GraphQL, October 2021, section 6.3.2).
+ghost use Rattle.std.specs.Prelude.{ℕ, ◌≡◌, false, IfErr, IfOk, OnErr, OnOk};
+ghost use Rattle.gql_tasks.specs.Parts.{due_by};
+ghost use Rattle.gql_tasks.specs.Progress.{RunsWhole, RunStopped, seen};
+ghost use Rattle.gql_resolve.specs.Call.{is_mutation};
+ghost use Rattle.gql_engine.specs.ExecuteQuery.{apart_response, apart_work, Nests};
+
+use crate::execute_query::run_on_blank;
+use crate::scene::Scene;
+use gql_base::NoMemory;
+use gql_collect::Grouping;
+use gql_place::Place;
+use gql_request::Hooks;
+use gql_resolve::{ResolverSet, Turns};
+use std::alloc::Global;
+use std::marker::Brand;
+use std::sync::ledger::Blank;
+
+/// The place of the whole response of a query: each occurrence of a field is one task, the tasks
+/// take the turns that are chosen for them, and places of one key are joined.
+pub fn run_apart<R: ResolverSet, P: Turns>(
+    alloc: Global,
+    scene: &Scene<'_, R::Own>,
+    resolvers: &mut R,
+    hooks: &mut Hooks,
+    turns: &mut P,
+) -> Result<Place, NoMemory>
+    requires { is_mutation scene.now.env.now.operation.node.ty ≡ false }
+    ensures places { R.is_lawful resolvers.old → (n : ℕ) → Nests scene.now n
+        → IfOk result (λ place. place
+        ≡ apart_response scene.now (due_by R.ResolverSet resolvers.old) n) }
+    ensures rules { R.rules resolvers.new ≡ R.rules resolvers.old }
+    ensures lawful { R.is_lawful resolvers.old → R.is_lawful resolvers.new }
+    ensures paced { R.is_paced resolvers.old → R.is_paced resolvers.new }
+    ensures world { R.is_lawful resolvers.old → R.world resolvers.new ≡ R.world resolvers.old }
+    ensures record { R.is_lawful resolvers.old → OnOk result
+        (RunsWhole R.ResolverSet P.Turns (apart_work scene.now)
+        (seen resolvers.old turns.old) (seen resolvers.new turns.new)) }
+    ensures stopped { R.is_lawful resolvers.old → OnErr result
+        (RunStopped R.ResolverSet P.Turns (apart_work scene.now)
+        (seen resolvers.old turns.old) (seen resolvers.new turns.new)) }
+    ensures roots { IfErr result (λ want. want.roots ≡ 0) }
+{
+    let by = Grouping::Each;
+    let blank = Blank::new(1);
+    let piece = run_on_blank::<R, P, Brand>(alloc, by, scene, resolvers, hooks, turns, blank)?;
+    Ok(piece.into_place(alloc))
+}

@@ -1,8 +1,0 @@
-use Rattle.std.proofs.Common.{◌≡◌, take}
-use Rattle.gql_resolve.specs.Variables.{known_in}
-use Rattle.gql_select.specs.Constants.{constants}
-use Rattle.gql_merged.specs.ArgumentValues.{declared_of}
-use Rattle.gql_merged.proofs.argument_values.argument_values.Given as goal
-
-abbrev pub invariant-loop-place : goal.invariant-loop-place
-invariant-loop-place l = l.values ≡ constants (known_in l.env) (declared_of (take l.place l.declared)) l.written

@@ -1,5 +1,0 @@
-use Rattle.gql_merged.proofs.ApartLemmas.{apart_is_merged}
-use Rattle.gql_merged.proofs.laws.agreeing_apart_is_merged.Goals as goal
-
-pub returns : goal.returns
-returns g c = λ scene answer n agree. apart_is_merged scene answer n agree

@@ -1,5 +1,0 @@
-use Rattle.gql_merged.proofs.AskingLemmas.{asking_is}
-use Rattle.gql_merged.proofs.laws.fields_ask_their_calls.Goals as goal
-
-pub returns : goal.returns
-returns g c = λ is_root execution parent object field. asking_is is_root execution parent object field

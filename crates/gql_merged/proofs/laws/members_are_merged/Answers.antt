@@ -1,5 +1,0 @@
-use Rattle.gql_merged.proofs.MergedLemmas.{members_alone}
-use Rattle.gql_merged.proofs.laws.members_are_merged.Goals as goal
-
-pub returns : goal.returns
-returns g c = λ basis answer n spot selections. members_alone basis answer n spot selections

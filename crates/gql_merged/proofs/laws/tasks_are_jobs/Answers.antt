@@ -1,5 +1,0 @@
-use Rattle.gql_merged.proofs.JobLemmas.{level_jobs}
-use Rattle.gql_merged.proofs.laws.tasks_are_jobs.Goals as goal
-
-pub returns : goal.returns
-returns g c = λ basis spot selections. level_jobs basis spot selections

@@ -1,5 +1,0 @@
-use Rattle.gql_merged.proofs.MergedLemmas.{tree_merged}
-use Rattle.gql_merged.proofs.laws.trees_are_merged.Goals as goal
-
-pub returns : goal.returns
-returns g c = λ basis answer n pos field comes path. tree_merged basis answer n pos field comes path

@@ -1,5 +1,0 @@
-use Rattle.gql_merged.proofs.LevelLemmas.{asked_first}
-use Rattle.gql_merged.proofs.levels.node_of.Goals as goal
-
-pub returns : goal.returns
-returns c = asked_first c.args.basis.now c.args.object.now c.args.group c.in_ok-asks.asks c.in_ok-asks.ensures

@@ -1,5 +1,0 @@
-use Rattle.std.proofs.Common.{◌≡◌, ◌++◌, take}
-use Rattle.gql_merged.proofs.uniting.add_all.Given as goal
-
-abbrev pub invariant-loop-selection : goal.invariant-loop-selection
-invariant-loop-selection l = l.items ≡ l.initial.items ++ take l.selection-index l.more

@@ -1,7 +1,0 @@
-use Rattle.gql_merged.proofs.UnitingLemmas.{item_more}
-use Rattle.gql_merged.proofs.uniting.united_item.Goals as goal
-
-pub loop-occurrence-preserved : goal.loop-occurrence-preserved
-loop-occurrence-preserved c =
-    item_more c.args.first.now c.args.more.now c.loop-occurrence.occurrence-index c.occurrence-item.result _ _ c.loop-occurrence-test.true c.occurrence-item.is
-    c.loop-occurrence.invariant c.in_ok-add_selections.ensures
