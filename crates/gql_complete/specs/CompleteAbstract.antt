@@ -1,4 +1,5 @@
--- Interfaces and unions, the types that can be several objects (GraphQL, October 2021, sections 3.7 and 3.8).
+-- Interfaces and unions, the types that can be several objects (GraphQL, October 2021, sections 3.7
+-- and 3.8).
 use Rattle.std.specs.Prelude.{ℕ, List}
 use Rattle.gql_meaning.specs.Completion.{AbstractTexts, interface_texts, union_texts}
 use Rattle.gql_complete.specs.declared.complete_abstract.AbstractKind.{AbstractKind}

@@ -21,7 +21,8 @@ pub data IsNamed : TypeRef → Type 0 where
 pub data IsListing (non_null : Bool) : TypeRef → Type 0 where
   list_of_names : (inner : TypeRef) → IsNamed inner → non_null ≡ not (is_nullable inner)
       → IsListing non_null (ref.List inner)
-  non_null_list : (inner : TypeRef) → IsListing non_null inner → IsListing non_null (ref.NonNull inner)
+  non_null_list : (inner : TypeRef) → IsListing non_null inner
+      → IsListing non_null (ref.NonNull inner)
 
 -- a value is a list
 pub record IsListValue (value : Value) : Type 0 where

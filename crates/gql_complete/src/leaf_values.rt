@@ -1,5 +1,5 @@
-//! Results that come to the leaf that they are as they stand. They are known by one look, and need no
-//! completion (GraphQL, October 2021, section 6.4.3).
+//! Results that come to the leaf that they are as they stand. They are known by one look, and need
+//! no completion (GraphQL, October 2021, section 6.4.3).
 ghost use Rattle.std.specs.Prelude.{◌≡◌, IsTrue, Some};
 ghost use Rattle.gql_base.specs.Pairs.{under};
 ghost use Rattle.gql_base.specs.TypeRef.{innermost};

@@ -1,8 +1,12 @@
 -- The objects of a completed answer, each with its fields and its tasks.
-use Rattle.std.specs.Prelude.{◌≡◌, List, ◌++◌, map}
+use Rattle.std.specs.Prelude.{◌≡◌, List, ◌++◌, map, Option, Result}
 use Rattle.std.specs.List.{flat_map}
 use Rattle.gql_base.specs.declared.path_segment.PathSegment.{PathSegment}
-use Rattle.gql_meaning.specs.Completion.{Completed}
+use Rattle.gql_base.specs.declared.error.Error.{Error}
+use Rattle.gql_meaning.specs.Completion.{Completed, shape_of}
+use Rattle.gql_resolve.specs.declared.field_value.FieldValue.{FieldValue}
+use Rattle.gql_schema.specs.Table.{types_of}
+use Rattle.gql_collect.specs.Asks.{type_in}
 use Rattle.gql_select.specs.Collected.{own_selections}
 use Rattle.gql_collect.specs.Groups.{united}
 use Rattle.gql_engine.specs.Jobs.{Job}
@@ -13,6 +17,10 @@ use Rattle.gql_engine.specs.declared.assembly.kept.Placed.{Placed}
 use Rattle.gql_collect.specs.declared.level.Node.{Node}
 
 module _ {V : Type 0} where
+  -- what a result comes to at the type of a field
+  abbrev pub shape_asked : Node → Result (Option (FieldValue V)) Error → Completed V
+  shape_asked node outcome = shape_of (types_of node.basis.types.now) (type_in node.asks) outcome
+
   -- objects under a field, with its selections
   abbrev pub standing_beneath : Node → List (Spot V) → List (Standing V)
   standing_beneath node found =

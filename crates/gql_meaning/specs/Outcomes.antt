@@ -36,7 +36,8 @@ module _ {V : Type 0} (is_root : Bool) (execution : Execution) (answer : Call V 
       → Outcome (List ℕ) (FieldValue V)
   named_outcome object parent name arguments =
       if is_typename name
-      then typename_outcome object else answered_outcome (asking is_root execution object parent name arguments)
+      then typename_outcome object
+      else answered_outcome (asking is_root execution object parent name arguments)
 
   -- what an occurrence comes to, at the constants of its arguments
   abbrev pub field_outcome : List ℕ → FieldValue V → Positioned Field

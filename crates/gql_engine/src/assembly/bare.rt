@@ -37,6 +37,16 @@ enum Left {
     Objects(bool, usize),
 }
 
+/// A list of objects: where it stands, whether none of them may be null, how many they are, and
+/// whether places are kept whole.
+#[derive(Clone, Copy)]
+struct ObjectList {
+    pos: Pos,
+    non_null: bool,
+    count: usize,
+    whole: bool,
+}
+
 impl Model for Bare {
     ghost use Rattle.gql_engine.specs.Bare.{shape_left};
     ghost use Rattle.gql_complete.specs.FoundObjects.{Bare as BareShape};
@@ -89,7 +99,13 @@ impl Bare {
         match self.left {
             Left::Shape(shape) => fill_shape(alloc, shape, pos, whole, parents, own),
             Left::Objects(non_null, count) => {
-                fill_list(alloc, non_null, count, pos, whole, parents, own)
+                let list = ObjectList {
+                    pos,
+                    non_null,
+                    count,
+                    whole,
+                };
+                fill_list(alloc, list, parents, own)
             }
         }
     }
@@ -132,47 +148,43 @@ fn all_members<'a, V: Drop>(
     Ok(members)
 }
 
-/// The tree of a list of as many objects.
+/// The tree of a list of objects.
 fn fill_list<'a, V: Drop>(
     alloc: Global,
-    non_null: bool,
-    count: usize,
-    pos: Pos,
-    whole: bool,
+    list: ObjectList,
     parents: Vec<Rc<Parent<'a, V>>>,
     own: &mut VecDeque<Option<Piece>>,
 ) -> Made<Tree>
-    ensures { AreApart whole (map standing_behind parents.entry.items)
-        → IfOk result (λ made. SameTree whole made (tree_with pos
-        (shape.List non_null (replicate {A = BareShape} count (shape.Object tt tt)))
+    ensures { AreApart list.whole (map standing_behind parents.entry.items)
+        → IfOk result (λ made. SameTree list.whole made (tree_with list.pos
+        (shape.List list.non_null (replicate {A = BareShape} list.count (shape.Object tt tt)))
         (members_each (map standing_behind parents.entry.items)
         (map place_in (present own.old.items))))) }
 {
     let mut parents = VecDeque::from_vec(parents);
-    let pieces = fill_objects(alloc, non_null, count, pos, whole, &mut parents, own)?;
-    pieces.into_list(alloc, whole)
+    let pieces = fill_objects(alloc, list, &mut parents, own)?;
+    pieces.into_list(alloc, list.whole)
 }
 
-/// The places of as many objects in a list.
+/// The places of its objects.
 fn fill_objects<'a, V: Drop>(
     alloc: Global,
-    non_null: bool,
-    count: usize,
-    pos: Pos,
-    whole: bool,
+    list: ObjectList,
     parents: &mut VecDeque<Rc<Parent<'a, V>>>,
     own: &mut VecDeque<Option<Piece>>,
 ) -> Made<Pieces>
-    ensures { AreApart whole (map standing_behind parents.old.items)
-        → IfOk result (λ pieces. SameItems whole (places_in pieces) (all_trees pos non_null
-        (replicate {A = BareShape} count (shape.Object tt tt))
+    ensures { AreApart list.whole (map standing_behind parents.old.items)
+        → IfOk result (λ pieces. SameItems list.whole (places_in pieces)
+        (all_trees list.pos list.non_null
+        (replicate {A = BareShape} list.count (shape.Object tt tt))
         (members_each (map standing_behind parents.old.items)
         (map place_in (present own.old.items))))) }
 {
-    let mut pieces = Pieces::with_capacity(alloc, whole, count)?;
-    for _object in 0..count {
-        let tree = next_object(alloc, whole, parents, own)?;
-        pieces.push(alloc, item_piece(alloc, pos, non_null, whole, tree)?)?;
+    let mut pieces = Pieces::with_capacity(alloc, list.whole, list.count)?;
+    for _object in 0..list.count {
+        let tree = next_object(alloc, list.whole, parents, own)?;
+        let piece = item_piece(alloc, list.pos, list.non_null, list.whole, tree)?;
+        pieces.push(alloc, piece)?;
     }
     Ok(pieces)
 }

@@ -13,7 +13,6 @@ use crate::execute_field::task::Task;
 use crate::objects::parent::Parent;
 use gql_base::{Error, Items, Made, Value};
 use gql_collect::Node;
-use gql_complete::Known;
 use gql_place::Shape;
 use gql_resolve::Answer;
 use gql_tasks::Given;
@@ -62,16 +61,10 @@ fn fill_answer<'a, V: Drop>(
         added,
         headers,
     } = answer;
-    let ty = node.asks.ty();
-    let known = Known {
-        types: node.basis.types,
-        name: ty.type_name(),
-        ty: node.ty,
-    };
-    let placed = place_answer(alloc, &parent.held, node, &known, ty, result, tasks)?;
+    let placed = place_answer(alloc, &parent.held, node, result, tasks)?;
     Ok(Filled {
         pos: node.group.first.pos,
-        non_null: !ty.is_nullable(),
+        non_null: !node.asks.ty().is_nullable(),
         added,
         headers,
         whole: node.basis.grouping.keeps_whole(),

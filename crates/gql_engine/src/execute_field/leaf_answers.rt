@@ -7,11 +7,12 @@ ghost use Rattle.gql_collect.specs.Asks.{is_call};
 ghost use Rattle.gql_engine.specs.PlanHolds.{ComesAlone, IsLeafAlone};
 ghost use Rattle.gql_engine.specs.Tasks.{job_of_task};
 
+use crate::execute_field::complete_answer::known_of;
 use crate::execute_field::task::Task;
 use crate::objects::parent::Parent;
 use gql_base::Value;
 use gql_collect::Node;
-use gql_complete::{Known, is_leaf, leaf_in};
+use gql_complete::{is_leaf, leaf_in};
 use gql_resolve::Answer;
 use gql_tasks::Given;
 use std::alloc::Global;
@@ -62,12 +63,7 @@ fn is_leaf_alone<V>(node: &Node<'_>, answer: &Answer<V>) -> bool
     requires { is_call node.now.asks ≡ true }
     ensures { IsTrue result → IsLeafAlone node.now answer.now }
 {
-    let ty = node.asks.ty();
-    let known = Known {
-        types: node.basis.types,
-        name: ty.type_name(),
-        ty: node.ty,
-    };
+    let known = known_of(node);
     let alone = answer.added.is_empty() && answer.headers.is_empty();
-    !node.basis.grouping.keeps_whole() && alone && is_leaf(&known, ty, &answer.result)
+    !node.basis.grouping.keeps_whole() && alone && is_leaf(&known, node.asks.ty(), &answer.result)
 }

@@ -1,7 +1,9 @@
 //! The objects of a list, each with its tasks. They share their fields and the steps to the list.
-ghost use Rattle.std.specs.Prelude.{◌≡◌, [], ◌++◌, map, IfOk, MatchOption, OnOk, Some};
+ghost use Rattle.std.specs.Prelude.{◌≡◌, [], ◌++◌, map, true, IfOk, MatchOption, OnOk, Some};
 ghost use Rattle.std.specs.List.{flat_map};
 ghost use Rattle.gql_base.specs.Kinds.{list_of};
+ghost use Rattle.gql_base.specs.TypeRef.{innermost};
+ghost use Rattle.gql_collect.specs.Asks.{is_call, type_in};
 ghost use Rattle.gql_resolve.specs.declared.field_value.FieldValue.TheVariants as kind;
 ghost use Rattle.gql_engine.specs.ObjectLevels.{IsBeneath};
 ghost use Rattle.gql_engine.specs.ListParents.{item_standing};
@@ -26,38 +28,35 @@ use gql_resolve::FieldValue;
 use std::alloc::Global;
 use std::rc::Rc;
 
-/// What the objects of a name share in a list under a field.
-fn shared_by<'a, V>(
-    alloc: Global,
-    held: &Held<'a, V>,
-    node: &Node<'a>,
-    object: &str,
-) -> Made<Shared<'a>>
-    ensures level { IfOk result (λ shared. IsBeneath node.entry.now object.now
-        shared.level.value) }
+/// What the objects of a field's type share in a list under it.
+fn shared_by<'a, V>(alloc: Global, held: &Held<'a, V>, node: &Node<'a>) -> Made<Shared<'a>>
+    requires { is_call node.now.asks ≡ true }
+    ensures level { IfOk result (λ shared. IsBeneath node.entry.now
+        (innermost (type_in node.entry.now.asks)) shared.level.value) }
     ensures path { IfOk result (λ shared. path_of shared.steps.value.items
         ≡ path_with held.entry.now node.entry.now) }
 {
+    let object = node.asks.ty().type_name();
     let level = Rc::new(alloc, make_level(alloc, node, object)?)?;
     let steps = Rc::new(alloc, steps_with(alloc, held, node)?)?;
     Ok(Shared { level, steps })
 }
 
-/// The objects of a name that a result is a list of, each with its tasks after the others.
+/// The objects of a field's type that a result is a list of, each with its tasks after the others.
 pub(crate) fn place_list<'a, V: Drop>(
     alloc: Global,
     held: &Held<'a, V>,
     node: &Node<'a>,
-    object: &str,
     non_null: bool,
     outcome: Result<Option<FieldValue<V>>, Error>,
     tasks: &mut Vec<Task<'a, V>>,
 ) -> Made<Placed<'a, V>>
+    requires { is_call node.now.asks ≡ true }
     ensures { IfOk result (IsPlaced node.entry.now (path_with held.entry.now node.entry.now)
         (jobs_in tasks.old.items) (jobs_in tasks.new.items)
-        (objects_in object.now non_null (items_given outcome))) }
+        (objects_in (innermost (type_in node.entry.now.asks)) non_null (items_given outcome))) }
 {
-    let shared = shared_by(alloc, held, node, object)?;
+    let shared = shared_by(alloc, held, node)?;
     let parents = place_objects(alloc, &shared, outcome, tasks)?;
     Ok(Placed {
         shape: Bare::objects(non_null, parents.len()),

@@ -9,21 +9,21 @@ use Rattle.gql_engine.proofs.assembly.bare.fill_objects.Goals as goal
 
 pub loop-object-init : goal.loop-object-init
 loop-object-init g c = λ left is apart.
-    let whole : left ≡ c.args.count = omega (arith, is) in
-    going_first c.args.pos c.args.non_null c.args.whole left c.args.count (places_in c.in_ok-pieces.pieces) (map standing_behind c.args.parents.now.items)
+    let whole : left ≡ c.args.list.count = omega (arith, is) in
+    going_first c.args.list.pos c.args.list.non_null c.args.list.whole left c.args.list.count (places_in c.in_ok-pieces.pieces) (map standing_behind c.args.parents.now.items)
     (map place_in (present c.args.own.now.items)) whole c.in_ok-pieces.ensures apart
 
 pub loop-object-preserved : goal.loop-object-preserved
 loop-object-preserved g c = λ left is apart.
-    let more : c.loop-object._object + suc left ≡ c.args.count = omega (arith, is) in
-    going_on c.args.pos c.args.non_null c.args.whole left (places_in c.loop-object.pieces) (places_in c.push.new.self) _
+    let more : c.loop-object._object + suc left ≡ c.args.list.count = omega (arith, is) in
+    going_on c.args.list.pos c.args.list.non_null c.args.list.whole left (places_in c.loop-object.pieces) (places_in c.push.new.self) _
     (map standing_behind c.loop-object.parents.items) (map standing_behind c.next_object.new.parents.items)
     (map place_in (present c.loop-object.own.items)) (map place_in (present c.next_object.new.own.items)) c.in_ok-tree.tree
-    (place_in c.in_ok-item_piece.field-0) c.in_ok-tree.ensures.tree c.in_ok-tree.ensures.left c.next_object.ensures.apart c.in_ok-item_piece.ensures
+    (place_in c.in_ok-piece.piece) c.in_ok-tree.ensures.tree c.in_ok-tree.ensures.left c.next_object.ensures.apart c.in_ok-piece.ensures
     c.in_ok-push.ensures.ok (c.loop-object.invariant (suc left) more apart)
 
 pub returns : goal.returns
 returns g c = λ apart.
-    let all : c.loop-object._object + 0 ≡ c.args.count = omega (arith, c.loop-object-test.false, c.loop-object.auto._object-end) in
-    filled_all c.args.pos c.args.non_null c.args.whole (places_in c.loop-object.pieces) _ [] (members_each (map standing_behind c.loop-object.parents.items) (map place_in (present c.loop-object.own.items)))
+    let all : c.loop-object._object + 0 ≡ c.args.list.count = omega (arith, c.loop-object-test.false, c.loop-object.auto._object-end) in
+    filled_all c.args.list.pos c.args.list.non_null c.args.list.whole (places_in c.loop-object.pieces) _ [] (members_each (map standing_behind c.loop-object.parents.items) (map place_in (present c.loop-object.own.items)))
     refl (c.loop-object.invariant 0 all apart).places_are

@@ -9,8 +9,8 @@ use Rattle.gql_engine.proofs.assembly.bare.fill_objects.Given as goal
 
 abbrev pub invariant-loop-object : goal.invariant-loop-object
 invariant-loop-object g l =
-    (left : ℕ) → l._object + left ≡ l.count → AreApart l.whole (map standing_behind l.initial.parents.items)
-    → IsGoing l.pos l.non_null l.whole left (places_in l.pieces)
-    (all_trees l.pos l.non_null (some_objects l.count)
+    (left : ℕ) → l._object + left ≡ l.list.count → AreApart l.list.whole (map standing_behind l.initial.parents.items)
+    → IsGoing l.list.pos l.list.non_null l.list.whole left (places_in l.pieces)
+    (all_trees l.list.pos l.list.non_null (some_objects l.list.count)
     (members_each (map standing_behind l.initial.parents.items) (map place_in (present l.initial.own.items))))
     (map standing_behind l.parents.items) (map place_in (present l.own.items))

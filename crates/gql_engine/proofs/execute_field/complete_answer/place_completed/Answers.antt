@@ -1,8 +1,7 @@
 use Rattle.std.proofs.Common.{ap, ◌∙◌}
-use Rattle.gql_meaning.specs.Completion.{shape_of}
-use Rattle.gql_schema.specs.Table.{types_of}
 use Rattle.gql_select.specs.Collected.{own_selections}
 use Rattle.gql_collect.specs.Groups.{united}
+use Rattle.gql_engine.specs.CompletedObjects.{shape_asked}
 use Rattle.gql_engine.specs.Parents.{standing_at}
 use Rattle.gql_complete.specs.FoundObjects.{bare}
 use Rattle.gql_engine.specs.Tasks.{jobs_in, path_with}
@@ -12,7 +11,7 @@ use Rattle.gql_engine.proofs.execute_field.complete_answer.place_completed.Goals
 pub returns : goal.returns
 returns g c =
     let whole = c.in_ok-whole.whole in
-    let due = shape_of (types_of c.args.known.now.types.now) c.args.ty.now c.args.outcome in
+    let due = shape_asked c.args.node.now c.args.outcome in
     let path = path_with c.args.held.now c.args.node.now in
     let start = c.new-found.result.items in
     let found = c.take_apart.new.found.items in

@@ -1,9 +1,8 @@
-use Rattle.std.proofs.Common.{refl, ap, subst, ◌∙◌}
+use Rattle.std.proofs.Common.{refl, ap, ◌∙◌}
 use Rattle.gql_base.specs.TypeRef.{is_nullable}
 use Rattle.gql_meaning.specs.Completion.{shape_of}
 use Rattle.gql_schema.specs.Table.{types_of}
 use Rattle.gql_collect.specs.Asks.{type_in}
-use Rattle.gql_engine.specs.CompletedObjects.{IsPlaced}
 use Rattle.gql_complete.specs.FoundObjects.{spots}
 use Rattle.gql_engine.specs.Tasks.{jobs_in, path_with}
 use Rattle.gql_engine.proofs.GivenLemmas.{takes_deep, takes_filled, takes_jobs, takes_placed}
@@ -15,10 +14,9 @@ returns-clause-filled g c =
     let node = c.args.node.now in
     let table = types_of node.basis.types.now in
     let whole = shape_of table (type_in node.asks) c.args.answer.result in
-    let placed = subst (λ ty. IsPlaced node (path_with parent.held node) (jobs_in c.args.tasks.now.items) (jobs_in c.place_answer.new.tasks.items)
-    (shape_of table ty c.args.answer.result) c.in_ok-placed.placed) c.ty-ty.ensures c.in_ok-placed.ensures in
+    let placed = c.in_ok-placed.ensures in
     takes_filled parent node c.args.answer whole (spots whole (path_with parent.held node)) (takes_placed parent node c.args.answer _ _ _ placed) _ c.is_nullable.result
-    refl (c.is_nullable.ensures ∙ ap is_nullable c.ty-ty.ensures) refl refl refl c.keeps_whole.ensures placed.shape_is placed.parents_are
+    refl (c.is_nullable.ensures ∙ ap is_nullable c.ty.ensures) refl refl refl c.keeps_whole.ensures placed.shape_is placed.parents_are
 
 pub returns-clause-tasks : goal.returns-clause-tasks
 returns-clause-tasks g c =
@@ -26,8 +24,7 @@ returns-clause-tasks g c =
     let node = c.args.node.now in
     let table = types_of node.basis.types.now in
     let whole = shape_of table (type_in node.asks) c.args.answer.result in
-    let placed = subst (λ ty. IsPlaced node (path_with parent.held node) (jobs_in c.args.tasks.now.items) (jobs_in c.place_answer.new.tasks.items)
-    (shape_of table ty c.args.answer.result) c.in_ok-placed.placed) c.ty-ty.ensures c.in_ok-placed.ensures in
+    let placed = c.in_ok-placed.ensures in
     takes_jobs parent node c.args.answer whole (spots whole (path_with parent.held node)) (takes_placed parent node c.args.answer _ _ _ placed)
     (jobs_in c.args.tasks.now.items) (jobs_in c.place_answer.new.tasks.items) placed.tasks_are
 
@@ -37,6 +34,5 @@ returns-clause-deep g c =
     let node = c.args.node.now in
     let table = types_of node.basis.types.now in
     let whole = shape_of table (type_in node.asks) c.args.answer.result in
-    let placed = subst (λ ty. IsPlaced node (path_with parent.held node) (jobs_in c.args.tasks.now.items) (jobs_in c.place_answer.new.tasks.items)
-    (shape_of table ty c.args.answer.result) c.in_ok-placed.placed) c.ty-ty.ensures c.in_ok-placed.ensures in
+    let placed = c.in_ok-placed.ensures in
     takes_deep parent node c.args.answer whole (spots whole (path_with parent.held node)) (takes_placed parent node c.args.answer _ _ _ placed)

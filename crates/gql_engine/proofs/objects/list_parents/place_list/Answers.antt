@@ -1,4 +1,6 @@
 use Rattle.std.proofs.Common.{refl, ◌∙◌}
+use Rattle.gql_base.specs.TypeRef.{innermost}
+use Rattle.gql_collect.specs.Asks.{type_in}
 use Rattle.gql_complete.specs.ObjectLists.{items_given}
 use Rattle.gql_engine.specs.Tasks.{jobs_in, path_with}
 use Rattle.gql_engine.proofs.BareLemmas.{some_objects}
@@ -9,7 +11,7 @@ pub returns : goal.returns
 returns g c =
     let shared = c.in_ok-shared.shared in
     let node = c.args.node.now in
-    let object = c.args.object.now in
+    let object = innermost (type_in node.asks) in
     let level = c.in_ok-shared.ensures.level in
     let path = path_with c.args.held.now c.args.node.now in
     let steps = c.in_ok-shared.ensures.path in
