@@ -13,6 +13,7 @@ use Rattle.gql_tasks.specs.declared.given.Given.{Given}
 use Rattle.gql_tasks.specs.declared.given.Given.TheVariants.{Answered, Put}
 use Rattle.gql_tasks.specs.Arena.{marks_of, made_of, fresh_states, started, total, IsRight, Nearer}
 use Rattle.gql_tasks.specs.Given.{beneath_given}
+use Rattle.gql_tasks.specs.Keeps.{Lent}
 use Rattle.gql_tasks.specs.Pace.{to_come}
 use Rattle.gql_tasks.specs.Parts.{Parts, Moment, choice_by, due_by, delay_by, stage, subject}
 use Rattle.gql_tasks.specs.Plan.{IsContextOf, IsInfoOf}
@@ -122,8 +123,8 @@ module _ {R Own World Future L H P : Type 0} {e : Parts R Own World Future L H P
     }
 
     -- the moment after a turn without an answer
-    abbrev pub pending : R → H → ℕ → State Future → Moment R Future L H P
-    pending set hooks steps new = record {
+    abbrev pub pending : R → H → ℕ → Lent → State Future → Moment R Future L H P
+    pending set hooks steps lent new = record {
       plan = old.plan;
       states = slice_set old.states number new;
       waiting = old.waiting;
@@ -131,6 +132,7 @@ module _ {R Own World Future L H P : Type 0} {e : Parts R Own World Future L H P
       hooks = hooks;
       turns = turns;
       steps = steps;
+      lent = lent;
     }
 
     -- what the hooks and the steps show of a turn that ended well
@@ -138,15 +140,15 @@ module _ {R Own World Future L H P : Type 0} {e : Parts R Own World Future L H P
       pub told_is : e.hooks.told hooks ≡ with_more (e.hooks.told old.hooks) (map (event_of e.hooks) (enters_now context info was))
       pub stepped : e.hooks.are_quiet old.hooks → steps ≡ old.steps + length (begins_now context.task was)
 
-    went_waiting : (set : R) (hooks : H) (steps : ℕ) (new : State Future) → Shows hooks steps → Waits e (call_of context) new
+    went_waiting : (set : R) (hooks : H) (steps : ℕ) (lent : Lent) (new : State Future) → Shows hooks steps → Waits e (call_of context) new
         → (e.set.is_paced old.set → e.hooks.are_quiet old.hooks → to_come e.set.number (delay_by e.set old.set context.resolver) was
         ≡ false ∷ to_come e.set.number (delay_by e.set old.set context.resolver) new)
         → (e.hooks.are_quiet old.hooks → e.set.told set ≡ with_more (e.set.told old.set) (entry_of context false ∷ []))
         → (e.hooks.are_quiet old.hooks → e.set.begun set ≡ with_more (e.set.begun old.set) (begins_now context.task was))
-        → Went e old (pending set hooks steps new)
-    went_waiting set hooks steps new shows w paid told_is begun_is = subst (λ s. Went e old (pending set hooks steps s)) w.new_is
+        → Went e old (pending set hooks steps lent new)
+    went_waiting set hooks steps lent new shows w paid told_is begun_is = subst (λ s. Went e old (pending set hooks steps lent s)) w.new_is
         (record {
-          sound = sound_of (pending set hooks steps (state.Waiting w.future))
+          sound = sound_of (pending set hooks steps lent (state.Waiting w.future))
               (sound_waits Own e.plan.Task Future e.root e.set.is_for (subject e) (e.plan.holds old.plan) (e.plan.tasks old.plan) old.states old.waiting number t.pick.task was w.future
               (stands t.sound) t.pick.task_is t.pick.old_is undone t.pick.not_root (subst (e.set.is_for w.future) t.context_is.call_is w.fits));
           passed = record {
@@ -155,7 +157,7 @@ module _ {R Own World Future L H P : Type 0} {e : Parts R Own World Future L H P
               held = λ given held. held;
             };
             enters = enters_waiting old number t.pick.task was context info t.pick.task_is t.pick.old_is t.context_is t.info_is
-                (pending set hooks steps (state.Waiting w.future)) w.future shows.told_is refl refl;
+                (pending set hooks steps lent (state.Waiting w.future)) w.future shows.told_is refl refl;
             stepped = λ calm. stepped_waits Future old.states number context.task was (state.Waiting w.future) old.steps steps t.pick.old_is undone refl (shows.stepped calm);
             progress = λ law calm answers agrees. record {
               right = λ base. right_waits Own e.plan.Task Future e.root e.set.is_for (subject e) base answers (e.plan.holds old.plan) (e.plan.tasks old.plan) old.states number w.future t.pick.within;
@@ -163,28 +165,28 @@ module _ {R Own World Future L H P : Type 0} {e : Parts R Own World Future L H P
                   (e.turns.state old.turns) (e.turns.state turns) (e.plan.tasks old.plan) old.states number t.pick.task was context chosen_by
                   (e.set.told old.set) (e.set.told set) (e.set.begun old.set) (e.set.begun set) (begun_is calm) w.future (told_is calm);
             };
-            paces = λ pace calm. pays_waiting old (pending set hooks steps (state.Waiting w.future)) number t.pick.task was (state.Waiting w.future) context
+            paces = λ pace calm. pays_waiting old (pending set hooks steps lent (state.Waiting w.future)) number t.pick.task was (state.Waiting w.future) context
                 t.pick.task_is t.pick.old_is t.context_is (told_is calm)
                 (subst (λ s. to_come e.set.number (delay_by e.set old.set context.resolver) was ≡ false ∷ to_come e.set.number (delay_by e.set old.set context.resolver) s) (sym w.new_is) (paid pace calm))
                 refl refl;
           };
         })
 
-    pub went_begun : (set : R) (hooks : H) (steps : ℕ) (new : State Future) → Shows hooks steps → StartsWaiting e.set.is_for (call_of context) was new
+    pub went_begun : (set : R) (hooks : H) (steps : ℕ) (lent : Lent) (new : State Future) → Shows hooks steps → StartsWaiting e.set.is_for (call_of context) was new
         → (e.set.is_paced old.set → e.hooks.are_quiet old.hooks → to_come e.set.number (delay_by e.set old.set context.resolver) was
         ≡ false ∷ to_come e.set.number (delay_by e.set old.set context.resolver) new)
         → (e.hooks.are_quiet old.hooks → e.set.told set ≡ with_more (e.set.told old.set) (entry_of context false ∷ []))
         → (e.hooks.are_quiet old.hooks → e.set.begun set ≡ with_more (e.set.begun old.set) (begins_now context.task was))
-        → Went e old (pending set hooks steps new)
-    went_begun set hooks steps new shows turned = went_waiting set hooks steps new shows (starts (call_of context) was new turned)
+        → Went e old (pending set hooks steps lent new)
+    went_begun set hooks steps lent new shows turned = went_waiting set hooks steps lent new shows (starts (call_of context) was new turned)
 
-    pub went_pending : (set : R) (hooks : H) (steps : ℕ) (new : State Future) → Shows hooks steps → KeepsWaiting e.set.is_for e.set.number (call_of context) was new
+    pub went_pending : (set : R) (hooks : H) (steps : ℕ) (lent : Lent) (new : State Future) → Shows hooks steps → KeepsWaiting e.set.is_for e.set.number (call_of context) was new
         → (e.set.is_paced old.set → e.hooks.are_quiet old.hooks → to_come e.set.number (delay_by e.set old.set context.resolver) was
         ≡ false ∷ to_come e.set.number (delay_by e.set old.set context.resolver) new)
         → (e.hooks.are_quiet old.hooks → e.set.told set ≡ with_more (e.set.told old.set) (entry_of context false ∷ []))
         → (e.hooks.are_quiet old.hooks → e.set.begun set ≡ with_more (e.set.begun old.set) (begins_now context.task was))
-        → Went e old (pending set hooks steps new)
-    went_pending set hooks steps new shows turned = went_waiting set hooks steps new shows (keeps_on (call_of context) was new turned)
+        → Went e old (pending set hooks steps lent new)
+    went_pending set hooks steps lent new shows turned = went_waiting set hooks steps lent new shows (keeps_on (call_of context) was new turned)
 
     -- what a plan has done with what the task was given
     pub record Completed (plan : L) (given : Given Own) (count : ℕ) : Type 0 where

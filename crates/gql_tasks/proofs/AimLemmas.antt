@@ -7,6 +7,7 @@ use Rattle.gql_tasks.specs.Arena.{made_of}
 use Rattle.gql_tasks.specs.Parts.{Parts, Moment, choice_by, stage, subject}
 use Rattle.gql_tasks.specs.Progress.{IsSound, Kept, EntersSoFar, Went, Ended, story_of}
 use Rattle.gql_tasks.specs.Record.{Ran}
+use Rattle.gql_tasks.proofs.KeepsLemmas.{lent_none}
 use Rattle.gql_tasks.proofs.PaceLemmas.{so_far_none}
 use Rattle.gql_tasks.proofs.RecordLemmas.{ran_none, with_more_none}
 use Rattle.gql_tasks.proofs.RoundLemmas.{enters_none, so_far_enters_none}
@@ -24,12 +25,14 @@ with_plan old plan = record {
   hooks = old.hooks;
   turns = old.turns;
   steps = old.steps;
+  lent = old.lent;
 }
 
 module _ {R Own World Future L H P : Type 0} {e : Parts R Own World Future L H P} where
   pub kept_aimed : (old : Moment R Future L H P) (plan : L) → Kept e old (with_plan old plan)
   kept_aimed old plan = record {
     steady = record {
+      lent_is = lent_none old.lent;
       rules_is = refl;
       lawful_is = λ law. law;
       paced_is = λ pace. pace;

@@ -85,6 +85,7 @@ module _ {R Own World Future L H P : Type 0} {e : Parts R Own World Future L H P
   module _ {now next : Moment R Future L H P} {root : e.plan.Task} (opens : NextRoot e now next root) where
     next_steady : Steady e now next
     next_steady = record {
+      lent_is = opens.lent_is;
       rules_is = ap e.set.rules opens.set_is;
       lawful_is = λ law. subst e.set.is_lawful (sym opens.set_is) law;
       paced_is = λ pace. subst e.set.is_paced (sym opens.set_is) pace;

@@ -5,6 +5,7 @@ pub mod BlockLemmas
 pub mod CountLemmas
 pub mod GivenLemmas
 pub mod InTurnLemmas
+pub mod KeepsLemmas
 pub mod NearerLemmas
 pub mod PaceLemmas
 pub mod PhaseLemmas

@@ -33,7 +33,7 @@ module _ {R Own World Future L H P : Type 0} (e : Parts R Own World Future L H P
 module _ {R Own World Future L H P : Type 0} {e : Parts R Own World Future L H P} where
   -- what is said of a stretch without roots is said of any
   as_steady : {old new : Moment R Future L H P} → Steady (without_root e) old new → Steady e old new
-  as_steady s = record { rules_is = s.rules_is; lawful_is = s.lawful_is; paced_is = s.paced_is; quiet_is = s.quiet_is; counted = s.counted }
+  as_steady s = record { lent_is = s.lent_is; rules_is = s.rules_is; lawful_is = s.lawful_is; paced_is = s.paced_is; quiet_is = s.quiet_is; counted = s.counted }
 
   as_enters : {old new : Moment R Future L H P} → Enters (without_root e) old new → Enters e old new
   as_enters s = record { stays = s.stays; rounds = s.rounds; once = s.once }

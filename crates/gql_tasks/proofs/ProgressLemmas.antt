@@ -6,6 +6,7 @@ use Rattle.gql_resolve.specs.declared.answer.Answer.{Answer}
 use Rattle.gql_tasks.specs.Arena.{Subject}
 use Rattle.gql_tasks.specs.Parts.{Parts, Moment, choice_by, due_by, stage, subject}
 use Rattle.gql_tasks.specs.Progress.{IsSound, Steady, Kept, Agrees, Passed, Went, Ended, story_of}
+use Rattle.gql_tasks.proofs.KeepsLemmas.{lent_none, lent_trans}
 use Rattle.gql_tasks.proofs.PaceLemmas.{paces_none, paces_trans, so_far_trans}
 use Rattle.gql_tasks.proofs.RecordLemmas.{ran_none, ran_trans, stopped_trans}
 use Rattle.gql_tasks.proofs.RoundLemmas.{enters_none, enters_trans, so_far_enters_trans}
@@ -21,6 +22,7 @@ stepped_on a b c s t u first second = omega (arith, first, second)
 module _ {R Own World Future L H P : Type 0} {e : Parts R Own World Future L H P} where
   pub steady_none : (m : Moment R Future L H P) → Steady e m m
   steady_none m = record {
+    lent_is = lent_none m.lent;
     rules_is = refl;
     lawful_is = λ law. law;
     paced_is = λ pace. pace;
@@ -30,6 +32,7 @@ module _ {R Own World Future L H P : Type 0} {e : Parts R Own World Future L H P
 
   pub steady_trans : {old middle new : Moment R Future L H P} → Steady e old middle → Steady e middle new → Steady e old new
   steady_trans one other = record {
+    lent_is = lent_trans one.lent_is other.lent_is;
     rules_is = other.rules_is ∙ one.rules_is;
     lawful_is = λ law. other.lawful_is (one.lawful_is law);
     paced_is = λ pace. other.paced_is (one.paced_is pace);

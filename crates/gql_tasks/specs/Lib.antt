@@ -1,6 +1,7 @@
 pub mod Advance
 pub mod Arena
 pub mod Given
+pub mod Keeps
 pub mod Pace
 pub mod Parts
 pub mod Phases
@@ -11,4 +12,5 @@ pub mod Root
 pub mod Rounds
 pub mod Steps
 pub mod Turn
+pub mod Turning
 pub mod Waiting

@@ -8,7 +8,9 @@ use Rattle.gql_tasks.specs.declared.arena.Arena.{Arena}
 use Rattle.gql_tasks.specs.declared.arena.State.{State}
 use Rattle.gql_tasks.specs.declared.plan.Plan.{Ghosts as Planning}
 use Rattle.gql_tasks.specs.declared.rounds.Rounds.{Ghosts as Hooking}
+use Rattle.gql_tasks.specs.declared.run.Run.{Run}
 use Rattle.gql_tasks.specs.Arena.{Subject, subject_of, made_of}
+use Rattle.gql_tasks.specs.Keeps.{Lent, lent_to}
 use Rattle.gql_tasks.specs.Record.{Choice, Stage}
 
 -- what is known of an execution's parts: of its resolver set, its plan, its hooks and its turns;
@@ -41,20 +43,8 @@ module _ {R Own World Future L H P : Type 0} (set : Resolving R Own World Future
       → Parts R Own World Future L H P
   root_parts plan hooks turns = parts_as true plan hooks turns
 
--- what an execution uses that isn't the engine's: the set, the hooks, the turns, and the steps so
--- far
-pub record Outside (R H P : Type 0) : Type 0 where
-  pub set : R
-  pub hooks : H
-  pub turns : P
-  pub steps : ℕ
-
--- the same, as a contract names it
-abbrev pub outside : {R H P : Type 0} → R → H → P → ℕ → Outside R H P
-outside set hooks turns steps = record { set = set; hooks = hooks; turns = turns; steps = steps }
-
 -- an execution at one moment: the plan, the states of its tasks, the numbers of those that wait,
--- the set, the hooks, the turns and the steps
+-- the set, the hooks, the turns and the steps, and the references by which these are lent
 pub record Moment (R Future L H P : Type 0) : Type 0 where
   pub plan : L
   pub states : List (State Future)
@@ -63,17 +53,20 @@ pub record Moment (R Future L H P : Type 0) : Type 0 where
   pub hooks : H
   pub turns : P
   pub steps : ℕ
+  pub lent : Lent
 
 -- the moment, as a contract names it
-abbrev pub at : {R Future L H P : Type 0} → L → Arena Future → Outside R H P → Moment R Future L H P
-at plan arena used = record {
+abbrev pub at : {R H P S Own World Future L : Type 0} → L → Arena Future
+    → Run R H P S Own World Future → Moment R Future L H P
+at plan arena run = record {
   plan = plan;
   states = arena.states.items;
   waiting = arena.waiting;
-  set = used.set;
-  hooks = used.hooks;
-  turns = used.turns;
-  steps = used.steps;
+  set = run.set.now;
+  hooks = run.hooks.now;
+  turns = run.turns.now;
+  steps = run.steps.now;
+  lent = lent_to run;
 }
 
 -- how turns choose

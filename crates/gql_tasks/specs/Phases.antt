@@ -11,6 +11,7 @@ use Rattle.gql_resolve.specs.declared.resolver_set.ResolverSet.{Ghosts as Resolv
 use Rattle.gql_resolve.specs.declared.turns.Turns.{Ghosts as Choosing}
 use Rattle.gql_tasks.specs.declared.given.Given.{Given}
 use Rattle.gql_tasks.specs.Arena.{Subject, Work, fresh_states, marks_of, started, total}
+use Rattle.gql_tasks.specs.Keeps.{SameLent}
 use Rattle.gql_tasks.specs.Pace.{pending_then_ready, told_of}
 use Rattle.gql_tasks.specs.Parts.{Parts, Moment, choice_by, stage, subject}
 use Rattle.gql_tasks.specs.Progress.{Enters, EntersSoFar, IsSound, Paces, PacesSoFar, Progress}
@@ -221,6 +222,7 @@ module _ {R Own World Future L H P : Type 0} (e : Parts R Own World Future L H P
     pub states_is : next.states ≡ now.states ++ fresh_states 1
     pub waits : next.waiting ≡ waiting_from 0 (marks_of next.states)
     pub root_is : (e.plan.asks root).call.is_root ≡ e.root
+    pub lent_is : SameLent now.lent next.lent
     pub set_is : next.set ≡ now.set
     pub hooks_is : next.hooks ≡ now.hooks
     pub turns_is : next.turns ≡ now.turns

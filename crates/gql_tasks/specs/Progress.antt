@@ -12,7 +12,9 @@ use Rattle.gql_resolve.specs.declared.turns.Turns.{Ghosts as Choosing}
 use Rattle.gql_tasks.specs.declared.arena.State.{State}
 use Rattle.gql_tasks.specs.declared.arena.State.TheVariants.{Done}
 use Rattle.gql_tasks.specs.declared.given.Given.{Given}
+use Rattle.gql_tasks.specs.declared.run.Run.{Run}
 use Rattle.gql_tasks.specs.Arena.{Subject, Work, Fits, IsRight, marks_of, started, total}
+use Rattle.gql_tasks.specs.Keeps.{SameLent}
 use Rattle.gql_tasks.specs.Pace.{EachPaced, EachPacedSoFar, to_come_at, told_of}
 use Rattle.gql_tasks.specs.Parts.{Parts, Moment, choice_by, due_by, delay_by, delay_at, stage}
 use Rattle.gql_tasks.specs.Parts.{subject}
@@ -49,6 +51,7 @@ module _ {R Own World Future L H P : Type 0} (e : Parts R Own World Future L H P
   -- what turns keep of the set and the hooks but for the world, whether they end well or not; each
   -- task that begins is a step
   pub record Steady (old new : Moment R Future L H P) : Type 0 where
+    pub lent_is : SameLent old.lent new.lent
     pub rules_is : e.set.rules new.set ≡ e.set.rules old.set
     pub lawful_is : e.set.is_lawful old.set → e.set.is_lawful new.set
     pub paced_is : e.set.is_paced old.set → e.set.is_paced new.set
@@ -154,6 +157,10 @@ pub record Seen (R P : Type 0) : Type 0 where
 -- the same, as a contract names it
 abbrev pub seen : {R P : Type 0} → R → P → Seen R P
 seen set turns = record { set = set; turns = turns }
+
+-- those of a run
+abbrev pub seen_in : {R H P S Own World Future : Type 0} → Run R H P S Own World Future → Seen R P
+seen_in run = seen run.set.now run.turns.now
 
 module _ {R Own World Future P Task : Type 0} (set : Resolving R Own World Future)
     (turns : Choosing P) where

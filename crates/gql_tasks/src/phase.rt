@@ -1,6 +1,6 @@
 //! A phase of a mutation: one root key with all that is under it.
 ghost use Rattle.std.specs.Prelude.{◌≡◌, length, IfErr, OnOk};
-ghost use Rattle.gql_tasks.specs.Parts.{root_parts, at, outside};
+ghost use Rattle.gql_tasks.specs.Parts.{root_parts, at};
 ghost use Rattle.gql_tasks.specs.Phases.{PhaseCut, PhaseOver};
 ghost use Rattle.gql_tasks.specs.Progress.{IsSound};
 
@@ -8,8 +8,9 @@ use crate::arena::Arena;
 use crate::plan::Plan;
 use crate::root::answer_root;
 use crate::rounds::Rounds;
+use crate::run::Run;
 use crate::scheduler::finish;
-use gql_base::{NoMemory, Steps};
+use gql_base::NoMemory;
 use gql_resolve::{ResolverSet, Turns};
 use std::alloc::Global;
 use std::sync::ledger::Ledger;
@@ -20,23 +21,18 @@ pub fn run_phase<R: ResolverSet, L: Plan<R::Own>, H: Rounds, P: Turns, S: Ledger
     alloc: Global,
     plan: &mut L,
     arena: &mut Arena<R::Future>,
-    resolvers: &mut R,
-    hooks: &mut H,
-    turns: &mut P,
-    steps: &mut Steps<S>,
+    run: &mut Run<'_, R, H, P, S>,
 ) -> Result<(), NoMemory>
     requires sound { IsSound (root_parts R.ResolverSet L.Plan H.Rounds P.Turns)
-        (at plan.old arena.old (outside resolvers.old hooks.old turns.old steps.old)) }
+        (at plan.old arena.old run.old) }
     requires alone { length arena.old.waiting ≡ 1 }
     ensures over { OnOk result (PhaseOver (root_parts R.ResolverSet L.Plan H.Rounds P.Turns)
-        (at plan.old arena.old (outside resolvers.old hooks.old turns.old steps.old))
-        (at plan.new arena.new (outside resolvers.new hooks.new turns.new steps.new))) }
+        (at plan.old arena.old run.old) (at plan.new arena.new run.new)) }
     ensures cut { IfErr result (PhaseCut (root_parts R.ResolverSet L.Plan H.Rounds P.Turns)
-        (at plan.old arena.old (outside resolvers.old hooks.old turns.old steps.old))
-        (at plan.new arena.new (outside resolvers.new hooks.new turns.new steps.new))) }
+        (at plan.old arena.old run.old) (at plan.new arena.new run.new)) }
 {
-    answer_root(alloc, plan, arena, resolvers, hooks, turns, steps)?;
-    match finish(alloc, plan, arena, resolvers, hooks, turns, steps) {
+    answer_root(alloc, plan, arena, run)?;
+    match finish(alloc, plan, arena, run) {
         Ok(()) => Ok(()),
         Err(_) => Err(NoMemory { roots: 1 }),
     }

@@ -1,7 +1,7 @@
 ghost use Rattle.std.specs.Prelude.{◌≡◌, ◌<◌, [], true, length, IfOk, OnOk};
 ghost use Rattle.gql_tasks.specs.Advance.{Advanced, ReachedNearer, roots_turned};
 ghost use Rattle.gql_tasks.specs.Arena.{events_left};
-ghost use Rattle.gql_tasks.specs.Parts.{parts, parts_as, at, outside};
+ghost use Rattle.gql_tasks.specs.Parts.{parts, parts_as, at};
 ghost use Rattle.gql_tasks.specs.Progress.{IsSound, Stretch};
 
 use crate::arena::{Arena, Turn};
@@ -10,8 +10,9 @@ use crate::keeping::keep_given;
 use crate::picking::pick_task;
 use crate::plan::Plan;
 use crate::rounds::Rounds;
+use crate::run::Run;
 use crate::turning::take_turn;
-use gql_base::{Made, NoMemory, Steps};
+use gql_base::{Made, NoMemory};
 use gql_resolve::{ResolverSet, Turns};
 use std::alloc::{AllocError, Global};
 use std::sync::ledger::Ledger;
@@ -31,22 +32,18 @@ pub(crate) fn advance<R: ResolverSet, L: Plan<R::Own>, H: Rounds, P: Turns, S: L
     alloc: Global,
     plan: &mut L,
     arena: &mut Arena<R::Future>,
-    resolvers: &mut R,
-    hooks: &mut H,
-    turns: &mut P,
-    steps: &mut Steps<S>,
+    run: &mut Run<'_, R, H, P, S>,
 ) -> Result<Reached, NoMemory>
     requires sound { IsSound (parts_as R.ResolverSet root L.Plan H.Rounds P.Turns)
-        (at plan.old arena.old (outside resolvers.old hooks.old turns.old steps.old)) }
+        (at plan.old arena.old run.old) }
     requires some { 0 < length arena.old.waiting }
     requires alone { root ≡ true → length arena.old.waiting ≡ 1 }
     ensures turned { Advanced (parts_as R.ResolverSet root L.Plan H.Rounds P.Turns)
-        (at plan.old arena.old (outside resolvers.old hooks.old turns.old steps.old))
-        (at plan.new arena.new (outside resolvers.new hooks.new turns.new steps.new)) result }
+        (at plan.old arena.old run.old) (at plan.new arena.new run.new) result }
     ensures nearer { IfOk result
         (λ reached. ReachedNearer R.number reached arena.old.states.items arena.new.states.items) }
 {
-    let picked = pick_task(arena, turns);
+    let picked = pick_task(arena, run.turns);
     plan.aim(alloc, picked.number)?;
     let turn = {
         let context = plan.context(picked.number);
@@ -54,12 +51,10 @@ pub(crate) fn advance<R: ResolverSet, L: Plan<R::Own>, H: Rounds, P: Turns, S: L
         take_turn(
             root,
             alloc,
-            resolvers,
-            hooks,
+            run,
             &mut arena.states[picked.number],
             &context,
             &info,
-            steps,
         )?
     };
     match turn {
@@ -90,23 +85,19 @@ fn reach_event<R: ResolverSet, L: Plan<R::Own>, H: Rounds, P: Turns, S: Ledger>(
     alloc: Global,
     plan: &mut L,
     arena: &mut Arena<R::Future>,
-    resolvers: &mut R,
-    hooks: &mut H,
-    turns: &mut P,
-    steps: &mut Steps<S>,
+    run: &mut Run<'_, R, H, P, S>,
 ) -> Made<()>
     requires sound { IsSound (parts R.ResolverSet L.Plan H.Rounds P.Turns)
-        (at plan.old arena.old (outside resolvers.old hooks.old turns.old steps.old)) }
+        (at plan.old arena.old run.old) }
     requires some { 0 < length arena.old.waiting }
     ensures stretch { Stretch (parts R.ResolverSet L.Plan H.Rounds P.Turns)
-        (at plan.old arena.old (outside resolvers.old hooks.old turns.old steps.old))
-        (at plan.new arena.new (outside resolvers.new hooks.new turns.new steps.new)) result }
+        (at plan.old arena.old run.old) (at plan.new arena.new run.new) result }
     ensures nearer { OnOk result
         (events_left arena.new.states.items < events_left arena.old.states.items) }
 {
     // The futures' numbers fall while no task begins or has its answer (`polls_left`).
     'polls: loop {
-        match advance(false, alloc, plan, arena, resolvers, hooks, turns, steps) {
+        match advance(false, alloc, plan, arena, run) {
             Ok(reached) => match reached {
                 Reached::Pending => {}
                 Reached::Begun => return Ok(()),
@@ -122,21 +113,17 @@ pub fn finish<R: ResolverSet, L: Plan<R::Own>, H: Rounds, P: Turns, S: Ledger>(
     alloc: Global,
     plan: &mut L,
     arena: &mut Arena<R::Future>,
-    resolvers: &mut R,
-    hooks: &mut H,
-    turns: &mut P,
-    steps: &mut Steps<S>,
+    run: &mut Run<'_, R, H, P, S>,
 ) -> Made<()>
     requires sound { IsSound (parts R.ResolverSet L.Plan H.Rounds P.Turns)
-        (at plan.old arena.old (outside resolvers.old hooks.old turns.old steps.old)) }
+        (at plan.old arena.old run.old) }
     ensures stretch { Stretch (parts R.ResolverSet L.Plan H.Rounds P.Turns)
-        (at plan.old arena.old (outside resolvers.old hooks.old turns.old steps.old))
-        (at plan.new arena.new (outside resolvers.new hooks.new turns.new steps.new)) result }
+        (at plan.old arena.old run.old) (at plan.new arena.new run.new) result }
     ensures answered { OnOk result (arena.new.waiting ≡ []) }
 {
     // Fewer starts and answers are to come after each (`events_left`).
     'events: while !arena.waiting.is_empty() {
-        reach_event(alloc, plan, arena, resolvers, hooks, turns, steps)?;
+        reach_event(alloc, plan, arena, run)?;
     }
     Ok(())
 }

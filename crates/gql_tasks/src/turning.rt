@@ -1,23 +1,25 @@
-ghost use Rattle.std.specs.Prelude.{◌≡◌, ◌+◌, [], ◌∷◌, length, map, OnOk, IfOk, OnErr};
+ghost use Rattle.std.specs.Prelude.{◌≡◌, IfOk};
 ghost use Rattle.gql_resolve.specs.Record.{with_more, entries_of_poll};
 ghost use Rattle.gql_resolve.specs.Lawful.{plain_answer, PromisesPoll};
 ghost use Rattle.gql_resolve.specs.Paced.{PollsPaced};
 ghost use Rattle.gql_resolve.specs.Call.{call_of};
+ghost use Rattle.gql_tasks.specs.Keeps.{KeepsSet};
 ghost use Rattle.gql_tasks.specs.Pace.{TurnPaced};
 ghost use Rattle.gql_tasks.specs.Parts.{due_by, delay_by};
 ghost use Rattle.gql_tasks.specs.Root.{effect_by, world_polled, world_turned, PollsRightly};
-ghost use Rattle.gql_tasks.specs.Rounds.{data_seen, event_of};
-ghost use Rattle.gql_tasks.specs.Steps.{IsCounted};
-ghost use Rattle.gql_tasks.specs.Turn.{BeginsAtMost, EntersAtMost, IsNoPut, IsOpen, PutKeeps};
-ghost use Rattle.gql_tasks.specs.Turn.{TurnOf, AnswersRightly, told_by_turn, begins_now};
-ghost use Rattle.gql_tasks.specs.Turn.{enters_now};
+ghost use Rattle.gql_tasks.specs.Rounds.{data_seen};
+ghost use Rattle.gql_tasks.specs.Turn.{IsNoPut, IsOpen, TurnOf, AnswersRightly, told_by_turn};
+ghost use Rattle.gql_tasks.specs.Turning.{BeginsOnce, EntersOnce, TurnKeeps};
 
 use crate::arena::{State, Turn};
 use crate::given::Given;
 use crate::rounds::Rounds;
-use gql_base::{Items, Made, Steps};
+use crate::run::Run;
+use gql_base::{Items, Made};
 use gql_request::{Entered, ExtensionContext, ResolveInfo};
-use gql_resolve::{Answer, FieldFuture, FieldValue, Layers, Polled, ResolverContext, ResolverSet};
+use gql_resolve::{
+    Answer, FieldFuture, FieldValue, Layers, Polled, ResolverContext, ResolverSet, Turns,
+};
 use std::alloc::Global;
 use std::sync::ledger::Ledger;
 
@@ -25,53 +27,36 @@ use std::sync::ledger::Ledger;
 /// mutation or of another task. The world stays, but for the effect of a root that its resolver
 /// answered.
 #[tactic(auto, using(crate::proofs::TurningSteps::later_steps))]
-pub(crate) fn take_turn<R: ResolverSet, H: Rounds, S: Ledger>(
+pub(crate) fn take_turn<R: ResolverSet, H: Rounds, P: Turns, S: Ledger>(
     root: bool,
     alloc: Global,
-    resolvers: &mut R,
-    hooks: &mut H,
+    run: &mut Run<'_, R, H, P, S>,
     state: &mut State<R::Future>,
     context: &ResolverContext<'_, R::Own>,
     info: &ResolveInfo<'_>,
-    steps: &mut Steps<S>,
 ) -> Made<Turn<R::Own>>
     requires open { IsOpen R.is_for (call_of context.now) state.old }
     requires root { (call_of context.now).is_root ≡ root }
-    ensures rules { R.rules resolvers.new ≡ R.rules resolvers.old }
+    ensures keeps { TurnKeeps R.ResolverSet H.Rounds run.old run.new result }
     ensures promise { IfOk result
         (TurnOf R.ResolverSet (call_of context.now) state.old state.new) }
-    ensures lawful { R.is_lawful resolvers.old → R.is_lawful resolvers.new }
-    ensures world { R.is_lawful resolvers.old → R.world resolvers.new ≡ world_turned root
-        (effect_by R.ResolverSet resolvers.old (call_of context.now))
-        (R.world resolvers.old) result }
-    ensures quiet { H.are_quiet hooks.old → H.are_quiet hooks.new }
-    ensures entered { OnOk result (H.told hooks.new
-        ≡ with_more (H.told hooks.old)
-        (map (event_of H.Rounds) (enters_now context.now info.now state.old))) }
-    ensures unentered { OnErr result (EntersAtMost
-        (map (event_of H.Rounds) (enters_now context.now info.now state.old))
-        (H.told hooks.old) (H.told hooks.new)) }
-    ensures put { PutKeeps resolvers.old resolvers.new result }
-    ensures answer { R.is_lawful resolvers.old → H.are_quiet hooks.old → AnswersRightly
-        (due_by R.ResolverSet resolvers.old (call_of context.now)) result }
-    ensures pace { R.is_paced resolvers.old → R.is_paced resolvers.new }
-    ensures paced { H.are_quiet hooks.old → R.is_paced resolvers.old → IfOk result
-        (TurnPaced R.number (delay_by R.ResolverSet resolvers.old context.now.resolver)
+    ensures world { R.is_lawful run.old.set.now → R.world run.new.set.now ≡ world_turned root
+        (effect_by R.ResolverSet run.old.set.now (call_of context.now))
+        (R.world run.old.set.now) result }
+    ensures entered { EntersOnce H.Rounds context.now info.now state.old run.old run.new result }
+    ensures answer { R.is_lawful run.old.set.now → H.are_quiet run.old.hooks.now → AnswersRightly
+        (due_by R.ResolverSet run.old.set.now (call_of context.now)) result }
+    ensures paced { H.are_quiet run.old.hooks.now → R.is_paced run.old.set.now → IfOk result
+        (TurnPaced R.number (delay_by R.ResolverSet run.old.set.now context.now.resolver)
         state.old state.new) }
-    ensures told { H.are_quiet hooks.old → R.told resolvers.new
-        ≡ with_more (R.told resolvers.old) (told_by_turn context.now result) }
-    ensures begun { H.are_quiet hooks.old → OnOk result (R.begun resolvers.new
-        ≡ with_more (R.begun resolvers.old) (begins_now context.now.task state.old)) }
-    ensures unbegun { H.are_quiet hooks.old → OnErr result
-        (BeginsAtMost context.now.task (R.begun resolvers.old) (R.begun resolvers.new)) }
-    ensures counted { IsCounted (R.begun resolvers.old) (R.begun resolvers.new)
-        steps.old steps.new }
-    ensures stepped { H.are_quiet hooks.old → OnOk result
-        (steps.new ≡ steps.old + length (begins_now context.now.task state.old)) }
+    ensures told { H.are_quiet run.old.hooks.now → R.told run.new.set.now
+        ≡ with_more (R.told run.old.set.now) (told_by_turn context.now result) }
+    ensures begun { H.are_quiet run.old.hooks.now → BeginsOnce R.ResolverSet context.now.task
+        state.old run.old run.new result }
 {
     match state {
-        State::Fresh => begin(root, alloc, resolvers, hooks, state, context, info, steps),
-        State::Waiting(future) => match poll_as(root, alloc, resolvers, future, context)? {
+        State::Fresh => begin(root, alloc, run, state, context, info),
+        State::Waiting(future) => match poll_as(root, alloc, run.set, future, context)? {
             Polled::Ready(answer) => Ok(Turn::Answered(Given::Answered(answer))),
             Polled::Pending => Ok(Turn::Pending),
         },
@@ -81,58 +66,43 @@ pub(crate) fn take_turn<R: ResolverSet, H: Rounds, S: Ledger>(
 
 /// The first turn of a task: the hooks, the start, and the first poll of a future.
 #[tactic(auto, using(crate::proofs::TurningSteps::first_steps))]
-fn begin<R: ResolverSet, H: Rounds, S: Ledger>(
+fn begin<R: ResolverSet, H: Rounds, P: Turns, S: Ledger>(
     root: bool,
     alloc: Global,
-    resolvers: &mut R,
-    hooks: &mut H,
+    run: &mut Run<'_, R, H, P, S>,
     state: &mut State<R::Future>,
     context: &ResolverContext<'_, R::Own>,
     info: &ResolveInfo<'_>,
-    steps: &mut Steps<S>,
 ) -> Made<Turn<R::Own>>
     requires { (call_of context.now).is_root ≡ root }
-    ensures rules { R.rules resolvers.new ≡ R.rules resolvers.old }
+    ensures keeps { TurnKeeps R.ResolverSet H.Rounds run.old run.new result }
     ensures promise { IfOk result
         (TurnOf R.ResolverSet (call_of context.now) State.Fresh state.new) }
-    ensures lawful { R.is_lawful resolvers.old → R.is_lawful resolvers.new }
-    ensures world { R.is_lawful resolvers.old → R.world resolvers.new ≡ world_turned root
-        (effect_by R.ResolverSet resolvers.old (call_of context.now))
-        (R.world resolvers.old) result }
-    ensures quiet { H.are_quiet hooks.old → H.are_quiet hooks.new }
-    ensures entered { OnOk result (H.told hooks.new ≡ with_more (H.told hooks.old)
-        (H.entered (data_seen context.now.layers) info.now ∷ [])) }
-    ensures unentered { OnErr result (EntersAtMost
-        (H.entered (data_seen context.now.layers) info.now ∷ [])
-        (H.told hooks.old) (H.told hooks.new)) }
-    ensures put { PutKeeps resolvers.old resolvers.new result }
-    ensures answer { R.is_lawful resolvers.old → H.are_quiet hooks.old → AnswersRightly
-        (due_by R.ResolverSet resolvers.old (call_of context.now)) result }
-    ensures pace { R.is_paced resolvers.old → R.is_paced resolvers.new }
-    ensures paced { H.are_quiet hooks.old → R.is_paced resolvers.old → IfOk result
-        (TurnPaced R.number (delay_by R.ResolverSet resolvers.old context.now.resolver)
+    ensures world { R.is_lawful run.old.set.now → R.world run.new.set.now ≡ world_turned root
+        (effect_by R.ResolverSet run.old.set.now (call_of context.now))
+        (R.world run.old.set.now) result }
+    ensures entered { EntersOnce H.Rounds context.now info.now State.Fresh run.old run.new result }
+    ensures answer { R.is_lawful run.old.set.now → H.are_quiet run.old.hooks.now → AnswersRightly
+        (due_by R.ResolverSet run.old.set.now (call_of context.now)) result }
+    ensures paced { H.are_quiet run.old.hooks.now → R.is_paced run.old.set.now → IfOk result
+        (TurnPaced R.number (delay_by R.ResolverSet run.old.set.now context.now.resolver)
         State.Fresh state.new) }
-    ensures told { H.are_quiet hooks.old → R.told resolvers.new
-        ≡ with_more (R.told resolvers.old) (told_by_turn context.now result) }
-    ensures begun { H.are_quiet hooks.old → OnOk result
-        (R.begun resolvers.new ≡ with_more (R.begun resolvers.old) (context.now.task ∷ [])) }
-    ensures unbegun { H.are_quiet hooks.old → OnErr result
-        (BeginsAtMost context.now.task (R.begun resolvers.old) (R.begun resolvers.new)) }
-    ensures counted { IsCounted (R.begun resolvers.old) (R.begun resolvers.new)
-        steps.old steps.new }
-    ensures stepped { H.are_quiet hooks.old → OnOk result (steps.new ≡ steps.old + 1) }
+    ensures told { H.are_quiet run.old.hooks.now → R.told run.new.set.now
+        ≡ with_more (R.told run.old.set.now) (told_by_turn context.now result) }
+    ensures begun { H.are_quiet run.old.hooks.now → BeginsOnce R.ResolverSet context.now.task
+        State.Fresh run.old run.new result }
 {
-    match hooks.enter(&data_for_hooks(context.layers), info)? {
+    match run.hooks.enter(&data_for_hooks(context.layers), info)? {
         Entered::Answer(put) => Ok(Turn::Answered(Given::Put(put))),
         Entered::Go => {
-            let started = resolvers.start(alloc, context)?;
-            steps.tick();
+            let started = run.set.start(alloc, context)?;
+            run.steps.tick();
             match started {
                 FieldFuture::Value(value) => Ok(Turn::Answered(Given::Answered(answer_of(
                     alloc, value,
                 )))),
                 FieldFuture::Future(future) => poll_first(
-                    root, alloc, resolvers, state, future, context,
+                    root, alloc, run.set, state, future, context,
                 ),
             }
         }
@@ -143,31 +113,28 @@ fn begin<R: ResolverSet, H: Rounds, S: Ledger>(
 fn poll_first<R: ResolverSet>(
     root: bool,
     alloc: Global,
-    resolvers: &mut R,
+    set: &mut R,
     state: &mut State<R::Future>,
     future: R::Future,
     context: &ResolverContext<'_, R::Own>,
 ) -> Made<Turn<R::Own>>
     requires { R.is_for future (call_of context.now) }
     ensures put { IfOk result (λ given. IsNoPut given) }
-    ensures rules { R.rules resolvers.new ≡ R.rules resolvers.old }
+    ensures keeps { KeepsSet R.ResolverSet set.old set.new }
     ensures promise { IfOk result
         (TurnOf R.ResolverSet (call_of context.now) State.Fresh state.new) }
-    ensures lawful { R.is_lawful resolvers.old → R.is_lawful resolvers.new }
-    ensures world { R.is_lawful resolvers.old → R.world resolvers.new ≡ world_turned root
-        (effect_by R.ResolverSet resolvers.old (call_of context.now))
-        (R.world resolvers.old) result }
-    ensures answer { R.is_lawful resolvers.old → AnswersRightly
-        (due_by R.ResolverSet resolvers.old (call_of context.now)) result }
-    ensures pace { R.is_paced resolvers.old → R.is_paced resolvers.new }
-    ensures paced { R.is_paced resolvers.old
+    ensures world { R.is_lawful set.old → R.world set.new ≡ world_turned root
+        (effect_by R.ResolverSet set.old (call_of context.now)) (R.world set.old) result }
+    ensures answer { R.is_lawful set.old → AnswersRightly
+        (due_by R.ResolverSet set.old (call_of context.now)) result }
+    ensures paced { R.is_paced set.old
         → IfOk result (TurnPaced R.number (R.number future) State.Fresh state.new) }
-    ensures told { R.told resolvers.new ≡ with_more (R.told resolvers.old)
+    ensures told { R.told set.new ≡ with_more (R.told set.old)
         (told_by_turn context.now result) }
-    ensures begun { R.begun resolvers.new ≡ R.begun resolvers.old }
+    ensures begun { R.begun set.new ≡ R.begun set.old }
 {
     let mut future = future;
-    match poll_as(root, alloc, resolvers, &mut future, context)? {
+    match poll_as(root, alloc, set, &mut future, context)? {
         Polled::Ready(answer) => Ok(Turn::Answered(Given::Answered(answer))),
         Polled::Pending => {
             *state = State::Waiting(future);
@@ -181,30 +148,28 @@ fn poll_first<R: ResolverSet>(
 fn poll_as<R: ResolverSet>(
     root: bool,
     alloc: Global,
-    resolvers: &mut R,
+    set: &mut R,
     future: &mut R::Future,
     context: &ResolverContext<'_, R::Own>,
 ) -> Made<Polled<R::Own>>
     requires { R.is_for future.old (call_of context.now) }
+    ensures keeps { KeepsSet R.ResolverSet set.old set.new }
     ensures promise { IfOk result (PromisesPoll R.is_for R.number
         (call_of context.now) future.old future.new) }
-    ensures rules { R.rules resolvers.new ≡ R.rules resolvers.old }
-    ensures lawful { R.is_lawful resolvers.old → R.is_lawful resolvers.new }
-    ensures world { R.is_lawful resolvers.old → R.world resolvers.new ≡ world_polled root
-        (effect_by R.ResolverSet resolvers.old (call_of context.now))
-        (R.world resolvers.old) result }
-    ensures answer { R.is_lawful resolvers.old → PollsRightly
-        (due_by R.ResolverSet resolvers.old (call_of context.now)) result }
-    ensures paced { R.is_paced resolvers.old → R.is_paced resolvers.new
-        × IfOk result (PollsPaced R.number future.old future.new) }
-    ensures told { R.told resolvers.new
-        ≡ with_more (R.told resolvers.old) (entries_of_poll context.now result) }
-    ensures begun { R.begun resolvers.new ≡ R.begun resolvers.old }
+    ensures world { R.is_lawful set.old → R.world set.new ≡ world_polled root
+        (effect_by R.ResolverSet set.old (call_of context.now)) (R.world set.old) result }
+    ensures answer { R.is_lawful set.old → PollsRightly
+        (due_by R.ResolverSet set.old (call_of context.now)) result }
+    ensures paced { R.is_paced set.old
+        → IfOk result (PollsPaced R.number future.old future.new) }
+    ensures told { R.told set.new
+        ≡ with_more (R.told set.old) (entries_of_poll context.now result) }
+    ensures begun { R.begun set.new ≡ R.begun set.old }
 {
     if root {
-        resolvers.poll_root(alloc, future, context)
+        set.poll_root(alloc, future, context)
     } else {
-        resolvers.poll(alloc, future, context)
+        set.poll(alloc, future, context)
     }
 }
 

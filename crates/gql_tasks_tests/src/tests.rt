@@ -10,7 +10,7 @@ use crate::telling::Telling;
 use gql_base::{Made, NoMemory, Steps};
 use gql_doc::OperationType;
 use gql_request::Hooks;
-use gql_tasks::{Rounds, finish, fresh_arena, run_phase};
+use gql_tasks::{Rounds, Run, finish, fresh_arena, run_phase};
 use std::alloc::Global;
 use std::marker::Brand;
 use std::sync::ledger::{Blank, Ledger};
@@ -46,9 +46,8 @@ fn pair<H: Rounds, S: Ledger>(
     let mut arena = fresh_arena(alloc, 2)?;
     let mut turns = Alternate { second: false };
     let mut steps: Steps<S> = Steps::new(blank);
-    finish(
-        alloc, &mut plan, &mut arena, set, hooks, &mut turns, &mut steps,
-    )?;
+    let mut run = Run::over(set, hooks, &mut turns, &mut steps);
+    finish(alloc, &mut plan, &mut arena, &mut run)?;
     Ok(plan.into_given())
 }
 
@@ -70,9 +69,8 @@ fn root<S: Ledger>(
     let mut hooks = Hooks::none(alloc);
     let mut turns = Alternate { second: false };
     let mut steps: Steps<S> = Steps::new(blank);
-    run_phase(
-        alloc, &mut plan, &mut arena, set, &mut hooks, &mut turns, &mut steps,
-    )?;
+    let mut run = Run::over(set, &mut hooks, &mut turns, &mut steps);
+    run_phase(alloc, &mut plan, &mut arena, &mut run)?;
     Ok(plan.into_given())
 }
 

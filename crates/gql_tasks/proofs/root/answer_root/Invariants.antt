@@ -1,13 +1,13 @@
 use Rattle.gql_tasks.specs.Arena.{events_left}
-use Rattle.gql_tasks.specs.Parts.{root_parts, at, outside}
+use Rattle.gql_tasks.specs.Parts.{root_parts, at}
 use Rattle.gql_tasks.specs.Root.{StillWaits}
 use Rattle.gql_tasks.proofs.root.answer_root.Given as goal
 
 abbrev pub invariant-events : goal.invariant-events
 invariant-events g l = record {
   waits : StillWaits (root_parts g.R.ResolverSet g.L.Plan g.H.Rounds g.P.Turns)
-      (at l.initial.plan l.initial.arena (outside l.initial.resolvers l.initial.hooks l.initial.turns l.initial.steps))
-      (at l.plan l.arena (outside l.resolvers l.hooks l.turns l.steps));
+      (at l.initial.plan l.initial.arena l.initial.run)
+      (at l.plan l.arena l.run);
 }
 
 abbrev pub decreases-events : goal.decreases-events

@@ -1,13 +1,13 @@
 use Rattle.std.proofs.Common.{ap, sym, subst, ◌∙◌, ◌<◌, refl, length, arith}
 use Rattle.gql_tasks.specs.Arena.{events_left}
-use Rattle.gql_tasks.specs.Parts.{root_parts, at, outside}
+use Rattle.gql_tasks.specs.Parts.{root_parts, at}
 use Rattle.gql_tasks.specs.Advance.{TurnEnded}
 use Rattle.gql_tasks.proofs.RootLemmas.{still_none, still_trans, answered_on, root_answered, root_ended, root_ended_on, reached_err}
 use Rattle.gql_tasks.proofs.root.reach_root.Goals as goal
 
 pub polls-init : goal.polls-init
 polls-init g c =
-    let first = at c.args.plan.now c.args.arena.now (outside c.args.resolvers.now c.args.hooks.now c.args.turns.now c.args.steps.now) in
+    let first = at c.args.plan.now c.args.arena.now c.args.run.now in
     record { events = refl; waits = still_none {e = root_parts g.R.ResolverSet g.L.Plan g.H.Rounds g.P.Turns} first c.requires.sound }
 
 pub advance-requires-clause-sound : goal.advance-requires-clause-sound
@@ -22,9 +22,9 @@ advance-requires-clause-alone g c = λ root. ap length c.polls.invariant.waits.w
 pub returns-in_err-advance-clause-reached : goal.returns-in_err-advance-clause-reached
 returns-in_err-advance-clause-reached g c =
     let e = root_parts g.R.ResolverSet g.L.Plan g.H.Rounds g.P.Turns in
-    let middle = at c.polls.plan c.polls.arena (outside c.polls.resolvers c.polls.hooks c.polls.turns c.polls.steps) in
+    let middle = at c.polls.plan c.polls.arena c.polls.run in
     let new = at c.advance.new.plan c.advance.new.arena
-    (outside c.advance.new.resolvers c.advance.new.hooks c.advance.new.turns c.advance.new.steps) in
+    c.advance.new.run in
     reached_err _ c.from_residual.result c.from_residual.ensures.1
     (λ want is. root_ended_on want c.polls.invariant.waits (root_ended refl (subst (λ w. TurnEnded e middle new w) (sym is) c.in_err-advance.ensures.turned)))
 

@@ -1,4 +1,4 @@
-use Rattle.gql_tasks.specs.Parts.{parts, at, outside}
+use Rattle.gql_tasks.specs.Parts.{parts, at}
 use Rattle.gql_tasks.proofs.ProgressLemmas.{kept_none, kept_trans, went_none, went_trans, ended_trans}
 use Rattle.gql_tasks.proofs.UponLemmas.{stretch_err}
 use Rattle.gql_tasks.proofs.scheduler.finish.Goals as goal
@@ -6,7 +6,7 @@ use Rattle.gql_tasks.proofs.scheduler.finish.Goals as goal
 pub events-init : goal.events-init
 events-init g c =
     let e = parts g.R.ResolverSet g.L.Plan g.H.Rounds g.P.Turns in
-    let first = at c.args.plan.now c.args.arena.now (outside c.args.resolvers.now c.args.hooks.now c.args.turns.now c.args.steps.now) in
+    let first = at c.args.plan.now c.args.arena.now c.args.run.now in
     record { kept = kept_none {e = e} first; went = went_none {m = first} c.requires.sound }
 
 pub reach_event-requires-clause-sound : goal.reach_event-requires-clause-sound

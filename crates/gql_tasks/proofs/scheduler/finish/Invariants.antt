@@ -1,16 +1,16 @@
 use Rattle.gql_tasks.specs.Arena.{events_left}
-use Rattle.gql_tasks.specs.Parts.{parts, at, outside}
+use Rattle.gql_tasks.specs.Parts.{parts, at}
 use Rattle.gql_tasks.specs.Progress.{Kept, Went}
 use Rattle.gql_tasks.proofs.scheduler.finish.Given as goal
 
 abbrev pub invariant-events : goal.invariant-events
 invariant-events g l = record {
   kept : Kept (parts g.R.ResolverSet g.L.Plan g.H.Rounds g.P.Turns)
-      (at l.initial.plan l.initial.arena (outside l.initial.resolvers l.initial.hooks l.initial.turns l.initial.steps))
-      (at l.plan l.arena (outside l.resolvers l.hooks l.turns l.steps));
+      (at l.initial.plan l.initial.arena l.initial.run)
+      (at l.plan l.arena l.run);
   went : Went (parts g.R.ResolverSet g.L.Plan g.H.Rounds g.P.Turns)
-      (at l.initial.plan l.initial.arena (outside l.initial.resolvers l.initial.hooks l.initial.turns l.initial.steps))
-      (at l.plan l.arena (outside l.resolvers l.hooks l.turns l.steps));
+      (at l.initial.plan l.initial.arena l.initial.run)
+      (at l.plan l.arena l.run);
 }
 
 abbrev pub decreases-events : goal.decreases-events

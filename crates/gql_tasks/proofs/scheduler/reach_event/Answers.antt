@@ -1,7 +1,7 @@
 use Rattle.std.proofs.Common.{refl, ℕ, List, ◌≡◌, ◌<◌, ◌∙◌, sym, subst, length}
 use Rattle.std.specs.Prelude.{true, false}
 use Rattle.gql_tasks.specs.Arena.{events_left}
-use Rattle.gql_tasks.specs.Parts.{parts, at, outside}
+use Rattle.gql_tasks.specs.Parts.{parts, at}
 use Rattle.gql_tasks.proofs.ProgressLemmas.{kept_none, kept_trans, went_none, went_trans, ended_trans}
 use Rattle.gql_tasks.proofs.RootLemmas.{other_answered, other_ended}
 use Rattle.gql_tasks.proofs.scheduler.reach_event.Goals as goal
@@ -12,7 +12,7 @@ more_than_none new old same some = subst (λ ns. 0 < length ns) (sym same) some
 pub polls-init : goal.polls-init
 polls-init g c =
     let e = parts g.R.ResolverSet g.L.Plan g.H.Rounds g.P.Turns in
-    let first = at c.args.plan.now c.args.arena.now (outside c.args.resolvers.now c.args.hooks.now c.args.turns.now c.args.steps.now) in
+    let first = at c.args.plan.now c.args.arena.now c.args.run.now in
     record {
       some = c.requires.some;
       events = refl;
