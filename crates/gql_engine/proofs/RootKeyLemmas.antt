@@ -46,7 +46,7 @@ set_last {X = X} xs x y = ap (λ n. slice_set (xs ++ x ∷ []) n y) (let e = len
 -- a moment with another plan, other states and other turns
 abbrev pub moved : {R Future L H P : Type 0} → Moment R Future L H P → L → List (State Future) → List ℕ → P → Moment R Future L H P
 moved m plan states waiting turns =
-    record { plan = plan; states = states; waiting = waiting; set = m.set; hooks = m.hooks; turns = turns; steps = m.steps }
+    record { plan = plan; states = states; waiting = waiting; set = m.set; hooks = m.hooks; turns = turns; steps = m.steps; lent = m.lent }
 
 -- the last of tasks
 pub last_there : {X : Type 0} (xs ys : List X) (x : X) → ys ≡ xs ++ x ∷ [] → slice_get ys (length xs) ≡ Some x
@@ -75,6 +75,7 @@ module _ {R Own World Future L H P : Type 0} {e : Parts R Own World Future L H P
       → InTurn e first (with_plan m plan) done
   in_turn_with {first = first} {m = m} {done = done} plan same turn = record {
     steady = record {
+      lent_is = turn.steady.lent_is;
       rules_is = turn.steady.rules_is;
       lawful_is = turn.steady.lawful_is;
       paced_is = turn.steady.paced_is;
@@ -104,6 +105,7 @@ module _ {R Own World Future L H P : Type 0} {e : Parts R Own World Future L H P
       → CutInTurn e first m roots want → CutInTurn e first (moved m plan states waiting turns) roots want
   cut_moved plan states waiting turns cut = record {
     steady = record {
+      lent_is = cut.steady.lent_is;
       rules_is = cut.steady.rules_is;
       lawful_is = cut.steady.lawful_is;
       paced_is = cut.steady.paced_is;

@@ -1,5 +1,6 @@
 //! Apart execution of an operation that is no mutation (GraphQL, October 2021, section 6.3.2).
 ghost use Rattle.std.specs.Prelude.{ℕ, ◌≡◌, false, IfErr, IfOk, OnErr, OnOk};
+ghost use Rattle.gql_tasks.specs.Keeps.{KeepsSet};
 ghost use Rattle.gql_tasks.specs.Parts.{due_by};
 ghost use Rattle.gql_tasks.specs.Progress.{RunsWhole, RunStopped, seen};
 ghost use Rattle.gql_resolve.specs.Call.{is_mutation};
@@ -29,9 +30,7 @@ pub fn run_apart<R: ResolverSet, P: Turns>(
     ensures places { R.is_lawful resolvers.old → (n : ℕ) → Nests scene.now n
         → IfOk result (λ place. place
         ≡ apart_response scene.now (due_by R.ResolverSet resolvers.old) n) }
-    ensures rules { R.rules resolvers.new ≡ R.rules resolvers.old }
-    ensures lawful { R.is_lawful resolvers.old → R.is_lawful resolvers.new }
-    ensures paced { R.is_paced resolvers.old → R.is_paced resolvers.new }
+    ensures keeps { KeepsSet R.ResolverSet resolvers.old resolvers.new }
     ensures world { R.is_lawful resolvers.old → R.world resolvers.new ≡ R.world resolvers.old }
     ensures record { R.is_lawful resolvers.old → OnOk result
         (RunsWhole R.ResolverSet P.Turns (apart_work scene.now)

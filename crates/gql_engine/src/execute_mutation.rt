@@ -1,10 +1,10 @@
 //! The execution of a mutation (GraphQL, October 2021, section 6.2.2).
 ghost use Rattle.std.specs.Prelude.{ℕ, ◌≡◌, ◌+◌, ◌∷◌, [], true, length, map};
 ghost use Rattle.std.specs.Prelude.{IfOk, IfErr, OnOk, OnErr};
+ghost use Rattle.gql_tasks.specs.Keeps.{Keeps};
 ghost use Rattle.gql_tasks.specs.Phases.{HaltsInTurn, RootsStand, RunsInTurn};
-ghost use Rattle.gql_tasks.specs.Progress.{seen};
+ghost use Rattle.gql_tasks.specs.Progress.{seen_in};
 ghost use Rattle.gql_tasks.specs.Rounds.{RoundsStopped, RoundsWhole};
-ghost use Rattle.gql_tasks.specs.Steps.{IsCounted};
 ghost use Rattle.gql_meaning.specs.Responses.{root_place};
 ghost use Rattle.gql_resolve.specs.Call.{is_mutation};
 ghost use Rattle.gql_place.specs.Alike.{Same};
@@ -25,11 +25,11 @@ use crate::execute_query::{root_of, root_piece};
 use crate::objects::parent::Parent;
 use crate::root_keys::answer_keys;
 use crate::scene::Scene;
-use gql_base::{NoMemory, Pos, Steps};
+use gql_base::{NoMemory, Pos};
 use gql_collect::Grouping;
 use gql_place::Piece;
 use gql_resolve::{ResolverSet, Turns};
-use gql_tasks::{Rounds, fresh_arena};
+use gql_tasks::{Rounds, Run, fresh_arena};
 use std::alloc::Global;
 use std::collections::VecDeque;
 use std::rc::Rc;
@@ -41,47 +41,41 @@ use std::sync::ledger::Ledger;
 /// under it in the world that it leaves, where each group of occurrences is one task; the next
 /// one goes on from there, also after a failure. Want of memory tells how many root keys have their
 /// effect.
+#[tactic(auto, using(gql_tasks::proofs::KeepsLemmas::keeps_none))]
 pub fn run_mutation_grouped<R: ResolverSet, H: Rounds, P: Turns, S: Ledger>(
     alloc: Global,
     by: Grouping,
     scene: &Scene<'_, R::Own>,
-    resolvers: &mut R,
-    hooks: &mut H,
-    turns: &mut P,
-    steps: &mut Steps<S>,
+    run: &mut Run<'_, R, H, P, S>,
 ) -> Result<(Piece, u64), NoMemory>
     requires { is_mutation scene.now.env.now.operation.node.ty ≡ true }
-    ensures places { R.is_lawful resolvers.old → H.are_quiet hooks.old → (n : ℕ)
-        → Nests scene.now n → IfOk result (λ run. Same (keeps_whole by) (place_in run.0)
-        (serial_response_by scene.now (R.answer (R.rules resolvers.old))
-        (R.effect (R.rules resolvers.old)) by (R.world resolvers.old) n)) }
-    ensures count { IfOk result (λ run. run.1 ≡ length (key_work_by by scene.now).first) }
-    ensures rules { R.rules resolvers.new ≡ R.rules resolvers.old }
-    ensures lawful { R.is_lawful resolvers.old → R.is_lawful resolvers.new }
-    ensures paced { R.is_paced resolvers.old → R.is_paced resolvers.new }
-    ensures world { R.is_lawful resolvers.old → H.are_quiet hooks.old → OnOk result
-        (R.world resolvers.new ≡ last_world_of scene.now (R.effect (R.rules resolvers.old))
-        (R.world resolvers.old)) }
-    ensures quiet { H.are_quiet hooks.old → H.are_quiet hooks.new }
-    ensures record { R.is_lawful resolvers.old → H.are_quiet hooks.old → OnOk result
+    ensures places { R.is_lawful run.old.set.now → H.are_quiet run.old.hooks.now → (n : ℕ)
+        → Nests scene.now n → IfOk result (λ ran. Same (keeps_whole by) (place_in ran.0)
+        (serial_response_by scene.now (R.answer (R.rules run.old.set.now))
+        (R.effect (R.rules run.old.set.now)) by (R.world run.old.set.now) n)) }
+    ensures count { IfOk result (λ ran. ran.1 ≡ length (key_work_by by scene.now).first) }
+    ensures keeps { Keeps R.ResolverSet H.Rounds run.old run.new }
+    ensures world { R.is_lawful run.old.set.now → H.are_quiet run.old.hooks.now → OnOk result
+        (R.world run.new.set.now ≡ last_world_of scene.now (R.effect (R.rules run.old.set.now))
+        (R.world run.old.set.now)) }
+    ensures record { R.is_lawful run.old.set.now → H.are_quiet run.old.hooks.now → OnOk result
         (RunsInTurn R.ResolverSet P.Turns (key_work_by by scene.now)
-        (seen resolvers.old turns.old) (seen resolvers.new turns.new)) }
-    ensures stopped { R.is_lawful resolvers.old → H.are_quiet hooks.old → OnErr result
+        (seen_in run.old) (seen_in run.new)) }
+    ensures stopped { R.is_lawful run.old.set.now → H.are_quiet run.old.hooks.now → OnErr result
         (HaltsInTurn R.ResolverSet P.Turns (key_work_by by scene.now)
-        (seen resolvers.old turns.old) (seen resolvers.new turns.new)) }
-    ensures roots { R.is_lawful resolvers.old → H.are_quiet hooks.old → IfErr result (λ want.
-        RootsStand R.ResolverSet P.Turns (key_work_by by scene.now)
-        (seen resolvers.old turns.old) (seen resolvers.new turns.new) want.roots) }
+        (seen_in run.old) (seen_in run.new)) }
+    ensures roots { R.is_lawful run.old.set.now → H.are_quiet run.old.hooks.now
+        → IfErr result (λ want. RootsStand R.ResolverSet P.Turns (key_work_by by scene.now)
+        (seen_in run.old) (seen_in run.new) want.roots) }
     ensures rounds { OnOk result (RoundsWhole asked_by_job H.Rounds
-        (no_jobs scene.now) hooks.old hooks.new) }
+        (no_jobs scene.now) run.old.hooks.now run.new.hooks.now) }
     ensures unfinished { OnErr result
-        (RoundsStopped asked_by_job H.Rounds (no_jobs scene.now) hooks.old hooks.new) }
-    ensures counted { IsCounted (R.begun resolvers.old) (R.begun resolvers.new)
-        steps.old steps.new }
-    ensures asked { R.is_lawful resolvers.old → H.are_quiet hooks.old → (n : ℕ)
-        → Nests scene.now n → OnOk result (steps.new ≡ steps.old
-        + serial_count_by scene.now (R.answer (R.rules resolvers.old))
-        (R.effect (R.rules resolvers.old)) (R.world resolvers.old) n by) }
+        (RoundsStopped asked_by_job H.Rounds (no_jobs scene.now) run.old.hooks.now
+        run.new.hooks.now) }
+    ensures asked { R.is_lawful run.old.set.now → H.are_quiet run.old.hooks.now → (n : ℕ)
+        → Nests scene.now n → OnOk result (run.new.steps.now ≡ run.old.steps.now
+        + serial_count_by scene.now (R.answer (R.rules run.old.set.now))
+        (R.effect (R.rules run.old.set.now)) (R.world run.old.set.now) n by) }
 {
     let root = root_of(alloc, by, scene)?;
     let mut tasks = Vec::new(alloc);
@@ -89,9 +83,7 @@ pub fn run_mutation_grouped<R: ResolverSet, H: Rounds, P: Turns, S: Ledger>(
     let mut plan = TreePlan::empty(alloc);
     let mut arena = fresh_arena(alloc, 0)?;
     let keys = VecDeque::from_vec(tasks);
-    let own = answer_keys(
-        alloc, keys, &mut plan, &mut arena, resolvers, hooks, turns, steps,
-    )?;
+    let own = answer_keys(alloc, keys, &mut plan, &mut arena, run)?;
     let pos = scene.env.operation.pos;
     place_of_keys(alloc, pos, &root, by.keeps_whole(), own)
 }

@@ -4,9 +4,9 @@ ghost use Rattle.std.specs.Prelude.{ℕ, ◌≡◌, ◌+◌, ◌<◌, ◌∷◌,
 ghost use Rattle.std.specs.Prelude.{IfOk, IfErr, OnErr, OnOk};
 ghost use Rattle.gql_engine.specs.PlaceStore.{present};
 ghost use Rattle.gql_tasks.specs.Parts.{due_by};
-ghost use Rattle.gql_tasks.specs.Progress.{RunsWhole, RunStopped, seen};
+ghost use Rattle.gql_tasks.specs.Keeps.{Keeps, KeepsSet};
+ghost use Rattle.gql_tasks.specs.Progress.{RunsWhole, RunStopped, seen, seen_in};
 ghost use Rattle.gql_tasks.specs.Rounds.{RoundsWhole, RoundsStopped};
-ghost use Rattle.gql_tasks.specs.Steps.{IsCounted};
 ghost use Rattle.gql_meaning.specs.Responses.{root_place};
 ghost use Rattle.gql_place.specs.Alike.{Same};
 ghost use Rattle.gql_place.specs.Pieces.{members_in, place_in};
@@ -36,7 +36,7 @@ use gql_doc::OperationType;
 use gql_place::{MemberPieces, Piece, Place};
 use gql_request::Hooks;
 use gql_resolve::{ResolverSet, Turns};
-use gql_tasks::{Rounds, finish, fresh_arena};
+use gql_tasks::{Rounds, Run, finish, fresh_arena};
 use std::alloc::Global;
 use std::collections::VecDeque;
 use std::rc::Rc;
@@ -46,45 +46,39 @@ use std::sync::ledger::{Blank, Ledger};
 /// task, and the tasks take the turns that are chosen for them. Each start of a resolver that
 /// answered is a step, so that as many steps are taken as answers are asked. The hooks of each task
 /// are entered once, before its resolver is started.
+#[tactic(auto, using(gql_tasks::proofs::KeepsLemmas::keeps_none))]
 pub fn run_grouped<R: ResolverSet, H: Rounds, P: Turns, S: Ledger>(
     alloc: Global,
     by: Grouping,
     scene: &Scene<'_, R::Own>,
-    resolvers: &mut R,
-    hooks: &mut H,
-    turns: &mut P,
-    steps: &mut Steps<S>,
+    run: &mut Run<'_, R, H, P, S>,
 ) -> Result<Piece, NoMemory>
     requires { is_mutation scene.now.env.now.operation.node.ty ≡ false }
-    ensures places { R.is_lawful resolvers.old → H.are_quiet hooks.old → (n : ℕ)
+    ensures places { R.is_lawful run.old.set.now → H.are_quiet run.old.hooks.now → (n : ℕ)
         → Nests scene.now n → IfOk result (λ piece. Same (keeps_whole by) (place_in piece)
-        (response_by by scene.now (due_by R.ResolverSet resolvers.old) n)) }
-    ensures rules { R.rules resolvers.new ≡ R.rules resolvers.old }
-    ensures lawful { R.is_lawful resolvers.old → R.is_lawful resolvers.new }
-    ensures paced { R.is_paced resolvers.old → R.is_paced resolvers.new }
-    ensures world { R.is_lawful resolvers.old → R.world resolvers.new ≡ R.world resolvers.old }
-    ensures quiet { H.are_quiet hooks.old → H.are_quiet hooks.new }
-    ensures record { R.is_lawful resolvers.old → H.are_quiet hooks.old → OnOk result
-        (RunsWhole R.ResolverSet P.Turns (work_by by scene.now)
-        (seen resolvers.old turns.old) (seen resolvers.new turns.new)) }
-    ensures stopped { R.is_lawful resolvers.old → H.are_quiet hooks.old → OnErr result
-        (RunStopped R.ResolverSet P.Turns (work_by by scene.now)
-        (seen resolvers.old turns.old) (seen resolvers.new turns.new)) }
+        (response_by by scene.now (due_by R.ResolverSet run.old.set.now) n)) }
+    ensures keeps { Keeps R.ResolverSet H.Rounds run.old run.new }
+    ensures world { R.is_lawful run.old.set.now
+        → R.world run.new.set.now ≡ R.world run.old.set.now }
+    ensures record { R.is_lawful run.old.set.now → H.are_quiet run.old.hooks.now → OnOk result
+        (RunsWhole R.ResolverSet P.Turns (work_by by scene.now) (seen_in run.old)
+        (seen_in run.new)) }
+    ensures stopped { R.is_lawful run.old.set.now → H.are_quiet run.old.hooks.now → OnErr result
+        (RunStopped R.ResolverSet P.Turns (work_by by scene.now) (seen_in run.old)
+        (seen_in run.new)) }
     ensures roots { IfErr result (λ want. want.roots ≡ 0) }
     ensures rounds { OnOk result (RoundsWhole asked_by_job H.Rounds
-        (root_jobs_by by scene.now) hooks.old hooks.new) }
+        (root_jobs_by by scene.now) run.old.hooks.now run.new.hooks.now) }
     ensures unfinished { OnErr result (RoundsStopped asked_by_job H.Rounds
-        (root_jobs_by by scene.now) hooks.old hooks.new) }
-    ensures counted { IsCounted (R.begun resolvers.old) (R.begun resolvers.new)
-        steps.old steps.new }
-    ensures asked { R.is_lawful resolvers.old → H.are_quiet hooks.old → (n : ℕ)
-        → Nests scene.now n → OnOk result (steps.new ≡ steps.old
-        + count_by scene.now (due_by R.ResolverSet resolvers.old) n by) }
+        (root_jobs_by by scene.now) run.old.hooks.now run.new.hooks.now) }
+    ensures asked { R.is_lawful run.old.set.now → H.are_quiet run.old.hooks.now → (n : ℕ)
+        → Nests scene.now n → OnOk result (run.new.steps.now ≡ run.old.steps.now
+        + count_by scene.now (due_by R.ResolverSet run.old.set.now) n by) }
 {
     let root = root_of(alloc, by, scene)?;
     let mut plan = plan_of(alloc, &root)?;
     let mut arena = fresh_arena(alloc, plan.tasks.len())?;
-    finish(alloc, &mut plan, &mut arena, resolvers, hooks, turns, steps)?;
+    finish(alloc, &mut plan, &mut arena, run)?;
     let whole = by.keeps_whole();
     Ok(place_of_root(alloc, scene.env.operation.pos, &root, whole, plan)?)
 }
@@ -106,9 +100,7 @@ pub(crate) fn run_on_blank<R: ResolverSet, P: Turns, S: Ledger>(
     ensures places { R.is_lawful resolvers.old → (n : ℕ) → Nests scene.now n
         → IfOk result (λ piece. Same (keeps_whole by) (place_in piece)
         (response_by by scene.now (due_by R.ResolverSet resolvers.old) n)) }
-    ensures rules { R.rules resolvers.new ≡ R.rules resolvers.old }
-    ensures lawful { R.is_lawful resolvers.old → R.is_lawful resolvers.new }
-    ensures paced { R.is_paced resolvers.old → R.is_paced resolvers.new }
+    ensures keeps { KeepsSet R.ResolverSet resolvers.old resolvers.new }
     ensures world { R.is_lawful resolvers.old → R.world resolvers.new ≡ R.world resolvers.old }
     ensures record { R.is_lawful resolvers.old → OnOk result
         (RunsWhole R.ResolverSet P.Turns (work_by by scene.now)
@@ -119,7 +111,12 @@ pub(crate) fn run_on_blank<R: ResolverSet, P: Turns, S: Ledger>(
     ensures roots { IfErr result (λ want. want.roots ≡ 0) }
 {
     let mut steps: Steps<S> = Steps::new(blank);
-    run_grouped(alloc, by, scene, resolvers, hooks, turns, &mut steps)
+    run_grouped(
+        alloc,
+        by,
+        scene,
+        &mut Run::over(resolvers, hooks, turns, &mut steps),
+    )
 }
 
 /// The object at the root with its fields.

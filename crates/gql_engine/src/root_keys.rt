@@ -3,7 +3,7 @@ ghost use Rattle.std.specs.Prelude.{ℕ, ◌≡◌, ◌<◌, ◌≤◌, ◌++◌
 ghost use Rattle.std.specs.Prelude.{Some, None, ◌-◌, ◌+◌, slice_set, IfErr, IfOk, OnErr, OnOk};
 ghost use Rattle.std.specs.List.{AllByRecursion};
 ghost use Rattle.gql_tasks.specs.Arena.{fresh_states, marks_of};
-ghost use Rattle.gql_tasks.specs.Parts.{at, outside, root_parts};
+ghost use Rattle.gql_tasks.specs.Parts.{at, root_parts};
 ghost use Rattle.gql_tasks.specs.Phases.{CutInTurn, InTurn, serving_by};
 ghost use Rattle.gql_tasks.specs.Record.{waiting_from};
 ghost use Rattle.gql_tasks.specs.declared.given.Given.TheVariants.{Put};
@@ -19,10 +19,10 @@ ghost use Rattle.gql_resolve.specs.declared.answer.Answer.{Answer};
 use crate::assembly::assemble::{add_open, assemble};
 use crate::execute_field::task::Task;
 use crate::execute_field::tree_plan::TreePlan;
-use gql_base::{Made, NoMemory, Steps};
+use gql_base::{Made, NoMemory};
 use gql_place::Piece;
 use gql_resolve::{ResolverSet, Turns};
-use gql_tasks::{Arena, Plan, Rounds, make_tasks, run_phase};
+use gql_tasks::{Arena, Plan, Rounds, Run, make_tasks, run_phase};
 use std::alloc::Global;
 use std::collections::VecDeque;
 use std::sync::ledger::Ledger;
@@ -35,30 +35,25 @@ pub(crate) fn answer_key<'a, R: ResolverSet, H: Rounds, P: Turns, S: Ledger>(
     plan: &mut TreePlan<'a, R::Own>,
     arena: &mut Arena<R::Future>,
     own: &mut Vec<Option<Piece>>,
-    resolvers: &mut R,
-    hooks: &mut H,
-    turns: &mut P,
-    steps: &mut Steps<S>,
+    run: &mut Run<'_, R, H, P, S>,
 ) -> Result<(), NoMemory>
     requires root { (job_of_task task).asking.call.is_root ≡ true }
     requires short { length (job_of_task task).path ≡ 1 }
     requires closed { plan.old.kept.items ≡ [] }
     requires between { InTurn
         (root_parts R.ResolverSet ⟦<TreePlan<'a, R::Own> as Plan<R::Own>>⟧ H.Rounds P.Turns)
-        (at plan.old arena.old (outside resolvers.old hooks.old turns.old steps.old))
-        (at plan.old arena.old (outside resolvers.old hooks.old turns.old steps.old)) [] }
+        (at plan.old arena.old run.old) (at plan.old arena.old run.old) [] }
     ensures over { OnOk result (KeyOver
         (root_parts R.ResolverSet ⟦<TreePlan<'a, R::Own> as Plan<R::Own>>⟧ H.Rounds P.Turns)
-        (at plan.old arena.old (outside resolvers.old hooks.old turns.old steps.old))
-        (at plan.new arena.new (outside resolvers.new hooks.new turns.new steps.new))
+        (at plan.old arena.old run.old) (at plan.new arena.new run.new)
         (job_of_task task.entry)) }
     ensures cut { IfErr result (KeyCut
         (root_parts R.ResolverSet ⟦<TreePlan<'a, R::Own> as Plan<R::Own>>⟧ H.Rounds P.Turns)
-        (at plan.old arena.old (outside resolvers.old hooks.old turns.old steps.old))
-        (at plan.new arena.new (outside resolvers.new hooks.new turns.new steps.new))
+        (at plan.old arena.old run.old) (at plan.new arena.new run.new)
         (job_of_task task.entry) (length own.old.items)) }
-    ensures placed { R.is_lawful resolvers.old → H.are_quiet hooks.old → OnOk result (HasPlace
-        (answer_in_phase (serving_by R.ResolverSet resolvers.old) (R.world resolvers.old)
+    ensures placed { R.is_lawful run.old.set.now → H.are_quiet run.old.hooks.now
+        → OnOk result (HasPlace
+        (answer_in_phase (serving_by R.ResolverSet run.old.set.now) (R.world run.old.set.now)
         (job_of_task task.entry)) (job_of_task task.entry) own.old.items own.new.items) }
     ensures closed { OnOk result (plan.new.kept.items ≡ []) }
     ensures own { OnOk result (length own.new.items ≡ length own.old.items + 1) }
@@ -69,7 +64,7 @@ pub(crate) fn answer_key<'a, R: ResolverSet, H: Rounds, P: Turns, S: Ledger>(
         Ok(()) => {}
         Err(_) => return Err(NoMemory { roots: keys }),
     }
-    match run_phase(alloc, plan, arena, resolvers, hooks, turns, steps) {
+    match run_phase(alloc, plan, arena, run) {
         Ok(()) => {}
         Err(want) => return Err(behind_keys(keys, own.len() as u64, want)),
     }
@@ -163,38 +158,31 @@ pub(crate) fn answer_keys<'a, R: ResolverSet, H: Rounds, P: Turns, S: Ledger>(
     tasks: VecDeque<Task<'a, R::Own>>,
     plan: &mut TreePlan<'a, R::Own>,
     arena: &mut Arena<R::Future>,
-    resolvers: &mut R,
-    hooks: &mut H,
-    turns: &mut P,
-    steps: &mut Steps<S>,
+    run: &mut Run<'_, R, H, P, S>,
 ) -> Result<Vec<Option<Piece>>, NoMemory>
     requires keys { AllByRecursion IsKey (jobs_in tasks.items) }
     requires closed { plan.old.kept.items ≡ [] }
     requires between { InTurn
         (root_parts R.ResolverSet ⟦<TreePlan<'a, R::Own> as Plan<R::Own>>⟧ H.Rounds P.Turns)
-        (at plan.old arena.old (outside resolvers.old hooks.old turns.old steps.old))
-        (at plan.old arena.old (outside resolvers.old hooks.old turns.old steps.old)) [] }
+        (at plan.old arena.old run.old) (at plan.old arena.old run.old) [] }
     ensures over { OnOk result (InTurn
         (root_parts R.ResolverSet ⟦<TreePlan<'a, R::Own> as Plan<R::Own>>⟧ H.Rounds P.Turns)
-        (at plan.old arena.old (outside resolvers.old hooks.old turns.old steps.old))
-        (at plan.new arena.new (outside resolvers.new hooks.new turns.new steps.new))
+        (at plan.old arena.old run.old) (at plan.new arena.new run.new)
         (jobs_in tasks.entry.items)) }
     ensures cut { IfErr result (CutInTurn
         (root_parts R.ResolverSet ⟦<TreePlan<'a, R::Own> as Plan<R::Own>>⟧ H.Rounds P.Turns)
-        (at plan.old arena.old (outside resolvers.old hooks.old turns.old steps.old))
-        (at plan.new arena.new (outside resolvers.new hooks.new turns.new steps.new))
+        (at plan.old arena.old run.old) (at plan.new arena.new run.new)
         (jobs_in tasks.entry.items)) }
-    ensures placed { R.is_lawful resolvers.old → H.are_quiet hooks.old → IfOk result (λ own.
-        PlacedInTurn (serving_by R.ResolverSet resolvers.old) (R.world resolvers.old)
+    ensures placed { R.is_lawful run.old.set.now → H.are_quiet run.old.hooks.now
+        → IfOk result (λ own.
+        PlacedInTurn (serving_by R.ResolverSet run.old.set.now) (R.world run.old.set.now)
         (jobs_in tasks.entry.items) own.items) }
     ensures count { IfOk result (λ own. length own.items ≡ length (jobs_in tasks.entry.items)) }
 {
     let mut tasks = tasks;
     let mut own = Vec::new(alloc);
     'keys: while let Some(task) = tasks.pop_front() {
-        answer_key(
-            alloc, task, plan, arena, &mut own, resolvers, hooks, turns, steps,
-        )?;
+        answer_key(alloc, task, plan, arena, &mut own, run)?;
     }
     Ok(own)
 }

@@ -21,6 +21,7 @@ use gql_place::{Place, faults, raise};
 use gql_request::{Data, Hooks, IntrospectionMode, QueryEnv};
 use gql_resolve::{FieldValue, Layers, Turns};
 use gql_schema::{Enum, Interface, Object, Scalar, ScalarRule, SchemaType, Types, Union};
+use gql_tasks::Run;
 use std::alloc::Global;
 use std::marker::Brand;
 use std::sync::ledger::{Blank, Ledger};
@@ -184,7 +185,8 @@ fn place_of<P: Turns, S: Ledger>(
     match by {
         Grouping::ByKey => {
             let mut steps: Steps<S> = Steps::new(blank);
-            let piece = run_grouped(alloc, by, &scene, set, &mut hooks, turns, &mut steps)?;
+            let mut run = Run::over(set, &mut hooks, turns, &mut steps);
+            let piece = run_grouped(alloc, by, &scene, &mut run)?;
             Ok(piece.into_place(alloc))
         }
         Grouping::ByKeyWhole => run_merged(alloc, &scene, set, &mut hooks, turns),
@@ -210,9 +212,8 @@ fn place_in_turn<P: Turns, S: Ledger>(
     let mut steps: Steps<S> = Steps::new(blank);
     let scene = ground.scene(env);
     let mut hooks = Hooks::none(alloc);
-    let (piece, roots) = run_mutation_grouped(
-        alloc, by, &scene, set, &mut hooks, turns, &mut steps,
-    )?;
+    let mut run = Run::over(set, &mut hooks, turns, &mut steps);
+    let (piece, roots) = run_mutation_grouped(alloc, by, &scene, &mut run)?;
     Ok((piece.into_place(alloc), roots))
 }
 

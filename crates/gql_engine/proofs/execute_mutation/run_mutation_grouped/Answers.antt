@@ -7,9 +7,9 @@ use Rattle.gql_tasks.proofs.InTurnLemmas.{cut_between, in_turn_none}
 use Rattle.gql_tasks.proofs.RootLemmas.{if_err}
 use Rattle.gql_tasks.proofs.RoundLemmas.{no_rounds, so_far_enters_whole, stopped_rounds, whole_rounds}
 use Rattle.gql_tasks.specs.Arena.{made_of, marks_of, started, total}
-use Rattle.gql_tasks.specs.Parts.{at, choice_by, outside, root_parts, stage}
+use Rattle.gql_tasks.specs.Parts.{at, choice_by, root_parts, stage}
 use Rattle.gql_tasks.specs.Phases.{AreCut, CutInTurn, none_made, Phases, RootsStand, serving_by, world_past}
-use Rattle.gql_tasks.specs.Progress.{seen}
+use Rattle.gql_tasks.specs.Progress.{seen_in}
 use Rattle.gql_tasks.specs.Rounds.{RoundsStopped, RoundsWhole}
 use Rattle.gql_meaning.specs.Responses.{root_place}
 use Rattle.gql_place.specs.Alike.{Same}
@@ -34,22 +34,22 @@ use Rattle.gql_engine.proofs.MutationLemmas.{last_past, members_in_turn}
 use Rattle.gql_engine.proofs.execute_mutation.run_mutation_grouped.Goals as goal
 
 pub returns-in_err-root-clause-stopped : goal.returns-in_err-root-clause-stopped
-returns-in_err-root-clause-stopped g c = λ law calm. on_err c.from_residual.result _ (halts_none g.R.ResolverSet g.P.Turns (key_work_by c.args.by c.args.scene.now) (seen c.args.resolvers.now c.args.turns.now))
+returns-in_err-root-clause-stopped g c = λ law calm. on_err c.from_residual.result _ (halts_none g.R.ResolverSet g.P.Turns (key_work_by c.args.by c.args.scene.now) (seen_in c.args.run.now))
 
 pub returns-in_err-root-clause-unfinished : goal.returns-in_err-root-clause-unfinished
-returns-in_err-root-clause-unfinished g c = on_err c.from_residual.result _ (no_rounds {asks = asked_by_job} {hooks = g.H.Rounds} (no_jobs c.args.scene.now) c.args.hooks.now)
+returns-in_err-root-clause-unfinished g c = on_err c.from_residual.result _ (no_rounds {asks = asked_by_job} {hooks = g.H.Rounds} (no_jobs c.args.scene.now) c.args.run.now.hooks.now)
 
 pub returns-in_err-make_tasks-clause-stopped : goal.returns-in_err-make_tasks-clause-stopped
-returns-in_err-make_tasks-clause-stopped g c = λ law calm. on_err c.from_residual-in_err-make_tasks.result _ (halts_none g.R.ResolverSet g.P.Turns (key_work_by c.args.by c.args.scene.now) (seen c.args.resolvers.now c.args.turns.now))
+returns-in_err-make_tasks-clause-stopped g c = λ law calm. on_err c.from_residual-in_err-make_tasks.result _ (halts_none g.R.ResolverSet g.P.Turns (key_work_by c.args.by c.args.scene.now) (seen_in c.args.run.now))
 
 pub returns-in_err-make_tasks-clause-unfinished : goal.returns-in_err-make_tasks-clause-unfinished
-returns-in_err-make_tasks-clause-unfinished g c = on_err c.from_residual-in_err-make_tasks.result _ (no_rounds {asks = asked_by_job} {hooks = g.H.Rounds} (no_jobs c.args.scene.now) c.args.hooks.now)
+returns-in_err-make_tasks-clause-unfinished g c = on_err c.from_residual-in_err-make_tasks.result _ (no_rounds {asks = asked_by_job} {hooks = g.H.Rounds} (no_jobs c.args.scene.now) c.args.run.now.hooks.now)
 
 pub returns-in_err-arena-clause-stopped : goal.returns-in_err-arena-clause-stopped
-returns-in_err-arena-clause-stopped g c = λ law calm. on_err c.from_residual-in_err-arena.result _ (halts_none g.R.ResolverSet g.P.Turns (key_work_by c.args.by c.args.scene.now) (seen c.args.resolvers.now c.args.turns.now))
+returns-in_err-arena-clause-stopped g c = λ law calm. on_err c.from_residual-in_err-arena.result _ (halts_none g.R.ResolverSet g.P.Turns (key_work_by c.args.by c.args.scene.now) (seen_in c.args.run.now))
 
 pub returns-in_err-arena-clause-unfinished : goal.returns-in_err-arena-clause-unfinished
-returns-in_err-arena-clause-unfinished g c = on_err c.from_residual-in_err-arena.result _ (no_rounds {asks = asked_by_job} {hooks = g.H.Rounds} (no_jobs c.args.scene.now) c.args.hooks.now)
+returns-in_err-arena-clause-unfinished g c = on_err c.from_residual-in_err-arena.result _ (no_rounds {asks = asked_by_job} {hooks = g.H.Rounds} (no_jobs c.args.scene.now) c.args.run.now.hooks.now)
 
 pub answer_keys-requires-clause-keys : goal.answer_keys-requires-clause-keys
 answer_keys-requires-clause-keys g c =
@@ -62,7 +62,7 @@ answer_keys-requires-clause-keys g c =
 
 pub answer_keys-requires-clause-between : goal.answer_keys-requires-clause-between
 answer_keys-requires-clause-between g c =
-    in_turn_none (at c.empty-plan.result c.in_ok-arena.arena (outside c.args.resolvers.now c.args.hooks.now c.args.turns.now c.args.steps.now))
+    in_turn_none (at c.empty-plan.result c.in_ok-arena.arena c.args.run.now)
     c.in_ok-arena.ensures.states c.empty-plan.ensures.tasks c.in_ok-arena.ensures.waits
 
 pub returns-in_err-own-clause-stopped : goal.returns-in_err-own-clause-stopped
@@ -72,12 +72,12 @@ returns-in_err-own-clause-stopped g c = λ law calm.
     let asked : jobs_in c.from_vec-keys.result.items ≡ key_jobs_by c.args.by scene
     = ap jobs_in c.from_vec-keys.ensures.items ∙ c.in_ok-make_tasks.ensures ∙ ap (λ (ts : List (Task g.row.R-Own.Denot)). jobs_in ts ++ jobs_here c.in_ok-root.root.value) c.new-tasks.ensures.items
     ∙ c.in_ok-root.ensures.jobs ∙ mutation_jobs c.args.by scene c.requires in
-    let first = at c.empty-plan.result c.in_ok-arena.arena (outside c.args.resolvers.now c.args.hooks.now c.args.turns.now c.args.steps.now) in
-    let new = at c.answer_keys.new.plan c.answer_keys.new.arena (outside c.answer_keys.new.resolvers c.answer_keys.new.hooks c.answer_keys.new.turns c.answer_keys.new.steps) in
-    let serving = serving_by g.R.ResolverSet c.args.resolvers.now in
-    let world = g.R.ResolverSet.world c.args.resolvers.now in
-    let nothing : stage e first ≡ none_made g.R.ResolverSet g.P.Turns (key_work_by c.args.by scene) (seen c.args.resolvers.now c.args.turns.now) (seen c.args.resolvers.now c.args.turns.now) =
-    stage_none (g.R.ResolverSet.told c.args.resolvers.now) (g.R.ResolverSet.begun c.args.resolvers.now) (g.P.Turns.state c.args.turns.now) (jobs_in c.empty-plan.result.tasks.items)
+    let first = at c.empty-plan.result c.in_ok-arena.arena c.args.run.now in
+    let new = at c.answer_keys.new.plan c.answer_keys.new.arena c.answer_keys.new.run in
+    let serving = serving_by g.R.ResolverSet c.args.run.now.set.now in
+    let world = g.R.ResolverSet.world c.args.run.now.set.now in
+    let nothing : stage e first ≡ none_made g.R.ResolverSet g.P.Turns (key_work_by c.args.by scene) (seen_in c.args.run.now) (seen_in c.args.run.now) =
+    stage_none (g.R.ResolverSet.told c.args.run.now.set.now) (g.R.ResolverSet.begun c.args.run.now.set.now) (g.P.Turns.state c.args.run.now.turns.now) (jobs_in c.empty-plan.result.tasks.items)
     (marks_of c.in_ok-arena.arena.states.items) c.empty-plan.ensures.tasks (ap marks_of c.in_ok-arena.ensures.states) in
     let cut = c.in_err-own.ensures.cut in
     on_err c.from_residual-in_err-own.result _
@@ -91,15 +91,15 @@ returns-in_err-own-clause-roots g c = λ law calm.
     let asked : jobs_in c.from_vec-keys.result.items ≡ key_jobs_by c.args.by scene
     = ap jobs_in c.from_vec-keys.ensures.items ∙ c.in_ok-make_tasks.ensures ∙ ap (λ (ts : List (Task g.row.R-Own.Denot)). jobs_in ts ++ jobs_here c.in_ok-root.root.value) c.new-tasks.ensures.items
     ∙ c.in_ok-root.ensures.jobs ∙ mutation_jobs c.args.by scene c.requires in
-    let first = at c.empty-plan.result c.in_ok-arena.arena (outside c.args.resolvers.now c.args.hooks.now c.args.turns.now c.args.steps.now) in
-    let new = at c.answer_keys.new.plan c.answer_keys.new.arena (outside c.answer_keys.new.resolvers c.answer_keys.new.hooks c.answer_keys.new.turns c.answer_keys.new.steps) in
-    let serving = serving_by g.R.ResolverSet c.args.resolvers.now in
-    let world = g.R.ResolverSet.world c.args.resolvers.now in
-    let nothing : stage e first ≡ none_made g.R.ResolverSet g.P.Turns (key_work_by c.args.by scene) (seen c.args.resolvers.now c.args.turns.now) (seen c.args.resolvers.now c.args.turns.now) =
-    stage_none (g.R.ResolverSet.told c.args.resolvers.now) (g.R.ResolverSet.begun c.args.resolvers.now) (g.P.Turns.state c.args.turns.now) (jobs_in c.empty-plan.result.tasks.items)
+    let first = at c.empty-plan.result c.in_ok-arena.arena c.args.run.now in
+    let new = at c.answer_keys.new.plan c.answer_keys.new.arena c.answer_keys.new.run in
+    let serving = serving_by g.R.ResolverSet c.args.run.now.set.now in
+    let world = g.R.ResolverSet.world c.args.run.now.set.now in
+    let nothing : stage e first ≡ none_made g.R.ResolverSet g.P.Turns (key_work_by c.args.by scene) (seen_in c.args.run.now) (seen_in c.args.run.now) =
+    stage_none (g.R.ResolverSet.told c.args.run.now.set.now) (g.R.ResolverSet.begun c.args.run.now.set.now) (g.P.Turns.state c.args.run.now.turns.now) (jobs_in c.empty-plan.result.tasks.items)
     (marks_of c.in_ok-arena.arena.states.items) c.empty-plan.ensures.tasks (ap marks_of c.in_ok-arena.ensures.states) in
-    let old_seen = seen c.args.resolvers.now c.args.turns.now in
-    let new_seen = seen c.answer_keys.new.resolvers c.answer_keys.new.turns in
+    let old_seen = seen_in c.args.run.now in
+    let new_seen = seen_in c.answer_keys.new.run in
     if_err _ (λ want. RootsStand g.R.ResolverSet g.P.Turns (key_work_by c.args.by scene) old_seen new_seen want.roots) c.from_residual-in_err-own.result c.from_residual-in_err-own.ensures.1
     (λ want is.
     let stands = (subst (λ w. CutInTurn e first new (key_jobs_by c.args.by scene) w) (sym is)
@@ -109,7 +109,7 @@ returns-in_err-own-clause-roots g c = λ law calm.
 pub returns-in_err-own-clause-unfinished : goal.returns-in_err-own-clause-unfinished
 returns-in_err-own-clause-unfinished g c =
     on_err c.from_residual-in_err-own.result _
-    (subst (λ (ts : List (Job g.row.R-Own.Denot)). RoundsStopped asked_by_job g.H.Rounds ts c.args.hooks.now c.answer_keys.new.hooks) c.empty-plan.ensures.tasks
+    (subst (λ (ts : List (Job g.row.R-Own.Denot)). RoundsStopped asked_by_job g.H.Rounds ts c.args.run.now.hooks.now c.answer_keys.new.run.hooks.now) c.empty-plan.ensures.tasks
     (stopped_rounds 0 c.in_err-own.ensures.cut.enters c.in_ok-arena.ensures.states))
 
 pub returns-clause-places : goal.returns-clause-places
@@ -119,12 +119,12 @@ returns-clause-places g c = λ law calm n nests.
     let asked : jobs_in c.from_vec-keys.result.items ≡ key_jobs_by c.args.by scene
     = ap jobs_in c.from_vec-keys.ensures.items ∙ c.in_ok-make_tasks.ensures ∙ ap (λ (ts : List (Task g.row.R-Own.Denot)). jobs_in ts ++ jobs_here c.in_ok-root.root.value) c.new-tasks.ensures.items
     ∙ c.in_ok-root.ensures.jobs ∙ mutation_jobs c.args.by scene c.requires in
-    let first = at c.empty-plan.result c.in_ok-arena.arena (outside c.args.resolvers.now c.args.hooks.now c.args.turns.now c.args.steps.now) in
-    let new = at c.answer_keys.new.plan c.answer_keys.new.arena (outside c.answer_keys.new.resolvers c.answer_keys.new.hooks c.answer_keys.new.turns c.answer_keys.new.steps) in
-    let serving = serving_by g.R.ResolverSet c.args.resolvers.now in
-    let world = g.R.ResolverSet.world c.args.resolvers.now in
-    let nothing : stage e first ≡ none_made g.R.ResolverSet g.P.Turns (key_work_by c.args.by scene) (seen c.args.resolvers.now c.args.turns.now) (seen c.args.resolvers.now c.args.turns.now) =
-    stage_none (g.R.ResolverSet.told c.args.resolvers.now) (g.R.ResolverSet.begun c.args.resolvers.now) (g.P.Turns.state c.args.turns.now) (jobs_in c.empty-plan.result.tasks.items)
+    let first = at c.empty-plan.result c.in_ok-arena.arena c.args.run.now in
+    let new = at c.answer_keys.new.plan c.answer_keys.new.arena c.answer_keys.new.run in
+    let serving = serving_by g.R.ResolverSet c.args.run.now.set.now in
+    let world = g.R.ResolverSet.world c.args.run.now.set.now in
+    let nothing : stage e first ≡ none_made g.R.ResolverSet g.P.Turns (key_work_by c.args.by scene) (seen_in c.args.run.now) (seen_in c.args.run.now) =
+    stage_none (g.R.ResolverSet.told c.args.run.now.set.now) (g.R.ResolverSet.begun c.args.run.now.set.now) (g.P.Turns.state c.args.run.now.turns.now) (jobs_in c.empty-plan.result.tasks.items)
     (marks_of c.in_ok-arena.arena.states.items) c.empty-plan.ensures.tasks (ap marks_of c.in_ok-arena.ensures.states) in
     let placed = subst (λ rs. PlacedInTurn serving world rs c.in_ok-own.own.items) asked (c.in_ok-own.ensures.placed law calm) in
     let whole = keeps_whole c.args.by in
@@ -154,12 +154,12 @@ returns-clause-world g c = λ law calm.
     let asked : jobs_in c.from_vec-keys.result.items ≡ key_jobs_by c.args.by scene
     = ap jobs_in c.from_vec-keys.ensures.items ∙ c.in_ok-make_tasks.ensures ∙ ap (λ (ts : List (Task g.row.R-Own.Denot)). jobs_in ts ++ jobs_here c.in_ok-root.root.value) c.new-tasks.ensures.items
     ∙ c.in_ok-root.ensures.jobs ∙ mutation_jobs c.args.by scene c.requires in
-    let first = at c.empty-plan.result c.in_ok-arena.arena (outside c.args.resolvers.now c.args.hooks.now c.args.turns.now c.args.steps.now) in
-    let new = at c.answer_keys.new.plan c.answer_keys.new.arena (outside c.answer_keys.new.resolvers c.answer_keys.new.hooks c.answer_keys.new.turns c.answer_keys.new.steps) in
-    let serving = serving_by g.R.ResolverSet c.args.resolvers.now in
-    let world = g.R.ResolverSet.world c.args.resolvers.now in
-    let nothing : stage e first ≡ none_made g.R.ResolverSet g.P.Turns (key_work_by c.args.by scene) (seen c.args.resolvers.now c.args.turns.now) (seen c.args.resolvers.now c.args.turns.now) =
-    stage_none (g.R.ResolverSet.told c.args.resolvers.now) (g.R.ResolverSet.begun c.args.resolvers.now) (g.P.Turns.state c.args.turns.now) (jobs_in c.empty-plan.result.tasks.items)
+    let first = at c.empty-plan.result c.in_ok-arena.arena c.args.run.now in
+    let new = at c.answer_keys.new.plan c.answer_keys.new.arena c.answer_keys.new.run in
+    let serving = serving_by g.R.ResolverSet c.args.run.now.set.now in
+    let world = g.R.ResolverSet.world c.args.run.now.set.now in
+    let nothing : stage e first ≡ none_made g.R.ResolverSet g.P.Turns (key_work_by c.args.by scene) (seen_in c.args.run.now) (seen_in c.args.run.now) =
+    stage_none (g.R.ResolverSet.told c.args.run.now.set.now) (g.R.ResolverSet.begun c.args.run.now.set.now) (g.P.Turns.state c.args.run.now.turns.now) (jobs_in c.empty-plan.result.tasks.items)
     (marks_of c.in_ok-arena.arena.states.items) c.empty-plan.ensures.tasks (ap marks_of c.in_ok-arena.ensures.states) in
     on_ok c.place_of_keys.result _
     (c.in_ok-own.ensures.over.world law calm ∙ ap (world_past serving job_subject world) asked ∙ last_past c.args.by scene serving world)
@@ -171,12 +171,12 @@ returns-clause-record g c = λ law calm.
     let asked : jobs_in c.from_vec-keys.result.items ≡ key_jobs_by c.args.by scene
     = ap jobs_in c.from_vec-keys.ensures.items ∙ c.in_ok-make_tasks.ensures ∙ ap (λ (ts : List (Task g.row.R-Own.Denot)). jobs_in ts ++ jobs_here c.in_ok-root.root.value) c.new-tasks.ensures.items
     ∙ c.in_ok-root.ensures.jobs ∙ mutation_jobs c.args.by scene c.requires in
-    let first = at c.empty-plan.result c.in_ok-arena.arena (outside c.args.resolvers.now c.args.hooks.now c.args.turns.now c.args.steps.now) in
-    let new = at c.answer_keys.new.plan c.answer_keys.new.arena (outside c.answer_keys.new.resolvers c.answer_keys.new.hooks c.answer_keys.new.turns c.answer_keys.new.steps) in
-    let serving = serving_by g.R.ResolverSet c.args.resolvers.now in
-    let world = g.R.ResolverSet.world c.args.resolvers.now in
-    let nothing : stage e first ≡ none_made g.R.ResolverSet g.P.Turns (key_work_by c.args.by scene) (seen c.args.resolvers.now c.args.turns.now) (seen c.args.resolvers.now c.args.turns.now) =
-    stage_none (g.R.ResolverSet.told c.args.resolvers.now) (g.R.ResolverSet.begun c.args.resolvers.now) (g.P.Turns.state c.args.turns.now) (jobs_in c.empty-plan.result.tasks.items)
+    let first = at c.empty-plan.result c.in_ok-arena.arena c.args.run.now in
+    let new = at c.answer_keys.new.plan c.answer_keys.new.arena c.answer_keys.new.run in
+    let serving = serving_by g.R.ResolverSet c.args.run.now.set.now in
+    let world = g.R.ResolverSet.world c.args.run.now.set.now in
+    let nothing : stage e first ≡ none_made g.R.ResolverSet g.P.Turns (key_work_by c.args.by scene) (seen_in c.args.run.now) (seen_in c.args.run.now) =
+    stage_none (g.R.ResolverSet.told c.args.run.now.set.now) (g.R.ResolverSet.begun c.args.run.now.set.now) (g.P.Turns.state c.args.run.now.turns.now) (jobs_in c.empty-plan.result.tasks.items)
     (marks_of c.in_ok-arena.arena.states.items) c.empty-plan.ensures.tasks (ap marks_of c.in_ok-arena.ensures.states) in
     on_ok c.place_of_keys.result _ (record {
       made = made_of (jobs_in c.answer_keys.new.plan.tasks.items) c.answer_keys.new.arena.states.items;
@@ -191,19 +191,19 @@ returns-clause-asked g c = λ law calm n nests.
     let asked : jobs_in c.from_vec-keys.result.items ≡ key_jobs_by c.args.by scene
     = ap jobs_in c.from_vec-keys.ensures.items ∙ c.in_ok-make_tasks.ensures ∙ ap (λ (ts : List (Task g.row.R-Own.Denot)). jobs_in ts ++ jobs_here c.in_ok-root.root.value) c.new-tasks.ensures.items
     ∙ c.in_ok-root.ensures.jobs ∙ mutation_jobs c.args.by scene c.requires in
-    let first = at c.empty-plan.result c.in_ok-arena.arena (outside c.args.resolvers.now c.args.hooks.now c.args.turns.now c.args.steps.now) in
-    let new = at c.answer_keys.new.plan c.answer_keys.new.arena (outside c.answer_keys.new.resolvers c.answer_keys.new.hooks c.answer_keys.new.turns c.answer_keys.new.steps) in
-    let serving = serving_by g.R.ResolverSet c.args.resolvers.now in
-    let world = g.R.ResolverSet.world c.args.resolvers.now in
-    let nothing : stage e first ≡ none_made g.R.ResolverSet g.P.Turns (key_work_by c.args.by scene) (seen c.args.resolvers.now c.args.turns.now) (seen c.args.resolvers.now c.args.turns.now) =
-    stage_none (g.R.ResolverSet.told c.args.resolvers.now) (g.R.ResolverSet.begun c.args.resolvers.now) (g.P.Turns.state c.args.turns.now) (jobs_in c.empty-plan.result.tasks.items)
+    let first = at c.empty-plan.result c.in_ok-arena.arena c.args.run.now in
+    let new = at c.answer_keys.new.plan c.answer_keys.new.arena c.answer_keys.new.run in
+    let serving = serving_by g.R.ResolverSet c.args.run.now.set.now in
+    let world = g.R.ResolverSet.world c.args.run.now.set.now in
+    let nothing : stage e first ≡ none_made g.R.ResolverSet g.P.Turns (key_work_by c.args.by scene) (seen_in c.args.run.now) (seen_in c.args.run.now) =
+    stage_none (g.R.ResolverSet.told c.args.run.now.set.now) (g.R.ResolverSet.begun c.args.run.now.set.now) (g.P.Turns.state c.args.run.now.turns.now) (jobs_in c.empty-plan.result.tasks.items)
     (marks_of c.in_ok-arena.arena.states.items) c.empty-plan.ensures.tasks (ap marks_of c.in_ok-arena.ensures.states) in
     let phases = subst (λ rs. Phases serving job_subject (choice_by g.P.Turns) world rs (stage e first) (stage e new)) asked (c.in_ok-own.ensures.over.phases law calm) in
     let count = mutation_counted c.args.by scene serving (choice_by g.P.Turns) world (stage e first) (stage e new) phases c.empty-plan.ensures.tasks
     (ap marks_of c.in_ok-arena.ensures.states) n nests in
     let stepped = c.in_ok-own.ensures.over.stepped calm in
     on_ok c.place_of_keys.result _
-    (steps_in_turn c.in_ok-own.ensures.over c.args.steps.now c.answer_keys.new.steps (ap (total started) c.in_ok-arena.ensures.states) stepped ∙ ap (λ m. c.args.steps.now + m) count)
+    (steps_in_turn c.in_ok-own.ensures.over c.args.run.now.steps.now c.answer_keys.new.run.steps.now (ap (total started) c.in_ok-arena.ensures.states) stepped ∙ ap (λ m. c.args.run.now.steps.now + m) count)
 
 pub returns-clause-stopped : goal.returns-clause-stopped
 returns-clause-stopped g c = λ law calm.
@@ -212,12 +212,12 @@ returns-clause-stopped g c = λ law calm.
     let asked : jobs_in c.from_vec-keys.result.items ≡ key_jobs_by c.args.by scene
     = ap jobs_in c.from_vec-keys.ensures.items ∙ c.in_ok-make_tasks.ensures ∙ ap (λ (ts : List (Task g.row.R-Own.Denot)). jobs_in ts ++ jobs_here c.in_ok-root.root.value) c.new-tasks.ensures.items
     ∙ c.in_ok-root.ensures.jobs ∙ mutation_jobs c.args.by scene c.requires in
-    let first = at c.empty-plan.result c.in_ok-arena.arena (outside c.args.resolvers.now c.args.hooks.now c.args.turns.now c.args.steps.now) in
-    let new = at c.answer_keys.new.plan c.answer_keys.new.arena (outside c.answer_keys.new.resolvers c.answer_keys.new.hooks c.answer_keys.new.turns c.answer_keys.new.steps) in
-    let serving = serving_by g.R.ResolverSet c.args.resolvers.now in
-    let world = g.R.ResolverSet.world c.args.resolvers.now in
-    let nothing : stage e first ≡ none_made g.R.ResolverSet g.P.Turns (key_work_by c.args.by scene) (seen c.args.resolvers.now c.args.turns.now) (seen c.args.resolvers.now c.args.turns.now) =
-    stage_none (g.R.ResolverSet.told c.args.resolvers.now) (g.R.ResolverSet.begun c.args.resolvers.now) (g.P.Turns.state c.args.turns.now) (jobs_in c.empty-plan.result.tasks.items)
+    let first = at c.empty-plan.result c.in_ok-arena.arena c.args.run.now in
+    let new = at c.answer_keys.new.plan c.answer_keys.new.arena c.answer_keys.new.run in
+    let serving = serving_by g.R.ResolverSet c.args.run.now.set.now in
+    let world = g.R.ResolverSet.world c.args.run.now.set.now in
+    let nothing : stage e first ≡ none_made g.R.ResolverSet g.P.Turns (key_work_by c.args.by scene) (seen_in c.args.run.now) (seen_in c.args.run.now) =
+    stage_none (g.R.ResolverSet.told c.args.run.now.set.now) (g.R.ResolverSet.begun c.args.run.now.set.now) (g.P.Turns.state c.args.run.now.turns.now) (jobs_in c.empty-plan.result.tasks.items)
     (marks_of c.in_ok-arena.arena.states.items) c.empty-plan.ensures.tasks (ap marks_of c.in_ok-arena.ensures.states) in
     let all = jobs_in c.from_vec-keys.result.items in
     let want : NoMemory = record { roots = length all } in
@@ -233,16 +233,16 @@ returns-clause-roots g c = λ law calm.
     let asked : jobs_in c.from_vec-keys.result.items ≡ key_jobs_by c.args.by scene
     = ap jobs_in c.from_vec-keys.ensures.items ∙ c.in_ok-make_tasks.ensures ∙ ap (λ (ts : List (Task g.row.R-Own.Denot)). jobs_in ts ++ jobs_here c.in_ok-root.root.value) c.new-tasks.ensures.items
     ∙ c.in_ok-root.ensures.jobs ∙ mutation_jobs c.args.by scene c.requires in
-    let first = at c.empty-plan.result c.in_ok-arena.arena (outside c.args.resolvers.now c.args.hooks.now c.args.turns.now c.args.steps.now) in
-    let new = at c.answer_keys.new.plan c.answer_keys.new.arena (outside c.answer_keys.new.resolvers c.answer_keys.new.hooks c.answer_keys.new.turns c.answer_keys.new.steps) in
-    let serving = serving_by g.R.ResolverSet c.args.resolvers.now in
-    let world = g.R.ResolverSet.world c.args.resolvers.now in
-    let nothing : stage e first ≡ none_made g.R.ResolverSet g.P.Turns (key_work_by c.args.by scene) (seen c.args.resolvers.now c.args.turns.now) (seen c.args.resolvers.now c.args.turns.now) =
-    stage_none (g.R.ResolverSet.told c.args.resolvers.now) (g.R.ResolverSet.begun c.args.resolvers.now) (g.P.Turns.state c.args.turns.now) (jobs_in c.empty-plan.result.tasks.items)
+    let first = at c.empty-plan.result c.in_ok-arena.arena c.args.run.now in
+    let new = at c.answer_keys.new.plan c.answer_keys.new.arena c.answer_keys.new.run in
+    let serving = serving_by g.R.ResolverSet c.args.run.now.set.now in
+    let world = g.R.ResolverSet.world c.args.run.now.set.now in
+    let nothing : stage e first ≡ none_made g.R.ResolverSet g.P.Turns (key_work_by c.args.by scene) (seen_in c.args.run.now) (seen_in c.args.run.now) =
+    stage_none (g.R.ResolverSet.told c.args.run.now.set.now) (g.R.ResolverSet.begun c.args.run.now.set.now) (g.P.Turns.state c.args.run.now.turns.now) (jobs_in c.empty-plan.result.tasks.items)
     (marks_of c.in_ok-arena.arena.states.items) c.empty-plan.ensures.tasks (ap marks_of c.in_ok-arena.ensures.states) in
     let all = jobs_in c.from_vec-keys.result.items in
-    let old_seen = seen c.args.resolvers.now c.args.turns.now in
-    let new_seen = seen c.answer_keys.new.resolvers c.answer_keys.new.turns in
+    let old_seen = seen_in c.args.run.now in
+    let new_seen = seen_in c.answer_keys.new.run in
     IfErr-weaker c.place_of_keys.result _ (λ want. RootsStand g.R.ResolverSet g.P.Turns (key_work_by c.args.by scene) old_seen new_seen want.roots)
     (λ want is.
     let stands = (subst (λ rs. CutInTurn e first new rs want) asked (cut_between want all [] c.in_ok-own.ensures.over (sym (append-nil all)) (is ∙ c.in_ok-own.ensures.count))).stands law calm in
@@ -251,11 +251,11 @@ returns-clause-roots g c = λ law calm.
 pub returns-clause-rounds : goal.returns-clause-rounds
 returns-clause-rounds g c =
     on_ok c.place_of_keys.result _
-    (subst (λ (ts : List (Job g.row.R-Own.Denot)). RoundsWhole asked_by_job g.H.Rounds ts c.args.hooks.now c.answer_keys.new.hooks) c.empty-plan.ensures.tasks
+    (subst (λ (ts : List (Job g.row.R-Own.Denot)). RoundsWhole asked_by_job g.H.Rounds ts c.args.run.now.hooks.now c.answer_keys.new.run.hooks.now) c.empty-plan.ensures.tasks
     (whole_rounds 0 c.in_ok-own.ensures.over.enters c.in_ok-arena.ensures.states (turn_answered c.in_ok-own.ensures.over)))
 
 pub returns-clause-unfinished : goal.returns-clause-unfinished
 returns-clause-unfinished g c =
     on_err c.place_of_keys.result _
-    (subst (λ (ts : List (Job g.row.R-Own.Denot)). RoundsStopped asked_by_job g.H.Rounds ts c.args.hooks.now c.answer_keys.new.hooks) c.empty-plan.ensures.tasks
+    (subst (λ (ts : List (Job g.row.R-Own.Denot)). RoundsStopped asked_by_job g.H.Rounds ts c.args.run.now.hooks.now c.answer_keys.new.run.hooks.now) c.empty-plan.ensures.tasks
     (stopped_rounds 0 (so_far_enters_whole c.in_ok-own.ensures.over.enters) c.in_ok-arena.ensures.states))

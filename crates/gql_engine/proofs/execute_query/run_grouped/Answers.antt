@@ -5,8 +5,8 @@ use Rattle.gql_tasks.proofs.AdvanceLemmas.{on_err}
 use Rattle.gql_tasks.proofs.PaceLemmas.{each_paced, each_so_far, so_far_whole}
 use Rattle.gql_tasks.proofs.RoundLemmas.{no_rounds, so_far_enters_whole, stopped_rounds, whole_rounds}
 use Rattle.gql_tasks.proofs.RunLemmas.{all_answered, first_sound}
-use Rattle.gql_tasks.specs.Parts.{at, due_by, outside}
-use Rattle.gql_tasks.specs.Progress.{seen}
+use Rattle.gql_tasks.specs.Parts.{at, due_by}
+use Rattle.gql_tasks.specs.Progress.{seen_in}
 use Rattle.gql_tasks.specs.Rounds.{KeepNumbers, RoundsStopped, RoundsWhole}
 use Rattle.gql_resolve.specs.Call.{is_mutation}
 use Rattle.gql_engine.specs.Assembly.{AreApart, IsAssembled}
@@ -22,24 +22,24 @@ use Rattle.gql_engine.proofs.execute_query.run_grouped.Goals as goal
 
 pub returns-in_err-root-clause-stopped : goal.returns-in_err-root-clause-stopped
 returns-in_err-root-clause-stopped g c = λ law calm. on_err c.from_residual.result _
-    (stopped_none g.R.ResolverSet g.P.Turns c.args.by c.args.scene.now (seen c.args.resolvers.now c.args.turns.now) (seen c.args.resolvers.now c.args.turns.now) refl refl)
+    (stopped_none g.R.ResolverSet g.P.Turns c.args.by c.args.scene.now (seen_in c.args.run.now) (seen_in c.args.run.now) refl refl)
 
 pub returns-in_err-root-clause-unfinished : goal.returns-in_err-root-clause-unfinished
-returns-in_err-root-clause-unfinished g c = on_err c.from_residual.result _ (no_rounds {asks = asked_by_job} {hooks = g.H.Rounds} (root_jobs_by c.args.by c.args.scene.now) c.args.hooks.now)
+returns-in_err-root-clause-unfinished g c = on_err c.from_residual.result _ (no_rounds {asks = asked_by_job} {hooks = g.H.Rounds} (root_jobs_by c.args.by c.args.scene.now) c.args.run.now.hooks.now)
 
 pub returns-in_err-plan-clause-stopped : goal.returns-in_err-plan-clause-stopped
 returns-in_err-plan-clause-stopped g c = λ law calm. on_err c.from_residual-in_err-plan.result _
-    (stopped_none g.R.ResolverSet g.P.Turns c.args.by c.args.scene.now (seen c.args.resolvers.now c.args.turns.now) (seen c.args.resolvers.now c.args.turns.now) refl refl)
+    (stopped_none g.R.ResolverSet g.P.Turns c.args.by c.args.scene.now (seen_in c.args.run.now) (seen_in c.args.run.now) refl refl)
 
 pub returns-in_err-plan-clause-unfinished : goal.returns-in_err-plan-clause-unfinished
-returns-in_err-plan-clause-unfinished g c = on_err c.from_residual-in_err-plan.result _ (no_rounds {asks = asked_by_job} {hooks = g.H.Rounds} (root_jobs_by c.args.by c.args.scene.now) c.args.hooks.now)
+returns-in_err-plan-clause-unfinished g c = on_err c.from_residual-in_err-plan.result _ (no_rounds {asks = asked_by_job} {hooks = g.H.Rounds} (root_jobs_by c.args.by c.args.scene.now) c.args.run.now.hooks.now)
 
 pub returns-in_err-arena-clause-stopped : goal.returns-in_err-arena-clause-stopped
 returns-in_err-arena-clause-stopped g c = λ law calm. on_err c.from_residual-in_err-arena.result _
-    (stopped_none g.R.ResolverSet g.P.Turns c.args.by c.args.scene.now (seen c.args.resolvers.now c.args.turns.now) (seen c.args.resolvers.now c.args.turns.now) refl refl)
+    (stopped_none g.R.ResolverSet g.P.Turns c.args.by c.args.scene.now (seen_in c.args.run.now) (seen_in c.args.run.now) refl refl)
 
 pub returns-in_err-arena-clause-unfinished : goal.returns-in_err-arena-clause-unfinished
-returns-in_err-arena-clause-unfinished g c = on_err c.from_residual-in_err-arena.result _ (no_rounds {asks = asked_by_job} {hooks = g.H.Rounds} (root_jobs_by c.args.by c.args.scene.now) c.args.hooks.now)
+returns-in_err-arena-clause-unfinished g c = on_err c.from_residual-in_err-arena.result _ (no_rounds {asks = asked_by_job} {hooks = g.H.Rounds} (root_jobs_by c.args.by c.args.scene.now) c.args.run.now.hooks.now)
 
 pub finish-requires : goal.finish-requires
 finish-requires g c =
@@ -48,7 +48,7 @@ finish-requires g c =
     let n_is : c.len.result ≡ length (jobs_in c.in_ok-plan.plan.tasks.items)
     = c.len.ensures ∙ c.in_ok-plan.plan.tasks.ok.0 ∙ sym (length-map c.in_ok-plan.plan.tasks.items job_of_task) in
     record {
-      sound = first_sound (at c.in_ok-plan.plan c.in_ok-arena.arena (outside c.args.resolvers.now c.args.hooks.now c.args.turns.now c.args.steps.now)) c.len.result
+      sound = first_sound (at c.in_ok-plan.plan c.in_ok-arena.arena c.args.run.now) c.len.result
           c.in_ok-arena.ensures.states n_is c.in_ok-arena.ensures.waits
           (λ number task is. every_at (λ (j : Job g.row.R-Own.Denot). j.asking.call.is_root ≡ false) (root_jobs_by c.args.by c.args.scene.now) number task
           (no_roots (basis_by c.args.by c.args.scene.now) (root_selections c.args.scene.now) (root_spot c.args.scene.now)) (ap (λ ts. slice_get ts number) (sym asked) ∙ is));
@@ -60,8 +60,8 @@ returns-in_err-finish-clause-stopped g c = λ law calm.
     = c.in_ok-plan.ensures ∙ c.in_ok-root.ensures.jobs ∙ query_jobs c.args.by c.args.scene.now c.requires in
     let n_is : c.len.result ≡ length (jobs_in c.in_ok-plan.plan.tasks.items)
     = c.len.ensures ∙ c.in_ok-plan.plan.tasks.ok.0 ∙ sym (length-map c.in_ok-plan.plan.tasks.items job_of_task) in
-    let old = seen c.args.resolvers.now c.args.turns.now in
-    let new = seen c.finish.new.resolvers c.finish.new.turns in
+    let old = seen_in c.args.run.now in
+    let new = seen_in c.finish.new.run in
     let first = jobs_in c.in_ok-plan.plan.tasks.items in
     let begins : Begins g.R.ResolverSet g.P.Turns c.args.by c.args.scene.now old first c.in_ok-arena.arena.states.items = record {
       n = c.len.result;
@@ -79,8 +79,8 @@ returns-in_err-place_of_root-clause-stopped g c = λ law calm.
     = c.in_ok-plan.ensures ∙ c.in_ok-root.ensures.jobs ∙ query_jobs c.args.by c.args.scene.now c.requires in
     let n_is : c.len.result ≡ length (jobs_in c.in_ok-plan.plan.tasks.items)
     = c.len.ensures ∙ c.in_ok-plan.plan.tasks.ok.0 ∙ sym (length-map c.in_ok-plan.plan.tasks.items job_of_task) in
-    let old = seen c.args.resolvers.now c.args.turns.now in
-    let new = seen c.finish.new.resolvers c.finish.new.turns in
+    let old = seen_in c.args.run.now in
+    let new = seen_in c.finish.new.run in
     let first = jobs_in c.in_ok-plan.plan.tasks.items in
     let begins : Begins g.R.ResolverSet g.P.Turns c.args.by c.args.scene.now old first c.in_ok-arena.arena.states.items = record {
       n = c.len.result;
@@ -111,8 +111,8 @@ returns-clause-places g c = λ law calm n nests.
     = c.in_ok-plan.ensures ∙ c.in_ok-root.ensures.jobs ∙ query_jobs c.args.by c.args.scene.now c.requires in
     let n_is : c.len.result ≡ length (jobs_in c.in_ok-plan.plan.tasks.items)
     = c.len.ensures ∙ c.in_ok-plan.plan.tasks.ok.0 ∙ sym (length-map c.in_ok-plan.plan.tasks.items job_of_task) in
-    let old = seen c.args.resolvers.now c.args.turns.now in
-    let new = seen c.finish.new.resolvers c.finish.new.turns in
+    let old = seen_in c.args.run.now in
+    let new = seen_in c.finish.new.run in
     let first = jobs_in c.in_ok-plan.plan.tasks.items in
     let begins : Begins g.R.ResolverSet g.P.Turns c.args.by c.args.scene.now old first c.in_ok-arena.arena.states.items = record {
       n = c.len.result;
@@ -134,12 +134,12 @@ returns-clause-places g c = λ law calm n nests.
       ran = progress.ran;
     } in
     let keeps = subst (λ js. KeepNumbers js last) asked went.passed.enters.stays in
-    response_is c.args.by c.args.scene.now (due_by g.R.ResolverSet c.args.resolvers.now) (standing_behind c.in_ok-root.root) c.finish.new.plan.roots last
+    response_is c.args.by c.args.scene.now (due_by g.R.ResolverSet c.args.run.now.set.now) (standing_behind c.in_ok-root.root) c.finish.new.plan.roots last
     c.in_ok-place_of_root.field-0 n (c.in_ok-root.ensures.stands ∙ query_stands c.args.by c.args.scene.now c.requires) keeps
     (roots_enough c.args.by c.args.scene.now c.finish.new.plan.tasks.items c.finish.new.plan.roots keeps c.finish.new.plan.deep)
-    (subst (λ b. IsAssembled (due_by g.R.ResolverSet c.args.resolvers.now) b c.args.scene.now.env.now.operation.pos (standing_behind c.in_ok-root.root)
+    (subst (λ b. IsAssembled (due_by g.R.ResolverSet c.args.run.now.set.now) b c.args.scene.now.env.now.operation.pos (standing_behind c.in_ok-root.root)
     (take c.finish.new.plan.roots last) c.in_ok-place_of_root.field-0) c.keeps_whole-whole.ensures
-    (c.in_ok-place_of_root.ensures (due_by g.R.ResolverSet c.args.resolvers.now)
+    (c.in_ok-place_of_root.ensures (due_by g.R.ResolverSet c.args.run.now.set.now)
     (all_held g.R.ResolverSet g.P.Turns c.args.by c.args.scene.now old first c.in_ok-arena.arena.states.items begins new last store store' c.finish.new.arena.states.items finishes)
     (subst (λ b. AreApart b (standing_behind c.in_ok-root.root ∷ [])) (sym c.keeps_whole-whole.ensures)
     (apart_root (is_mutation c.args.scene.now.env.now.operation.node.ty) c.args.by c.args.scene.now (standing_behind c.in_ok-root.root) c.in_ok-root.ensures.stands)))) nests
@@ -150,8 +150,8 @@ returns-clause-record g c = λ law calm.
     = c.in_ok-plan.ensures ∙ c.in_ok-root.ensures.jobs ∙ query_jobs c.args.by c.args.scene.now c.requires in
     let n_is : c.len.result ≡ length (jobs_in c.in_ok-plan.plan.tasks.items)
     = c.len.ensures ∙ c.in_ok-plan.plan.tasks.ok.0 ∙ sym (length-map c.in_ok-plan.plan.tasks.items job_of_task) in
-    let old = seen c.args.resolvers.now c.args.turns.now in
-    let new = seen c.finish.new.resolvers c.finish.new.turns in
+    let old = seen_in c.args.run.now in
+    let new = seen_in c.finish.new.run in
     let first = jobs_in c.in_ok-plan.plan.tasks.items in
     let begins : Begins g.R.ResolverSet g.P.Turns c.args.by c.args.scene.now old first c.in_ok-arena.arena.states.items = record {
       n = c.len.result;
@@ -182,8 +182,8 @@ returns-clause-asked g c = λ law calm n nests.
     = c.in_ok-plan.ensures ∙ c.in_ok-root.ensures.jobs ∙ query_jobs c.args.by c.args.scene.now c.requires in
     let n_is : c.len.result ≡ length (jobs_in c.in_ok-plan.plan.tasks.items)
     = c.len.ensures ∙ c.in_ok-plan.plan.tasks.ok.0 ∙ sym (length-map c.in_ok-plan.plan.tasks.items job_of_task) in
-    let old = seen c.args.resolvers.now c.args.turns.now in
-    let new = seen c.finish.new.resolvers c.finish.new.turns in
+    let old = seen_in c.args.run.now in
+    let new = seen_in c.finish.new.run in
     let first = jobs_in c.in_ok-plan.plan.tasks.items in
     let begins : Begins g.R.ResolverSet g.P.Turns c.args.by c.args.scene.now old first c.in_ok-arena.arena.states.items = record {
       n = c.len.result;
@@ -205,14 +205,14 @@ returns-clause-asked g c = λ law calm n nests.
       ran = progress.ran;
     } in
     steps_end g.R.ResolverSet g.P.Turns c.args.by c.args.scene.now old first c.in_ok-arena.arena.states.items begins new last store store' c.finish.new.arena.states.items finishes
-    n nests c.args.steps.now c.finish.new.steps (went.passed.stepped calm)
+    n nests c.args.run.now.steps.now c.finish.new.run.steps.now (went.passed.stepped calm)
 
 pub returns-in_err-finish-clause-unfinished : goal.returns-in_err-finish-clause-unfinished
 returns-in_err-finish-clause-unfinished g c =
     let asked : jobs_in c.in_ok-plan.plan.tasks.items ≡ root_jobs_by c.args.by c.args.scene.now
     = c.in_ok-plan.ensures ∙ c.in_ok-root.ensures.jobs ∙ query_jobs c.args.by c.args.scene.now c.requires in
     on_err c.from_residual-in_err-finish.result _
-    (subst (λ ts. RoundsStopped asked_by_job g.H.Rounds ts c.args.hooks.now c.finish.new.hooks) asked
+    (subst (λ ts. RoundsStopped asked_by_job g.H.Rounds ts c.args.run.now.hooks.now c.finish.new.run.hooks.now) asked
     (stopped_rounds c.len.result c.in_err-finish.ensures.stretch.ended.enters c.in_ok-arena.ensures.states))
 
 pub returns-in_err-place_of_root-clause-unfinished : goal.returns-in_err-place_of_root-clause-unfinished
@@ -220,7 +220,7 @@ returns-in_err-place_of_root-clause-unfinished g c =
     let asked : jobs_in c.in_ok-plan.plan.tasks.items ≡ root_jobs_by c.args.by c.args.scene.now
     = c.in_ok-plan.ensures ∙ c.in_ok-root.ensures.jobs ∙ query_jobs c.args.by c.args.scene.now c.requires in
     on_err c.from_residual-in_err-place_of_root.result _
-    (subst (λ ts. RoundsStopped asked_by_job g.H.Rounds ts c.args.hooks.now c.finish.new.hooks) asked
+    (subst (λ ts. RoundsStopped asked_by_job g.H.Rounds ts c.args.run.now.hooks.now c.finish.new.run.hooks.now) asked
     (stopped_rounds c.len.result (so_far_enters_whole c.in_ok-finish.ensures.stretch.went.passed.enters) c.in_ok-arena.ensures.states))
 
 pub returns-clause-rounds : goal.returns-clause-rounds
@@ -228,5 +228,5 @@ returns-clause-rounds g c =
     let asked : jobs_in c.in_ok-plan.plan.tasks.items ≡ root_jobs_by c.args.by c.args.scene.now
     = c.in_ok-plan.ensures ∙ c.in_ok-root.ensures.jobs ∙ query_jobs c.args.by c.args.scene.now c.requires in
     let went = c.in_ok-finish.ensures.stretch.went in
-    subst (λ ts. RoundsWhole asked_by_job g.H.Rounds ts c.args.hooks.now c.finish.new.hooks) asked
+    subst (λ ts. RoundsWhole asked_by_job g.H.Rounds ts c.args.run.now.hooks.now c.finish.new.run.hooks.now) asked
     (whole_rounds c.len.result went.passed.enters c.in_ok-arena.ensures.states (all_answered went.sound c.in_ok-finish.ensures.answered))

@@ -2,8 +2,9 @@ use Rattle.std.proofs.Common.{◌≡◌, ◌∷◌, ◌∙◌, [], None, Some, a
 use Rattle.std.specs.Prelude.{Ok}
 use Rattle.std.proofs.lemmas.List.{length-map}
 use Rattle.gql_tasks.proofs.InTurnLemmas.{next_alone, next_root, next_sound}
+use Rattle.gql_tasks.proofs.KeepsLemmas.{lent_none}
 use Rattle.gql_tasks.proofs.RunLemmas.{all_answered}
-use Rattle.gql_tasks.specs.Parts.{at, outside, root_parts}
+use Rattle.gql_tasks.specs.Parts.{at, root_parts}
 use Rattle.gql_tasks.specs.Phases.{NextRoot, serving_by}
 use Rattle.gql_tasks.specs.declared.given.Given.TheVariants.{Put}
 use Rattle.gql_engine.specs.PlanHolds.{store_in}
@@ -19,13 +20,14 @@ returns-in-Err-clause-cut g c =
 pub run_phase-requires-clause-sound : goal.run_phase-requires-clause-sound
 run_phase-requires-clause-sound g c =
     let e = root_parts g.R.ResolverSet (Rattle.gql_engine.specs.contracts.execute_field.tree_plan.TreePlanPlan.TheImpl.ghosts g.row.R-Own g.R.Own.Destruct-dict) g.H.Rounds g.P.Turns in
-    let now = at c.args.plan.now c.args.arena.now (outside c.args.resolvers.now c.args.hooks.now c.args.turns.now c.args.steps.now) in
-    let next = at c.open_key.new.plan c.open_key.new.arena (outside c.args.resolvers.now c.args.hooks.now c.args.turns.now c.args.steps.now) in
+    let now = at c.args.plan.now c.args.arena.now c.args.run.now in
+    let next = at c.open_key.new.plan c.open_key.new.arena c.args.run.now in
     let opens : NextRoot e now next (job_of_task c.args.task) = record {
       tasks_is = c.in-Ok.ensures.tasks;
       states_is = c.in-Ok.ensures.states;
       waits = c.in-Ok.ensures.waits;
       root_is = c.requires.root;
+      lent_is = lent_none now.lent;
       set_is = refl;
       hooks_is = refl;
       turns_is = refl;
@@ -37,13 +39,14 @@ run_phase-requires-clause-sound g c =
 pub run_phase-requires-clause-alone : goal.run_phase-requires-clause-alone
 run_phase-requires-clause-alone g c =
     let e = root_parts g.R.ResolverSet (Rattle.gql_engine.specs.contracts.execute_field.tree_plan.TreePlanPlan.TheImpl.ghosts g.row.R-Own g.R.Own.Destruct-dict) g.H.Rounds g.P.Turns in
-    let now = at c.args.plan.now c.args.arena.now (outside c.args.resolvers.now c.args.hooks.now c.args.turns.now c.args.steps.now) in
-    let next = at c.open_key.new.plan c.open_key.new.arena (outside c.args.resolvers.now c.args.hooks.now c.args.turns.now c.args.steps.now) in
+    let now = at c.args.plan.now c.args.arena.now c.args.run.now in
+    let next = at c.open_key.new.plan c.open_key.new.arena c.args.run.now in
     let opens : NextRoot e now next (job_of_task c.args.task) = record {
       tasks_is = c.in-Ok.ensures.tasks;
       states_is = c.in-Ok.ensures.states;
       waits = c.in-Ok.ensures.waits;
       root_is = c.requires.root;
+      lent_is = lent_none now.lent;
       set_is = refl;
       hooks_is = refl;
       turns_is = refl;
@@ -55,13 +58,14 @@ run_phase-requires-clause-alone g c =
 pub returns-in-Err-run_phase-clause-cut : goal.returns-in-Err-run_phase-clause-cut
 returns-in-Err-run_phase-clause-cut g c =
     let e = root_parts g.R.ResolverSet (Rattle.gql_engine.specs.contracts.execute_field.tree_plan.TreePlanPlan.TheImpl.ghosts g.row.R-Own g.R.Own.Destruct-dict) g.H.Rounds g.P.Turns in
-    let now = at c.args.plan.now c.args.arena.now (outside c.args.resolvers.now c.args.hooks.now c.args.turns.now c.args.steps.now) in
-    let next = at c.open_key.new.plan c.open_key.new.arena (outside c.args.resolvers.now c.args.hooks.now c.args.turns.now c.args.steps.now) in
+    let now = at c.args.plan.now c.args.arena.now c.args.run.now in
+    let next = at c.open_key.new.plan c.open_key.new.arena c.args.run.now in
     let opens : NextRoot e now next (job_of_task c.args.task) = record {
       tasks_is = c.in-Ok.ensures.tasks;
       states_is = c.in-Ok.ensures.states;
       waits = c.in-Ok.ensures.waits;
       root_is = c.requires.root;
+      lent_is = lent_none now.lent;
       set_is = refl;
       hooks_is = refl;
       turns_is = refl;
@@ -87,13 +91,14 @@ keep_key-requires-clause-within g c =
 pub returns-in-Ok-keep_key-clause-over : goal.returns-in-Ok-keep_key-clause-over
 returns-in-Ok-keep_key-clause-over g c =
     let e = root_parts g.R.ResolverSet (Rattle.gql_engine.specs.contracts.execute_field.tree_plan.TreePlanPlan.TheImpl.ghosts g.row.R-Own g.R.Own.Destruct-dict) g.H.Rounds g.P.Turns in
-    let now = at c.args.plan.now c.args.arena.now (outside c.args.resolvers.now c.args.hooks.now c.args.turns.now c.args.steps.now) in
-    let next = at c.open_key.new.plan c.open_key.new.arena (outside c.args.resolvers.now c.args.hooks.now c.args.turns.now c.args.steps.now) in
+    let now = at c.args.plan.now c.args.arena.now c.args.run.now in
+    let next = at c.open_key.new.plan c.open_key.new.arena c.args.run.now in
     let opens : NextRoot e now next (job_of_task c.args.task) = record {
       tasks_is = c.in-Ok.ensures.tasks;
       states_is = c.in-Ok.ensures.states;
       waits = c.in-Ok.ensures.waits;
       root_is = c.requires.root;
+      lent_is = lent_none now.lent;
       set_is = refl;
       hooks_is = refl;
       turns_is = refl;
@@ -105,13 +110,14 @@ returns-in-Ok-keep_key-clause-over g c =
 pub returns-in-Ok-keep_key-clause-placed : goal.returns-in-Ok-keep_key-clause-placed
 returns-in-Ok-keep_key-clause-placed g c = λ law calm.
     let e = root_parts g.R.ResolverSet (Rattle.gql_engine.specs.contracts.execute_field.tree_plan.TreePlanPlan.TheImpl.ghosts g.row.R-Own g.R.Own.Destruct-dict) g.H.Rounds g.P.Turns in
-    let now = at c.args.plan.now c.args.arena.now (outside c.args.resolvers.now c.args.hooks.now c.args.turns.now c.args.steps.now) in
-    let next = at c.open_key.new.plan c.open_key.new.arena (outside c.args.resolvers.now c.args.hooks.now c.args.turns.now c.args.steps.now) in
+    let now = at c.args.plan.now c.args.arena.now c.args.run.now in
+    let next = at c.open_key.new.plan c.open_key.new.arena c.args.run.now in
     let opens : NextRoot e now next (job_of_task c.args.task) = record {
       tasks_is = c.in-Ok.ensures.tasks;
       states_is = c.in-Ok.ensures.states;
       waits = c.in-Ok.ensures.waits;
       root_is = c.requires.root;
+      lent_is = lent_none now.lent;
       set_is = refl;
       hooks_is = refl;
       turns_is = refl;
@@ -120,7 +126,7 @@ returns-in-Ok-keep_key-clause-placed g c = λ law calm.
     } in
     let over = c.in-Ok-run_phase.ensures.over in
     let root = job_of_task c.args.task in
-    let answer = answer_in_phase (serving_by g.R.ResolverSet c.args.resolvers.now) (g.R.ResolverSet.world c.args.resolvers.now) root in
+    let answer = answer_in_phase (serving_by g.R.ResolverSet c.args.run.now.set.now) (g.R.ResolverSet.world c.args.run.now.set.now) root in
     let jobs = jobs_in c.run_phase.new.plan.tasks.items in
     let number : c.len-number.result ≡ length (jobs_in c.args.plan.now.tasks.items) = c.len-number.ensures ∙ c.args.plan.now.tasks.ok.0 ∙ sym (length-map c.args.plan.now.tasks.items job_of_task) in
     let first = last_there (jobs_in c.args.plan.now.tasks.items) (jobs_in c.open_key.new.plan.tasks.items) root c.in-Ok.ensures.tasks in
@@ -135,13 +141,14 @@ returns-in-Ok-keep_key-clause-placed g c = λ law calm.
 pub returns-in-Err-keep_key-clause-cut : goal.returns-in-Err-keep_key-clause-cut
 returns-in-Err-keep_key-clause-cut g c =
     let e = root_parts g.R.ResolverSet (Rattle.gql_engine.specs.contracts.execute_field.tree_plan.TreePlanPlan.TheImpl.ghosts g.row.R-Own g.R.Own.Destruct-dict) g.H.Rounds g.P.Turns in
-    let now = at c.args.plan.now c.args.arena.now (outside c.args.resolvers.now c.args.hooks.now c.args.turns.now c.args.steps.now) in
-    let next = at c.open_key.new.plan c.open_key.new.arena (outside c.args.resolvers.now c.args.hooks.now c.args.turns.now c.args.steps.now) in
+    let now = at c.args.plan.now c.args.arena.now c.args.run.now in
+    let next = at c.open_key.new.plan c.open_key.new.arena c.args.run.now in
     let opens : NextRoot e now next (job_of_task c.args.task) = record {
       tasks_is = c.in-Ok.ensures.tasks;
       states_is = c.in-Ok.ensures.states;
       waits = c.in-Ok.ensures.waits;
       root_is = c.requires.root;
+      lent_is = lent_none now.lent;
       set_is = refl;
       hooks_is = refl;
       turns_is = refl;

@@ -12,7 +12,7 @@ returns-in-Some g c =
     let outcome = c.args.outcome in
     subst (λ (w : Completed g.row.V.Denot). IfOk c.place_list.result
     (IsPlaced node (path_with c.args.held.now node) (jobs_in c.args.tasks.now.items) (jobs_in c.place_list.new.tasks.items) w))
-    (ap (λ name. objects_in name c.in-Some.non_null (items_given outcome)) (sym c.known_of.ensures.name)
+    (ap (λ name. objects_in name c.in-Some.non_null (items_given outcome)) (sym c.known_of-known.ensures.name)
     ∙ sym c.in-Some.ensures
-    ∙ (λ i. shape_of (types_of (c.known_of.ensures.types i)) (c.ty.ensures i) outcome))
+    ∙ (λ i. shape_of (types_of (c.known_of-known.ensures.types i)) (c.ty.ensures i) outcome))
     c.place_list.ensures
