@@ -241,12 +241,12 @@ module _ {S F : Type 0} (set : Resolving S ℤ (List ℤ) F) (bench : Bench) (ea
       → (entries : List RecordEntry) (after : Between) → set.told new.set ≡ Some (earlier ++ entries) → set.world new.set ≡ after.cells
       → ghosts.state new.turns ≡ Some after.turns → Stands set bench (earlier ++ entries) after new
   stands-next schema request response one entries after told world turns = record {
-    lawful = one.lawful at.lawful;
-    paced = one.paced at.paced;
+    lawful = one.keeps.lawful_is at.lawful;
+    paced = one.keeps.paced_is at.paced;
     serves = record {
-      answers = λ call cells. ap (λ (rules : set.Rules). set.answer rules call cells) one.rules ∙ at.serves.answers call cells;
-      effects = λ call cells. ap (λ (rules : set.Rules). set.effect rules call cells) one.rules ∙ at.serves.effects call cells;
-      delays = λ resolver. ap (λ (rules : set.Rules). set.delay rules resolver) one.rules ∙ at.serves.delays resolver;
+      answers = λ call cells. ap (λ (rules : set.Rules). set.answer rules call cells) one.keeps.rules_is ∙ at.serves.answers call cells;
+      effects = λ call cells. ap (λ (rules : set.Rules). set.effect rules call cells) one.keeps.rules_is ∙ at.serves.effects call cells;
+      delays = λ resolver. ap (λ (rules : set.Rules). set.delay rules resolver) one.keeps.rules_is ∙ at.serves.delays resolver;
     };
     told = told;
     world = world;

@@ -2,6 +2,8 @@
 use Rattle.std.proofs.Common.{◌≡◌, ◌≤◌, ◌<◌, ◌+◌, ℕ, suc, List, [], ◌∷◌, ◌++◌, Option, Some, None, get_or, length, length-append, slice_get, take, inl, refl, ap, sym, ◌∙◌, subst, arith}
 use Rattle.std.proofs.lemmas.List.{take_all, take_more}
 use Rattle.std.proofs.lemmas.Option.{get_or_from_slice_get, slice_get_read, slice_get_within}
+use Rattle.gql_tasks.proofs.KeepsLemmas.{set_none, set_trans}
+use Rattle.gql_tasks.specs.Keeps.{KeepsSet}
 use Rattle.gql_tasks.specs.Progress.{Seen}
 use Rattle.gql_exec.specs.Batch.{ExecutesAll, ExecutesOne, StopsAfter, StopsAt}
 use Rattle.gql_exec.specs.Execution.{asks, Executes, Stops}
@@ -56,14 +58,12 @@ module _ {R Own World Future P : Type 0} (set : Resolving R Own World Future) (t
   pub record IsSoFar (requests : List (DynamicRequest Own)) (i : ℕ) (responses : List Response) (old now : Seen R P) : Type 0 where
     pub executed : ExecutesAll set turns schema (take i requests) responses old now
     pub count : length responses ≡ i
-    pub rules : set.rules now.set ≡ set.rules old.set
-    pub lawful : set.is_lawful old.set → set.is_lawful now.set
-    pub paced : set.is_paced old.set → set.is_paced now.set
+    pub keeps : KeepsSet set old.set now.set
 
   -- before the first one
   pub begins : (requests : List (DynamicRequest Own)) (responses : List Response) (now : Seen R P) → responses ≡ [] → IsSoFar requests 0 responses now now
   begins requests responses now none =
-      rw none record { executed = refl; count = refl; rules = refl; lawful = λ lawful. lawful; paced = λ paced. paced }
+      rw none record { executed = refl; count = refl; keeps = set_none now.set }
 
   -- all requests are done
   pub all_done : (requests : List (DynamicRequest Own)) (i : ℕ) (responses : List Response) (old new : Seen R P)
@@ -77,27 +77,23 @@ module _ {R Own World Future P : Type 0} (set : Resolving R Own World Future) (t
 
   module _ (requests : List (DynamicRequest Own)) (i : ℕ) (request : DynamicRequest Own) (responses : List Response) (old now new : Seen R P) where
     one-more : (response : Response) → IsSoFar requests i responses old now → i < length requests → request ≡ get_or requests i request
-        → Executes set turns now new (asks schema request) response → set.rules new.set ≡ set.rules now.set → (set.is_lawful now.set → set.is_lawful new.set)
-        → (set.is_paced now.set → set.is_paced new.set)
+        → Executes set turns now new (asks schema request) response → KeepsSet set now.set new.set
         → ExecutesAll set turns schema (take (i + 1) requests) (responses ++ response ∷ []) old new
-    one-more response far within is executed rules lawful paced =
+    one-more response far within is executed keeps =
         let at = slice_get_read requests (length requests) i request refl within is in
         subst (λ front. ExecutesAll set turns schema front (responses ++ response ∷ []) old new) (sym (taken-more requests i request at))
-        (executes-behind (take i requests) responses request response old now new far.executed record { executed = executed; rules = rules; lawful = lawful; paced = paced })
+        (executes-behind (take i requests) responses request response old now new far.executed record { executed = executed; keeps = keeps })
 
     -- one request more is executed
     pub goes_on : (response : Response) (more : List Response) → IsSoFar requests i responses old now → i < length requests → request ≡ get_or requests i request
-        → Executes set turns now new (asks schema request) response → set.rules new.set ≡ set.rules now.set → (set.is_lawful now.set → set.is_lawful new.set)
-        → (set.is_paced now.set → set.is_paced new.set)
+        → Executes set turns now new (asks schema request) response → KeepsSet set now.set new.set
         → more ≡ responses ++ response ∷ [] → IsSoFar requests (i + 1) more old new
-    goes_on response more far within here executed rules lawful paced is =
+    goes_on response more far within here executed keeps is =
         rw is
         record {
-          executed = one-more response far within here executed rules lawful paced;
+          executed = one-more response far within here executed keeps;
           count = length-append responses (response ∷ []) ∙ ap (λ n. n + 1) far.count;
-          rules = rules ∙ far.rules;
-          lawful = λ before. lawful (far.lawful before);
-          paced = λ before. paced (far.paced before);
+          keeps = set_trans far.keeps keeps;
         }
 
     -- the next request ended out of memory
@@ -116,15 +112,14 @@ module _ {R Own World Future P : Type 0} (set : Resolving R Own World Future) (t
 
     -- it was executed, and memory ran out for its response
     pub ends_behind : (response : Response) (done : ℕ) → IsSoFar requests i responses old now → i < length requests → request ≡ get_or requests i request
-        → Executes set turns now new (asks schema request) response → set.rules new.set ≡ set.rules now.set → (set.is_lawful now.set → set.is_lawful new.set)
-        → (set.is_paced now.set → set.is_paced new.set)
+        → Executes set turns now new (asks schema request) response → KeepsSet set now.set new.set
         → done ≡ length responses → StopsAfter set turns schema requests (done + 1) 0 old new
-    ends_behind response done far within here executed rules lawful paced is =
+    ends_behind response done far within here executed keeps is =
         subst (λ n. StopsAfter set turns schema requests (n + 1) 0 old new) (sym (is ∙ far.count)) record {
           within = omega (arith, within);
           responses = responses ++ response ∷ [];
           between = new;
-          whole = one-more response far within here executed rules lawful paced;
+          whole = one-more response far within here executed keeps;
           next = no-more (slice_get requests (i + 1)) new;
         }
 

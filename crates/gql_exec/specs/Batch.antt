@@ -2,6 +2,7 @@
 -- itself as a request alone (GraphQL, October 2021, section 6).
 use Rattle.std.specs.Prelude.{◌≡◌, ◌≤◌, ℕ, List, [], ◌∷◌, Option, Some, None, length, slice_get}
 use Rattle.std.specs.Prelude.{take}
+use Rattle.gql_tasks.specs.Keeps.{KeepsSet}
 use Rattle.gql_tasks.specs.Progress.{Seen}
 use Rattle.gql_exec.specs.Execution.{asks, Executes, Stops}
 use Rattle.gql_exec.specs.declared.dynamic_request.DynamicRequest.{DynamicRequest}
@@ -17,9 +18,7 @@ module _ {R Own World Future P : Type 0} (set : Resolving R Own World Future)
   pub record ExecutesOne (request : DynamicRequest Own) (response : Response)
       (old new : Seen R P) : Type 0 where
     pub executed : Executes set turns old new (asks schema request) response
-    pub rules : set.rules new.set ≡ set.rules old.set
-    pub lawful : set.is_lawful old.set → set.is_lawful new.set
-    pub paced : set.is_paced old.set → set.is_paced new.set
+    pub keeps : KeepsSet set old.set new.set
 
   -- requests and their responses, one for each in its order: every request is executed from the
   -- moment that the one before it left, and nothing is done but that

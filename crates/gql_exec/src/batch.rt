@@ -1,5 +1,6 @@
 //! The execution of batches: requests one after another over one world.
 ghost use Rattle.std.specs.Prelude.{◌≡◌, length, IfErr, IfOk};
+ghost use Rattle.gql_tasks.specs.Keeps.{KeepsSet};
 ghost use Rattle.gql_tasks.specs.Progress.{seen};
 ghost use Rattle.gql_exec.specs.Batch.{ExecutesAll, StopsAfter};
 
@@ -30,9 +31,7 @@ impl Schema {
         ensures stopped { IfErr result (λ want. StopsAfter R.ResolverSet P.Turns self.now
             requests.now want.done want.roots (seen resolvers.old turns.old)
             (seen resolvers.new turns.new)) }
-        ensures rules { R.rules resolvers.new ≡ R.rules resolvers.old }
-        ensures lawful { R.is_lawful resolvers.old → R.is_lawful resolvers.new }
-        ensures paced { R.is_paced resolvers.old → R.is_paced resolvers.new }
+        ensures keeps { KeepsSet R.ResolverSet resolvers.old resolvers.new }
     {
         let mut responses = Items::with_capacity(alloc, requests.len())?;
         for request in requests {

@@ -1,7 +1,8 @@
 //! The execution of requests (GraphQL, October 2021, section 6).
 ghost use Rattle.std.specs.Prelude.{◌≡◌, ◌+◌, ◌<◌, [], true, false, IfErr, IfOk, OnOk};
 ghost use Rattle.std.specs.Option.{ForSome};
-ghost use Rattle.gql_tasks.specs.Progress.{seen};
+ghost use Rattle.gql_tasks.specs.Keeps.{Keeps, KeepsSet};
+ghost use Rattle.gql_tasks.specs.Progress.{seen, seen_in};
 ghost use Rattle.gql_tasks.specs.Steps.{IsCounted};
 ghost use Rattle.gql_exec.specs.Bare.{bare_scene};
 ghost use Rattle.gql_exec.specs.Counting.{CountsAnswers, CountsTasks, tasks_by};
@@ -23,6 +24,7 @@ use gql_engine::{Scene, run_grouped, run_mutation_grouped};
 use gql_request::{Data, Hooks, QueryEnv, Response};
 use gql_resolve::{Layers, ResolverSet, Turns};
 use gql_schema::Object;
+use gql_tasks::{Rounds, Run};
 use std::alloc::Global;
 use std::marker::Brand;
 use std::sync::ledger::{Blank, Ledger};
@@ -44,9 +46,7 @@ impl Schema {
         ensures stopped { IfErr result (λ want. Stops R.ResolverSet P.Turns
             (seen resolvers.old turns.old) (seen resolvers.new turns.new)
             (asks self.now request.now) want.roots) }
-        ensures rules { R.rules resolvers.new ≡ R.rules resolvers.old }
-        ensures lawful { R.is_lawful resolvers.old → R.is_lawful resolvers.new }
-        ensures paced { R.is_paced resolvers.old → R.is_paced resolvers.new }
+        ensures keeps { KeepsSet R.ResolverSet resolvers.old resolvers.new }
         ensures starts { is_schema_only self.now request.now.inner ≡ true
             → R.is_lawful resolvers.old → ForSome (P.state turns.old) (λ s. OnOk result
             (StartsNone R.ResolverSet resolvers.old resolvers.new)) }
@@ -72,9 +72,7 @@ impl Schema {
         ensures stopped { IfErr result (λ want. StopsApart R.ResolverSet P.Turns
             (seen resolvers.old turns.old) (seen resolvers.new turns.new)
             (asks self.now request.now) want.roots) }
-        ensures rules { R.rules resolvers.new ≡ R.rules resolvers.old }
-        ensures lawful { R.is_lawful resolvers.old → R.is_lawful resolvers.new }
-        ensures paced { R.is_paced resolvers.old → R.is_paced resolvers.new }
+        ensures keeps { KeepsSet R.ResolverSet resolvers.old resolvers.new }
         ensures starts { is_schema_only self.now request.now.inner ≡ true
             → R.is_lawful resolvers.old → ForSome (P.state turns.old) (λ s. OnOk result
             (StartsNone R.ResolverSet resolvers.old resolvers.new)) }
@@ -104,12 +102,11 @@ impl Schema {
         ensures stopped { IfErr result (λ want. StopsAs R.ResolverSet P.Turns
             (seen resolvers.old turns.old) (seen resolvers.new turns.new)
             (asks self.now request.now) by want.roots) }
-        ensures rules { R.rules resolvers.new ≡ R.rules resolvers.old }
-        ensures lawful { R.is_lawful resolvers.old → R.is_lawful resolvers.new }
-        ensures paced { R.is_paced resolvers.old → R.is_paced resolvers.new }
+        ensures keeps { KeepsSet R.ResolverSet resolvers.old resolvers.new }
     {
         let mut steps: Steps<S> = Steps::new(blank);
-        self.execute_grouped(alloc, by, resolvers, hooks, request, turns, &mut steps)
+        let mut run = Run::over(resolvers, hooks, turns, &mut steps);
+        self.execute_grouped(alloc, by, request, &mut run)
     }
 
     /// What `execute` does, where each start of a resolver that answered is a step: over a lawful
@@ -129,43 +126,51 @@ impl Schema {
         ensures stopped { IfErr result (λ want. Stops R.ResolverSet P.Turns
             (seen resolvers.old turns.old) (seen resolvers.new turns.new)
             (asks self.now request.now) want.roots) }
-        ensures rules { R.rules resolvers.new ≡ R.rules resolvers.old }
-        ensures lawful { R.is_lawful resolvers.old → R.is_lawful resolvers.new }
-        ensures paced { R.is_paced resolvers.old → R.is_paced resolvers.new }
+        ensures keeps { KeepsSet R.ResolverSet resolvers.old resolvers.new }
         ensures counted { IsCounted (R.begun resolvers.old) (R.begun resolvers.new)
             steps.old steps.new }
         ensures asked { OnOk result (CountsAnswers R.ResolverSet resolvers.old
             (asks self.now request.now) steps.old steps.new) }
     {
-        let by = Grouping::ByKey;
-        self.execute_grouped(alloc, by, resolvers, hooks, request, turns, steps)
+        let mut run = Run::over(resolvers, hooks, turns, steps);
+        self.execute_by_key(alloc, request, &mut run)
+    }
+
+    /// What `execute_counted` does, over what is lent as one value.
+    fn execute_by_key<R: ResolverSet, P: Turns, S: Ledger>(
+        &self,
+        alloc: Global,
+        request: &DynamicRequest<R::Own>,
+        run: &mut Run<'_, R, Hooks, P, S>,
+    ) -> Result<Response, NoMemory>
+        ensures executed { IfOk result (Executes R.ResolverSet P.Turns
+            (seen_in run.old) (seen_in run.new) (asks self.now request.now)) }
+        ensures stopped { IfErr result (λ want. Stops R.ResolverSet P.Turns
+            (seen_in run.old) (seen_in run.new) (asks self.now request.now) want.roots) }
+        ensures keeps { Keeps R.ResolverSet ⟦<Hooks as Rounds>⟧ run.old run.new }
+        ensures asked { OnOk result (CountsAnswers R.ResolverSet run.old.set.now
+            (asks self.now request.now) run.old.steps.now run.new.steps.now) }
+    {
+        self.execute_grouped(alloc, Grouping::ByKey, request, run)
     }
 
     /// The response to a request, where occurrences are grouped so, and each start of a resolver
     /// that answered is a step.
+    #[tactic(auto, using(gql_tasks::proofs::KeepsLemmas::keeps_none))]
     fn execute_grouped<R: ResolverSet, P: Turns, S: Ledger>(
         &self,
         alloc: Global,
         by: Grouping,
-        resolvers: &mut R,
-        hooks: &mut Hooks,
         request: &DynamicRequest<R::Own>,
-        turns: &mut P,
-        steps: &mut Steps<S>,
+        run: &mut Run<'_, R, Hooks, P, S>,
     ) -> Result<Response, NoMemory>
         ensures executed { IfOk result (ExecutesAs R.ResolverSet P.Turns
-            (seen resolvers.old turns.old) (seen resolvers.new turns.new)
-            (asks self.now request.now) by) }
+            (seen_in run.old) (seen_in run.new) (asks self.now request.now) by) }
         ensures stopped { IfErr result (λ want. StopsAs R.ResolverSet P.Turns
-            (seen resolvers.old turns.old) (seen resolvers.new turns.new)
-            (asks self.now request.now) by want.roots) }
-        ensures rules { R.rules resolvers.new ≡ R.rules resolvers.old }
-        ensures lawful { R.is_lawful resolvers.old → R.is_lawful resolvers.new }
-        ensures paced { R.is_paced resolvers.old → R.is_paced resolvers.new }
-        ensures counted { IsCounted (R.begun resolvers.old) (R.begun resolvers.new)
-            steps.old steps.new }
-        ensures asked { OnOk result (CountsTasks R.ResolverSet resolvers.old by
-            (asks self.now request.now) steps.old steps.new) }
+            (seen_in run.old) (seen_in run.new) (asks self.now request.now) by want.roots) }
+        ensures keeps { Keeps R.ResolverSet ⟦<Hooks as Rounds>⟧ run.old run.new }
+        ensures asked { OnOk result (CountsTasks R.ResolverSet run.old.set.now by
+            (asks self.now request.now) run.old.steps.now run.new.steps.now) }
     {
         // (asking the number shows that no type is there twice)
         let _count = self.types().len();
@@ -174,7 +179,7 @@ impl Schema {
                 Ok(object) => {
                     let session = Data::new(alloc);
                     let scene = self.scene(request, &env, object, &session);
-                    respond(alloc, by, &scene, resolvers, hooks, turns, steps)
+                    respond(alloc, by, &scene, run)
                 }
                 Err(text) => Ok(fault(alloc, text)?),
             },
@@ -227,30 +232,23 @@ fn respond<R: ResolverSet, P: Turns, S: Ledger>(
     alloc: Global,
     by: Grouping,
     scene: &Scene<'_, R::Own>,
-    resolvers: &mut R,
-    hooks: &mut Hooks,
-    turns: &mut P,
-    steps: &mut Steps<S>,
+    run: &mut Run<'_, R, Hooks, P, S>,
 ) -> Result<Response, NoMemory>
     requires agrees { AgreesInside scene.now (levels_of scene.now.env.now) }
     requires kind { scene.now.serial ≡ mutates scene.now }
-    ensures runs { R.is_lawful resolvers.old → IfOk result (RunsAs R.ResolverSet P.Turns
-        (seen resolvers.old turns.old) (seen resolvers.new turns.new) by (bare_scene scene.now)) }
-    ensures halts { R.is_lawful resolvers.old → IfErr result (λ want. HaltsAs R.ResolverSet P.Turns
-        (seen resolvers.old turns.old) (seen resolvers.new turns.new) by (bare_scene scene.now)
-        want.roots) }
-    ensures rules { R.rules resolvers.new ≡ R.rules resolvers.old }
-    ensures lawful { R.is_lawful resolvers.old → R.is_lawful resolvers.new }
-    ensures paced { R.is_paced resolvers.old → R.is_paced resolvers.new }
-    ensures counted { IsCounted (R.begun resolvers.old) (R.begun resolvers.new)
-        steps.old steps.new }
-    ensures asked { R.is_lawful resolvers.old → OnOk result (steps.new ≡ steps.old
-        + tasks_by R.ResolverSet resolvers.old by (mutates scene.now) scene.now) }
+    ensures runs { R.is_lawful run.old.set.now → IfOk result (RunsAs R.ResolverSet P.Turns
+        (seen_in run.old) (seen_in run.new) by (bare_scene scene.now)) }
+    ensures halts { R.is_lawful run.old.set.now → IfErr result (λ want. HaltsAs R.ResolverSet
+        P.Turns (seen_in run.old) (seen_in run.new) by (bare_scene scene.now) want.roots) }
+    ensures keeps { Keeps R.ResolverSet ⟦<Hooks as Rounds>⟧ run.old run.new }
+    ensures asked { R.is_lawful run.old.set.now → OnOk result (run.new.steps.now
+        ≡ run.old.steps.now
+        + tasks_by R.ResolverSet run.old.set.now by (mutates scene.now) scene.now) }
 {
     if scene.serial {
-        respond_in_turn(alloc, by, scene, resolvers, hooks, turns, steps)
+        respond_in_turn(alloc, by, scene, run)
     } else {
-        respond_at_once(alloc, by, scene, resolvers, hooks, turns, steps)
+        respond_at_once(alloc, by, scene, run)
     }
 }
 
@@ -259,27 +257,20 @@ fn respond_at_once<R: ResolverSet, P: Turns, S: Ledger>(
     alloc: Global,
     by: Grouping,
     scene: &Scene<'_, R::Own>,
-    resolvers: &mut R,
-    hooks: &mut Hooks,
-    turns: &mut P,
-    steps: &mut Steps<S>,
+    run: &mut Run<'_, R, Hooks, P, S>,
 ) -> Result<Response, NoMemory>
     requires agrees { AgreesInside scene.now (levels_of scene.now.env.now) }
     requires kind { mutates scene.now ≡ false }
-    ensures runs { R.is_lawful resolvers.old → IfOk result (RunsAs R.ResolverSet P.Turns
-        (seen resolvers.old turns.old) (seen resolvers.new turns.new) by (bare_scene scene.now)) }
-    ensures halts { R.is_lawful resolvers.old → IfErr result (λ want. HaltsAs R.ResolverSet P.Turns
-        (seen resolvers.old turns.old) (seen resolvers.new turns.new) by (bare_scene scene.now)
-        want.roots) }
-    ensures rules { R.rules resolvers.new ≡ R.rules resolvers.old }
-    ensures lawful { R.is_lawful resolvers.old → R.is_lawful resolvers.new }
-    ensures paced { R.is_paced resolvers.old → R.is_paced resolvers.new }
-    ensures counted { IsCounted (R.begun resolvers.old) (R.begun resolvers.new)
-        steps.old steps.new }
-    ensures asked { R.is_lawful resolvers.old → OnOk result (steps.new ≡ steps.old
-        + tasks_by R.ResolverSet resolvers.old by (mutates scene.now) scene.now) }
+    ensures runs { R.is_lawful run.old.set.now → IfOk result (RunsAs R.ResolverSet P.Turns
+        (seen_in run.old) (seen_in run.new) by (bare_scene scene.now)) }
+    ensures halts { R.is_lawful run.old.set.now → IfErr result (λ want. HaltsAs R.ResolverSet
+        P.Turns (seen_in run.old) (seen_in run.new) by (bare_scene scene.now) want.roots) }
+    ensures keeps { Keeps R.ResolverSet ⟦<Hooks as Rounds>⟧ run.old run.new }
+    ensures asked { R.is_lawful run.old.set.now → OnOk result (run.new.steps.now
+        ≡ run.old.steps.now
+        + tasks_by R.ResolverSet run.old.set.now by (mutates scene.now) scene.now) }
 {
-    let place = run_grouped(alloc, by, scene, resolvers, hooks, turns, steps)?;
+    let place = run_grouped(alloc, by, scene, run)?;
     match response_of(alloc, place) {
         Ok(response) => Ok(response),
         Err(_) => Err(NoMemory { roots: 0 }),
@@ -291,27 +282,20 @@ fn respond_in_turn<R: ResolverSet, P: Turns, S: Ledger>(
     alloc: Global,
     by: Grouping,
     scene: &Scene<'_, R::Own>,
-    resolvers: &mut R,
-    hooks: &mut Hooks,
-    turns: &mut P,
-    steps: &mut Steps<S>,
+    run: &mut Run<'_, R, Hooks, P, S>,
 ) -> Result<Response, NoMemory>
     requires agrees { AgreesInside scene.now (levels_of scene.now.env.now) }
     requires kind { mutates scene.now ≡ true }
-    ensures runs { R.is_lawful resolvers.old → IfOk result (RunsAs R.ResolverSet P.Turns
-        (seen resolvers.old turns.old) (seen resolvers.new turns.new) by (bare_scene scene.now)) }
-    ensures halts { R.is_lawful resolvers.old → IfErr result (λ want. HaltsAs R.ResolverSet P.Turns
-        (seen resolvers.old turns.old) (seen resolvers.new turns.new) by (bare_scene scene.now)
-        want.roots) }
-    ensures rules { R.rules resolvers.new ≡ R.rules resolvers.old }
-    ensures lawful { R.is_lawful resolvers.old → R.is_lawful resolvers.new }
-    ensures paced { R.is_paced resolvers.old → R.is_paced resolvers.new }
-    ensures counted { IsCounted (R.begun resolvers.old) (R.begun resolvers.new)
-        steps.old steps.new }
-    ensures asked { R.is_lawful resolvers.old → OnOk result (steps.new ≡ steps.old
-        + tasks_by R.ResolverSet resolvers.old by (mutates scene.now) scene.now) }
+    ensures runs { R.is_lawful run.old.set.now → IfOk result (RunsAs R.ResolverSet P.Turns
+        (seen_in run.old) (seen_in run.new) by (bare_scene scene.now)) }
+    ensures halts { R.is_lawful run.old.set.now → IfErr result (λ want. HaltsAs R.ResolverSet
+        P.Turns (seen_in run.old) (seen_in run.new) by (bare_scene scene.now) want.roots) }
+    ensures keeps { Keeps R.ResolverSet ⟦<Hooks as Rounds>⟧ run.old run.new }
+    ensures asked { R.is_lawful run.old.set.now → OnOk result (run.new.steps.now
+        ≡ run.old.steps.now
+        + tasks_by R.ResolverSet run.old.set.now by (mutates scene.now) scene.now) }
 {
-    let (place, roots) = run_mutation_grouped(alloc, by, scene, resolvers, hooks, turns, steps)?;
+    let (place, roots) = run_mutation_grouped(alloc, by, scene, run)?;
     match response_of(alloc, place) {
         Ok(response) => Ok(response),
         Err(_) => Err(NoMemory { roots }),

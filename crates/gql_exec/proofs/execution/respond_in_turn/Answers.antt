@@ -1,6 +1,6 @@
 use Rattle.std.proofs.Common.{◌+◌, true, inl, inr, ap, sym, ◌∙◌}
 use Rattle.gql_tasks.proofs.RootLemmas.{if_err}
-use Rattle.gql_tasks.specs.Progress.{seen}
+use Rattle.gql_tasks.specs.Progress.{seen_in}
 use Rattle.gql_exec.proofs.BareLemmas.{last-bare, serial-bare}
 use Rattle.gql_exec.proofs.ExecutionLemmas.{halts_by, response_same, runs_by}
 use Rattle.gql_exec.proofs.InTurnLemmas.{all_stand, halts-in-turn-bare, in-turn-bare, stand-bare}
@@ -15,8 +15,8 @@ use Rattle.gql_exec.proofs.execution.respond_in_turn.Goals as goal
 
 pub returns-in_err-place-clause-halts : goal.returns-in_err-place-clause-halts
 returns-in_err-place-clause-halts g c = λ lawful.
-    let old = seen c.args.resolvers.now c.args.turns.now in
-    let new = seen c.run_mutation_grouped.new.resolvers c.run_mutation_grouped.new.turns in
+    let old = seen_in c.args.run.now in
+    let new = seen_in c.run_mutation_grouped.new.run in
     let scene = c.args.scene.now in
     if_err _ (λ want. HaltsAs g.R.ResolverSet g.P.Turns old new c.args.by (bare_scene scene) want.roots) c.from_residual.result c.from_residual.ensures.1
     (λ want is. halts_by g.R.ResolverSet g.P.Turns old new c.args.by (bare_scene scene) true c.requires.kind want.roots
@@ -25,8 +25,8 @@ returns-in_err-place-clause-halts g c = λ lawful.
 
 pub returns-in-Err-clause-halts : goal.returns-in-Err-clause-halts
 returns-in-Err-clause-halts g c = λ lawful.
-    let old = seen c.args.resolvers.now c.args.turns.now in
-    let new = seen c.run_mutation_grouped.new.resolvers c.run_mutation_grouped.new.turns in
+    let old = seen_in c.args.run.now in
+    let new = seen_in c.run_mutation_grouped.new.run in
     let scene = c.args.scene.now in
     halts_by g.R.ResolverSet g.P.Turns old new c.args.by (bare_scene scene) true c.requires.kind _
     (stand-bare g.R.ResolverSet g.P.Turns c.args.by scene old new _
@@ -36,8 +36,8 @@ returns-in-Err-clause-halts g c = λ lawful.
 pub returns-in-Ok-clause-runs : goal.returns-in-Ok-clause-runs
 returns-in-Ok-clause-runs g c = λ lawful.
     let set = g.R.ResolverSet in
-    let old = seen c.args.resolvers.now c.args.turns.now in
-    let new = seen c.run_mutation_grouped.new.resolvers c.run_mutation_grouped.new.turns in
+    let old = seen_in c.args.run.now in
+    let new = seen_in c.run_mutation_grouped.new.run in
     let scene = c.args.scene.now in
     let env = scene.env.now in
     let answer = set.answer (set.rules old.set) in
@@ -54,4 +54,4 @@ returns-in-Ok-clause-asked g c = λ lawful.
     let scene = c.args.scene.now in
     let env = scene.env.now in
     c.in_ok-place.ensures.asked lawful tt (levels_of env) env.nests
-    ∙ ap (λ m. c.args.steps.now + tasks_by g.R.ResolverSet c.args.resolvers.now c.args.by m scene) (sym c.requires.kind)
+    ∙ ap (λ m. c.args.run.now.steps.now + tasks_by g.R.ResolverSet c.args.run.now.set.now c.args.by m scene) (sym c.requires.kind)

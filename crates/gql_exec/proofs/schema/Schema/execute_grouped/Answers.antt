@@ -1,5 +1,5 @@
 use Rattle.std.proofs.Common.{subst}
-use Rattle.gql_tasks.specs.Progress.{seen}
+use Rattle.gql_tasks.specs.Progress.{seen_in}
 use Rattle.gql_exec.proofs.AgreeLemmas.{agrees_ready}
 use Rattle.gql_exec.proofs.CountingLemmas.{counts_tasks}
 use Rattle.gql_exec.proofs.ExecutionLemmas.{executes, halts}
@@ -12,7 +12,7 @@ use Rattle.gql_exec.proofs.schema.Schema.execute_grouped.Goals as goal
 
 pub returns-in-Ok-root_for-clause-executed : goal.returns-in-Ok-root_for-clause-executed
 returns-in-Ok-root_for-clause-executed g c =
-    executes g.R.ResolverSet g.P.Turns (seen c.args.resolvers.now c.args.turns.now) (seen c.respond.new.resolvers c.respond.new.turns)
+    executes g.R.ResolverSet g.P.Turns (seen_in c.args.run.now) (seen_in c.respond.new.run)
     c.args.by (asks c.args.self.now c.args.request.now) c.in-Ok.env c.in-Ok-root_for.object.now c.scene-scene.result
     record {
       ready = rw c.in-Ok.is at c.in_ok-env.ensures;
@@ -23,7 +23,7 @@ returns-in-Ok-root_for-clause-executed g c =
 
 pub returns-in-Ok-root_for-clause-stopped : goal.returns-in-Ok-root_for-clause-stopped
 returns-in-Ok-root_for-clause-stopped g c =
-    halts g.R.ResolverSet g.P.Turns (seen c.args.resolvers.now c.args.turns.now) (seen c.respond.new.resolvers c.respond.new.turns)
+    halts g.R.ResolverSet g.P.Turns (seen_in c.args.run.now) (seen_in c.respond.new.run)
     c.args.by (asks c.args.self.now c.args.request.now) c.in-Ok.env c.in-Ok-root_for.object.now c.scene-scene.result
     record {
       ready = rw c.in-Ok.is at c.in_ok-env.ensures;
@@ -40,7 +40,7 @@ respond-requires-clause-agrees g c =
 
 pub returns-in-Ok-root_for-clause-asked : goal.returns-in-Ok-root_for-clause-asked
 returns-in-Ok-root_for-clause-asked g c =
-    counts_tasks g.R.ResolverSet c.args.resolvers.now c.args.by (asks c.args.self.now c.args.request.now) c.args.steps.now c.respond.new.steps
+    counts_tasks g.R.ResolverSet c.args.run.now.set.now c.args.by (asks c.args.self.now c.args.request.now) c.args.run.now.steps.now c.respond.new.run.steps.now
     c.in-Ok.env c.in-Ok-root_for.object.now c.scene-scene.result
     (rw c.in-Ok.is at c.in_ok-env.ensures) (rw c.in-Ok-root_for.is at c.root_for.ensures) c.scene-scene.ensures.shows
     c.respond.result c.respond.ensures.asked
