@@ -1,5 +1,5 @@
 -- The operation of a name, by the place of the name.
-use Rattle.std.proofs.Common.{arith, ◌≡◌, ◌≢◌, ℕ, List, [], ◌∷◌, Option, Some, None, Ok, Err, length, slice_get, refl, ap, sym, ◌∙◌}
+use Rattle.std.proofs.Common.{◌≡◌, ℕ, List, Option, Some, None, Ok, Err, slice_get, refl, ap, sym, ◌∙◌}
 use Rattle.std.specs.Option.{option_map}
 use Rattle.gql_base.specs.Names.{place_of}
 use Rattle.gql_base.specs.Pairs.{names_of, values_of}
@@ -8,10 +8,11 @@ use Rattle.gql_doc.specs.Depth.{Fragments}
 use Rattle.gql_doc.specs.declared.document.DocumentOperations.TheVariants.{Multiple}
 use Rattle.gql_doc.specs.declared.document.OperationDefinition.{OperationDefinition}
 use Rattle.gql_doc.specs.declared.document.Positioned.{Positioned}
+use Rattle.gql_fields.proofs.PairLemmas.{under_at}
+use Rattle.gql_rules.specs.ChosenOperation.{Operation, chosen, named, operation_of}
 use Rattle.gql_admit.specs.declared.chosen.Chosen.{Chosen}
-use Rattle.gql_admit.specs.Choice.{Operation, choice_of, chosen, kind_of, named, only, operation_of}
+use Rattle.gql_admit.specs.Choice.{choice_of, kind_of}
 use Rattle.gql_admit.specs.Refusal.{no_operation_error}
-use Rattle.gql_admit.proofs.WalkLemmas.{under_at}
 
 module _ (fragments : Fragments) (operations : List (List ℕ × Positioned OperationDefinition)) (name : List ℕ) where
   pub name_missing : (error : ServerError) → None ≡ place_of name (names_of operations) → error ≡ no_operation_error (Some name)
@@ -25,27 +26,6 @@ module _ (fragments : Fragments) (operations : List (List ℕ × Positioned Oper
   name_found place answer found at own kept =
       ap Ok (λ i. record { operation_name = own i; operation = answer.operation; fragments = kept i })
       ∙ ap (λ o. choice_of fragments (Some name) (option_map (named name) o)) (sym (under_at name operations (Some place) found ∙ at))
-
--- the only one of some operations, read and not taken
-pub only_one : (operations : List (List ℕ × Positioned OperationDefinition)) (one : List ℕ × Positioned OperationDefinition)
-    → length operations ≡ 1 → slice_get operations 0 ≡ Some one → Some one.1 ≡ option_map operation_of (only operations)
-only_one [] one long at = absurd (omega arith)
-only_one (p ∷ []) one long at = let same : p ≡ one = cc in ap (λ q. Some q.1) (sym same)
-only_one (p ∷ (q ∷ ps)) one long at = absurd (omega arith)
-
-pub only_none : (operations : List (List ℕ × Positioned OperationDefinition)) → length operations ≢ 1
-    → None ≡ option_map operation_of (only operations)
-only_none [] other = refl
-only_none (p ∷ []) other = absurd (other refl)
-only_none (p ∷ (q ∷ ps)) other = refl
-
-pub ruleset only_or_none = (only_one, only_none)
-
--- the operation of a name
-pub operation_named : (name : List ℕ) (found : Option (Positioned OperationDefinition))
-    → found ≡ option_map operation_of (option_map (named name) found)
-operation_named name None = refl
-operation_named name (Some operation) = refl
 
 -- the kind of a choice, by the operation that was found
 pub kind_of_found : (choice : Option Operation) (found : Positioned OperationDefinition) → Some found ≡ option_map operation_of choice

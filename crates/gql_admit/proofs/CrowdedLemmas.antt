@@ -1,24 +1,22 @@
 -- The walk that looks for fields with too many directives.
-use Rattle.std.proofs.Common.{◌≡◌, ℕ, zero, suc, ◌<◌, Bool, true, List, [], ◌∷◌, Option, Some, None, Ok, Err, slice_get, slice_set, refl, ap, sym, ◌∙◌, subst, inl, inr, arith}
+use Rattle.std.proofs.Common.{◌≡◌, ℕ, zero, suc, Bool, true, List, Option, Some, None, Ok, Err, slice_get, slice_set, refl, ap, sym, ◌∙◌, subst, inl, inr}
 use Rattle.std.specs.Prelude.{option_and_then}
 use Rattle.std.specs.Option.{option_map, option_or}
 use Rattle.std.proofs.Math.ListN.{length-set}
 use Rattle.gql_base.specs.Pairs.{values_of}
 use Rattle.gql_base.specs.declared.server_error.ServerError.{ServerError}
 use Rattle.gql_doc.specs.Depth.{Fragments, deep, deep_from, fragment_set, operation_set, operations_in, selections_of, set_beneath}
-use Rattle.gql_doc.specs.First.{first_in}
 use Rattle.gql_doc.specs.declared.document.ExecutableDocument.{ExecutableDocument}
 use Rattle.gql_doc.specs.declared.document.Field.{Field}
 use Rattle.gql_doc.specs.declared.document.FragmentDefinition.{FragmentDefinition}
-use Rattle.gql_doc.specs.declared.document.OperationDefinition.{OperationDefinition}
 use Rattle.gql_doc.specs.declared.document.Positioned.{Positioned}
 use Rattle.gql_doc.specs.declared.document.Selection.{out-Selection}
 use Rattle.gql_doc.specs.declared.document.SelectionSet.{SelectionSet}
-use Rattle.gql_doc.proofs.DepthLaws.{deep_less}
 use Rattle.gql_select.specs.Crowded.{crowded, crowded_from, crowded_here}
-use Rattle.gql_admit.specs.Limits.{crowded_error, directives_checked, refused_by, IsWithinDepth, NestsWithin}
+use Rattle.gql_rules.specs.Nesting.{NestsWithin}
+use Rattle.gql_admit.specs.Limits.{crowded_error, directives_checked, refused_by}
 use Rattle.gql_admit.specs.Walked.{IsClean}
-use Rattle.gql_lists.proofs.FirstLemmas.{both_none, first_same, none_behind, none_here}
+use Rattle.gql_lists.proofs.FirstLemmas.{first_same}
 use Rattle.gql_admit.proofs.WalkLemmas.{written_at}
 
 module _ (fragments : Fragments) where
@@ -95,18 +93,3 @@ module _ (document : ExecutableDocument) (limit levels : ℕ) (nests : NestsWith
       → (depth : ℕ) → deep document depth ≡ None → Err error ≡ directives_checked document limit depth
   directives_refused field error told said depth within =
       ap Err said ∙ ap (refused_by (crowded_error limit)) (found_crowded (Some field) depth within told)
-
-nests_all : (fragments : Fragments) (depth levels : ℕ) (operations : List (Positioned OperationDefinition)) → depth < levels
-    → first_in (λ operation. deep_from fragments (suc depth) (operation_set operation)) operations ≡ None
-    → first_in (λ operation. deep_from fragments levels (operation_set operation)) operations ≡ None
-nests_all fragments depth levels [] most none = refl
-nests_all fragments depth levels (operation ∷ operations) most none =
-    both_none _ _
-    (deep_less fragments (suc depth) levels (operation_set operation) (omega arith) (none_here _ _ none))
-    (nests_all fragments depth levels operations most (none_behind _ _ none))
-
--- more levels than a limit that suffices
-pub nests_within : (document : ExecutableDocument) (levels : ℕ) (within : IsWithinDepth document) → within.limit < levels → NestsWithin document levels
-nests_within document levels within most = record {
-  none = nests_all document.fragments within.limit levels (operations_in document.operations) most within.within;
-}

@@ -12,10 +12,12 @@ use Rattle.gql_doc.specs.declared.document.ExecutableDocument.{ExecutableDocumen
 use Rattle.gql_doc.specs.declared.document.FragmentDefinition.{FragmentDefinition}
 use Rattle.gql_doc.specs.declared.document.Positioned.{Positioned}
 use Rattle.gql_doc.proofs.DepthLaws.{deep_less}
-use Rattle.gql_admit.specs.Limits.{depth_checked, refused_by, IsWithinDepth}
+use Rattle.gql_fields.proofs.PairLemmas.{value_at}
+use Rattle.gql_rules.specs.Nesting.{IsWithinDepth}
+use Rattle.gql_admit.specs.Limits.{depth_checked, refused_by}
 use Rattle.gql_admit.specs.Refusal.{depth_error}
 use Rattle.gql_admit.specs.Walked.{IsFine}
-use Rattle.gql_admit.proofs.WalkLemmas.{value_at, written_at}
+use Rattle.gql_admit.proofs.WalkLemmas.{written_at}
 
 -- the check of a document, by what the walk finds in so many levels
 module _ (document : ExecutableDocument) (limit levels : ℕ) (most : levels ≡ limit + 1) where

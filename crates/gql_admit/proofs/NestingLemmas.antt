@@ -30,7 +30,8 @@ use Rattle.gql_doc.specs.declared.document.Selection.TheViews.{rolls-InlineFragm
 use Rattle.gql_doc.specs.declared.document.SelectionSet.{SelectionSet}
 use Rattle.gql_select.specs.Kept.{if_kept, is_kept, kept, kept_field, kept_fragment, kept_fragments}
 use Rattle.gql_select.specs.Kept.{kept_inline, kept_selection}
-use Rattle.gql_admit.specs.Choice.{Operation, choice, choice_of, chosen, named, only}
+use Rattle.gql_rules.specs.ChosenOperation.{Operation, chosen, named, only}
+use Rattle.gql_admit.specs.Choice.{choice, choice_of}
 use Rattle.gql_admit.specs.Choice.{with_fragments}
 use Rattle.gql_admit.specs.Left.{left_field, left_inline, left_set, left_spread}
 use Rattle.gql_admit.specs.Prepared.{kept_operation}

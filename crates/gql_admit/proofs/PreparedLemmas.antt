@@ -15,13 +15,13 @@ use Rattle.gql_request.specs.QueryEnv.{levels_of}
 use Rattle.gql_request.specs.Request.{GivesParsed, set_document}
 use Rattle.gql_request.specs.declared.query_env.QueryEnv.{QueryEnv}
 use Rattle.gql_request.specs.declared.request.Request.{Request}
-use Rattle.gql_admit.specs.Asked.{Asked}
+use Rattle.gql_fields.specs.Terms.{Terms}
+use Rattle.gql_rules.specs.Asked.{Asked}
+use Rattle.gql_rules.specs.RulesChecked.{IsBreach, IsChecked, refused_with}
+use Rattle.gql_rules.proofs.ListedLemmas.{one_listed}
 use Rattle.gql_admit.specs.Choice.{choice}
 use Rattle.gql_admit.specs.Prepared.{Admits, asked_by, IsLimited, IsLooked, IsPrepared, IsRead, IsReady, IsRuled, IsSettled, Prepared, limits_checked}
-use Rattle.gql_admit.specs.RulesChecked.{IsBreach, IsChecked, refused_with}
-use Rattle.gql_admit.specs.Terms.{Terms}
 use Rattle.gql_admit.specs.declared.chosen.Chosen.{Chosen}
-use Rattle.gql_admit.proofs.ListedLemmas.{one_listed}
 
 -- a text is read as one thing
 one_read : (document : Option ExecutableDocument) (query : List ℕ) (one other : Result ExecutableDocument ParseFault) → GivesParsed document query one

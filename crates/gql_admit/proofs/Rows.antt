@@ -4,7 +4,7 @@ use Rattle.std.specs.Prelude.{codes}
 use Rattle.gql_doc.specs.declared.document.DocumentOperations.TheVariants.{Multiple, Single}
 use Rattle.gql_doc.specs.declared.document.OperationDefinition.{OperationDefinition}
 use Rattle.gql_doc.specs.declared.document.Positioned.{Positioned}
-use Rattle.gql_admit.specs.Choice.{chosen, named}
+use Rattle.gql_rules.specs.ChosenOperation.{chosen, named}
 use Rattle.gql_admit.specs.Refusal.{no_operation_text, unknown_operation_text}
 
 module _ (one other : Positioned OperationDefinition) where

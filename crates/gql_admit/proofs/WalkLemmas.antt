@@ -2,33 +2,18 @@
 use Rattle.std.proofs.Common.{◌≡◌, ℕ, zero, suc, List, [], ◌∷◌, Option, Some, None, slice_get, slice_set, refl, ap, sym, ◌∙◌, inl, inr}
 use Rattle.std.specs.Prelude.{◌⊎◌, option_and_then}
 use Rattle.std.specs.Option.{option_map}
-use Rattle.std.proofs.Math.ListN.{length-map}
-use Rattle.std.proofs.lemmas.Option.{slice_get-map}
 use Rattle.gql_base.specs.Names.{place_of}
 use Rattle.gql_base.specs.Pairs.{names_of, under, values_of}
-use Rattle.gql_base.proofs.PairLemmas.{under_zipped, zipped_again}
 use Rattle.gql_doc.specs.declared.document.Positioned.{Positioned}
 use Rattle.gql_doc.specs.declared.document.Selection.{Selection}
 use Rattle.gql_doc.specs.declared.document.SelectionSet.{SelectionSet}
 use Rattle.gql_doc.specs.Depth.{Fragments, fragment_set, if_any}
+use Rattle.gql_fields.proofs.PairLemmas.{under_at}
 
 -- a set that isn't empty
 pub if_some : (selections : List (Positioned Selection)) (set : Positioned SelectionSet) → (selections ≡ [] → ⊥) → if_any selections set ≡ Some set
 if_some [] set some = absurd (some refl)
 if_some (x ∷ xs) set some = refl
-
--- what stands under a name stands at its place
-pub under_at : {T : Type 0} (sought : List ℕ) (ps : List (List ℕ × T)) (found : Option ℕ) → found ≡ place_of sought (names_of ps)
-    → under sought ps ≡ option_and_then (slice_get (values_of ps)) found
-under_at sought ps found told =
-    ap (under sought) (sym (zipped_again ps))
-    ∙ under_zipped sought (names_of ps) (values_of ps) (length-map ps (λ p. p.1) ∙ sym (length-map ps (λ p. p.0)))
-    ∙ ap (option_and_then (slice_get (values_of ps))) (sym told)
-
--- the value of the pair at a place
-pub value_at : {T : Type 0} (ps : List (List ℕ × T)) (i : ℕ) (name : List ℕ) (value : T) → slice_get ps i ≡ Some (name, value)
-    → slice_get (values_of ps) i ≡ Some value
-value_at ps i name value at = slice_get-map (λ p. p.1) ps i ∙ ap (option_map (λ p. p.1)) at
 
 -- what stands at a place after a write
 pub written_at : {A : Type 0} (xs : List A) (i j : ℕ) (v w : A) → slice_get (slice_set xs i v) j ≡ Some w

@@ -1,8 +1,7 @@
 -- The limits of a document: how deep its sets may lie, and how many directives a field may have.
-use Rattle.std.specs.Prelude.{◌≡◌, ℕ, suc, ◌+◌, ◌<◌, ◌^◌, Option, None, Some, Result, Ok, Err}
+use Rattle.std.specs.Prelude.{ℕ, suc, Option, None, Some, Result, Ok, Err}
 use Rattle.gql_base.specs.declared.server_error.ServerError.{ServerError}
-use Rattle.gql_doc.specs.Depth.{deep, deep_from, operation_set, operations_in}
-use Rattle.gql_doc.specs.First.{first_in}
+use Rattle.gql_doc.specs.Depth.{deep}
 use Rattle.gql_doc.specs.declared.document.ExecutableDocument.{ExecutableDocument}
 use Rattle.gql_doc.specs.declared.document.Field.{Field}
 use Rattle.gql_doc.specs.declared.document.Positioned.{Positioned}
@@ -19,17 +18,6 @@ refused_by tell (Some found) = Err (tell found)
 -- limit is refused
 abbrev pub depth_checked : ExecutableDocument → ℕ → Result (Unit {0}) ServerError
 depth_checked document limit = refused_by (depth_error limit) (deep document limit)
-
--- that so many levels suffice for the sets of a document's operations
-pub record NestsWithin (document : ExecutableDocument) (levels : ℕ) : Type 0 where
-  pub none : first_in (λ operation. deep_from document.fragments levels (operation_set operation))
-      (operations_in document.operations) ≡ None
-
--- that a document lies within some limit on the depth
-pub record IsWithinDepth (document : ExecutableDocument) : Type 0 where
-  pub limit : ℕ
-  pub fits : limit + 1 < 2 ^ 64
-  pub within : deep document limit ≡ None
 
 -- what is told of a field with too many directives
 abbrev pub crowded_error : ℕ → Positioned Field → ServerError

@@ -15,13 +15,13 @@ use Rattle.gql_request.specs.declared.query_env.QueryEnv.{QueryEnv}
 use Rattle.gql_request.specs.declared.request.Request.{Request}
 use Rattle.gql_select.specs.Constants.{variable_value}
 use Rattle.gql_select.specs.Kept.{kept_fragments}
-use Rattle.gql_admit.specs.Asked.{Asked, asking}
+use Rattle.gql_fields.specs.Terms.{Terms}
+use Rattle.gql_rules.specs.Asked.{Asked, asking}
+use Rattle.gql_rules.specs.Refusal.{refusal}
+use Rattle.gql_rules.specs.RulesChecked.{IsChecked}
 use Rattle.gql_admit.specs.Choice.{choice}
 use Rattle.gql_admit.specs.Left.{left_set}
 use Rattle.gql_admit.specs.Limits.{depth_checked, directives_checked}
-use Rattle.gql_admit.specs.Refusal.{refusal}
-use Rattle.gql_admit.specs.RulesChecked.{IsChecked}
-use Rattle.gql_admit.specs.Terms.{Terms}
 use Rattle.gql_admit.specs.declared.chosen.Chosen.{Chosen}
 
 -- what a request is answered before its execution

@@ -1,15 +1,9 @@
--- The errors of refused requests (GraphQL, October 2021, section 7.1.2): none has a path or
--- extensions.
-use Rattle.std.specs.Prelude.{ℕ, List, [], ◌++◌, Option, None, Some, codes}
+-- The errors of requests that a limit or the choice of the operation refuses.
+use Rattle.std.specs.Prelude.{ℕ, List, ◌++◌, Option, None, Some, codes}
 use Rattle.std.specs.Fmt.{decimal}
-use Rattle.std.specs.Option.{option_to_list}
 use Rattle.gql_base.specs.declared.pos.Pos.{Pos}
 use Rattle.gql_base.specs.declared.server_error.ServerError.{ServerError}
-
--- an error with this message, and with one place or none
-abbrev pub refusal : List ℕ → Option Pos → ServerError
-refusal message place =
-    record { message = message; locations = option_to_list place; path = []; extensions = None }
+use Rattle.gql_rules.specs.Refusal.{refusal}
 
 unfoldable pub depth_text : ℕ → List ℕ
 depth_text limit =

@@ -1,14 +1,14 @@
 //! What `@skip` and `@include` say of a selection (sections 3.13.1 and 3.13.2).
-ghost use Rattle.std.specs.Prelude.{◌≡◌, ◌||◌};
+ghost use Rattle.std.specs.Prelude.{◌≡◌};
 ghost use Rattle.std.specs.Option.{option_copied};
 ghost use Rattle.gql_request.specs.Defined.{definition_places};
 ghost use Rattle.gql_select.specs.Constants.{default_of, resolved, variable_value};
-ghost use Rattle.gql_select.specs.Kept.{allows, condition, is_include, is_kept, is_skip, is_truth};
-ghost use Rattle.gql_select.specs.Kept.{others};
+ghost use Rattle.gql_select.specs.Kept.{allows, condition, is_kept, is_truth, others};
 ghost use Rattle.gql_admit.specs.Known.{known_by};
 
 use gql_base::{Items, Name, Pairs, Value, Variables};
 use gql_doc::{Directive, DocValue, Positioned, VariableDefinition};
+use gql_fields::{is_condition, is_include_directive, is_skip_directive};
 use gql_request::Defined;
 
 /// What the variables of an operation stand for.
@@ -123,25 +123,6 @@ fn is_true_value(value: &Value) -> bool
         Value::Boolean(truth) => *truth,
         _ => false,
     }
-}
-
-fn is_skip_directive(directive: &Directive) -> bool
-    ensures { result ≡ is_skip directive.now }
-{
-    directive.name.node.as_str() == "skip"
-}
-
-fn is_include_directive(directive: &Directive) -> bool
-    ensures { result ≡ is_include directive.now }
-{
-    directive.name.node.as_str() == "include"
-}
-
-/// True exactly where the directive is `@skip` or `@include`.
-pub fn is_condition(directive: &Directive) -> bool
-    ensures { result ≡ (is_skip directive.now || is_include directive.now) }
-{
-    is_skip_directive(directive) || is_include_directive(directive)
 }
 
 /// The directives that stay: `@skip` and `@include` go.

@@ -1,6 +1,5 @@
-//! Copies of what admission answers and is given, each equal to its source.
+//! A copy of what is chosen, equal to its source.
 use crate::chosen::Chosen;
-use crate::site::Site;
 use gql_base::{Copied, Made};
 use std::alloc::Global;
 
@@ -11,11 +10,5 @@ impl Copied for Chosen {
             operation: self.operation.try_clone(alloc)?,
             fragments: self.fragments.try_clone(alloc)?,
         })
-    }
-}
-
-impl Copied for Site<'_> {
-    fn try_clone(&self, _alloc: Global) -> Made<Self> {
-        Ok(*self)
     }
 }

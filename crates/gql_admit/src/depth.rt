@@ -8,7 +8,8 @@ ghost use Rattle.gql_doc.specs.declared.document.Selection.{out-Selection};
 ghost use Rattle.gql_doc.specs.Depth.{deep_from, fragment_set, operation_set, operations_in};
 ghost use Rattle.gql_doc.specs.Depth.{set_beneath, set_under};
 ghost use Rattle.gql_doc.specs.First.{first_in};
-ghost use Rattle.gql_admit.specs.Limits.{depth_checked, IsWithinDepth};
+ghost use Rattle.gql_rules.specs.Nesting.{IsWithinDepth};
+ghost use Rattle.gql_admit.specs.Limits.{depth_checked};
 ghost use Rattle.gql_admit.specs.Walked.{IsFine};
 
 use crate::beneath::set_beneath_field;

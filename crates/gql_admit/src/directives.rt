@@ -7,7 +7,8 @@ ghost use Rattle.gql_doc.specs.Depth.{deep, deep_from, fragment_set, operation_s
 ghost use Rattle.gql_doc.specs.Depth.{set_under};
 ghost use Rattle.gql_doc.specs.First.{first_in};
 ghost use Rattle.gql_select.specs.Crowded.{crowded, crowded_from, crowded_here};
-ghost use Rattle.gql_admit.specs.Limits.{directives_checked, IsWithinDepth, NestsWithin};
+ghost use Rattle.gql_rules.specs.Nesting.{IsWithinDepth, NestsWithin};
+ghost use Rattle.gql_admit.specs.Limits.{directives_checked};
 ghost use Rattle.gql_admit.specs.Walked.{IsClean};
 
 use crate::beneath::set_beneath_field;

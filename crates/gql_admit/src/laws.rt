@@ -1,7 +1,7 @@
 //! Laws of what contracts say, as contracts of functions without parameters.
 ghost use Rattle.std.specs.Prelude.{◌≡◌};
+ghost use Rattle.gql_fields.specs.Terms.{Terms};
 ghost use Rattle.gql_admit.specs.Prepared.{IsPrepared, Prepared};
-ghost use Rattle.gql_admit.specs.Terms.{Terms};
 ghost use Rattle.gql_request.specs.declared.request.Request.{Request as OneRequest};
 
 /// A request has one preparation, whatever site it is admitted at.

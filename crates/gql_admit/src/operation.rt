@@ -2,16 +2,17 @@
 ghost use Rattle.std.specs.Prelude.{◌≡◌, ◌<◌, length, slice_get, IfOk, None, Some};
 ghost use Rattle.std.specs.Option.{option_copied};
 ghost use Rattle.gql_base.specs.Pairs.{values_of};
-ghost use Rattle.gql_admit.specs.Choice.{choice, choice_of, chosen, kind_of};
+ghost use Rattle.gql_rules.specs.ChosenOperation.{chosen};
+ghost use Rattle.gql_admit.specs.Choice.{choice, choice_of, kind_of};
 
 use crate::chosen::Chosen;
-use crate::definitions::chosen_in;
 use crate::refusals::choice_error;
 use gql_base::{Made, Pairs, ServerError, Text};
 use gql_doc::{
     DocumentOperations, ExecutableDocument, FragmentDefinition, OperationDefinition, OperationType,
     Positioned,
 };
+use gql_rules::chosen_in;
 use std::alloc::Global;
 
 /// The operation of the name, or without a name the only one. Nothing of it is copied.

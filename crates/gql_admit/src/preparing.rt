@@ -7,15 +7,15 @@ ghost use Rattle.gql_request.specs.Defined.{definition_places};
 ghost use Rattle.gql_request.specs.Request.{GivesParsed, set_document};
 ghost use Rattle.gql_select.specs.Constants.{variable_value};
 ghost use Rattle.gql_select.specs.Kept.{kept_fragment, kept_fragments};
+ghost use Rattle.gql_fields.specs.Terms.{terms_of};
+ghost use Rattle.gql_rules.specs.Nesting.{IsWithinDepth};
 ghost use Rattle.gql_admit.specs.Known.{known_by};
 ghost use Rattle.gql_admit.specs.Left.{left_set};
-ghost use Rattle.gql_admit.specs.Limits.{IsWithinDepth};
 ghost use Rattle.gql_admit.specs.Prepared.{Admits, IsLimited, IsLooked, IsPrepared, IsSettled};
 ghost use Rattle.gql_admit.specs.Prepared.{directives_limited};
 ghost use Rattle.gql_admit.specs.Prepared.{fault_error as error_of_fault, kept_operation};
 ghost use Rattle.gql_admit.specs.Prepared.{limits_checked};
 ghost use Rattle.gql_admit.specs.Choice.{choice};
-ghost use Rattle.gql_admit.specs.Terms.{terms_of};
 
 use crate::chosen::Chosen;
 use crate::conditions::Known;
@@ -23,15 +23,14 @@ use crate::depth::check_depth;
 use crate::directives::check_directives;
 use crate::keeping::keep_known;
 use crate::operation::choose_operation;
-use crate::refusals::refuse;
-use crate::rules::check_rules;
-use crate::site::Site;
 use gql_base::{Copied, Items, Made, Pairs, ServerError, Variables};
 use gql_doc::{
     ExecutableDocument, FragmentDefinition, OperationDefinition, ParseFault, Positioned,
     SelectionSet, VariableDefinition, parse_query,
 };
+use gql_fields::Site;
 use gql_request::{QueryEnv, Request, definition_places};
+use gql_rules::{check_rules, refuse};
 use std::alloc::Global;
 
 /// What an execution knows of a request, or the errors of the first stage that the request breaks:

@@ -2,11 +2,12 @@
 ghost use Rattle.std.specs.Prelude.{◌≡◌, IfOk, string_bytes, None, Some};
 ghost use Rattle.std.specs.Option.{option_copied};
 ghost use Rattle.gql_admit.specs.Refusal.{depth_error as error_of_depth};
-ghost use Rattle.gql_admit.specs.Refusal.{directives_error as error_of_directives, refusal};
+ghost use Rattle.gql_admit.specs.Refusal.{directives_error as error_of_directives};
 ghost use Rattle.gql_admit.specs.Refusal.{depth_text, directives_text, no_operation_error};
 ghost use Rattle.gql_admit.specs.Refusal.{unknown_operation_text};
 
 use gql_base::{Made, Pos, ServerError};
+use gql_rules::refuse;
 use std::alloc::Global;
 
 /// The error of a set that lies too deep.
@@ -59,12 +60,4 @@ fn unknown_operation_message(alloc: Global, name: &str) -> Made<String>
     ensures { IfOk result (λ text. string_bytes text ≡ unknown_operation_text name.now) }
 {
     format!(in alloc; "Unknown operation named \"{name}\"")
-}
-
-/// An error with this message, and with one place or none.
-#[tactic(auto, using(crate::proofs::RefusalLemmas::refusal_of))]
-pub fn refuse(alloc: Global, message: &str, place: Option<Pos>) -> Made<ServerError>
-    ensures { IfOk result (λ error. error ≡ refusal message.now place) }
-{
-    ServerError::new(alloc, message, place)
 }

@@ -7,8 +7,8 @@ use Rattle.gql_base.proofs.text.Text.TheSendSync as text
 use Rattle.gql_doc.proofs.SendLemmas.{operation_send, operation_sync, fragment_send, fragment_sync}
 use Rattle.gql_doc.proofs.document.Positioned.TheSendSync as positioned
 use Rattle.gql_schema.proofs.SendLemmas.{types_sync}
+use Rattle.gql_fields.specs.contracts.site.Site as site
 use Rattle.gql_admit.specs.contracts.chosen.Chosen as chosen
-use Rattle.gql_admit.specs.contracts.site.Site as site
 use Rattle.gql_conflicts.specs.contracts.rooted_types.RootedTypes as rooted
 
 pub chosen_send : IsSend chosen.the_row

@@ -2,7 +2,7 @@
 //! `@skip` and `@include` leave of it, and its preparation as a whole. Texts that are refused stand
 //! among the stored runs of `gql_cases`; here is one of each kind.
 ghost use Rattle.std.specs.Prelude.{◌≡◌};
-ghost use Rattle.gql_admit.specs.Limits.{IsWithinDepth};
+ghost use Rattle.gql_rules.specs.Nesting.{IsWithinDepth};
 
 use crate::sample::{document_of, types, variables};
 use crate::summary::set_summary;

@@ -1,5 +1,5 @@
-//! Tests of documents and of their admission, which are `gql_doc`, `gql_collect`, `gql_conflicts` and
-//! `gql_admit`: what no run of the program shows, and each public call with ample memory. What a
+//! Tests of documents and of their admission, which are `gql_doc`, `gql_collect`, `gql_conflicts`,
+//! `gql_rules` and `gql_admit`: what no run of the program shows, and each public call with ample memory. What a
 //! refused request is told stands among the stored runs of `gql_cases`.
 #![tactic(auto)]
 

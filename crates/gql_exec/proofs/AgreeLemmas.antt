@@ -21,18 +21,19 @@ use Rattle.gql_doc.specs.declared.document.OperationType.TheVariants as kinds
 use Rattle.gql_doc.specs.declared.document.Positioned.{Positioned}
 use Rattle.gql_doc.specs.declared.document.Selection.{Selection}
 use Rattle.gql_doc.specs.declared.fault.ParseFault.{ParseFault}
-use Rattle.gql_admit.proofs.BreachLemmas.{first_in, none_in}
-use Rattle.gql_admit.proofs.KeepLemmas.{set_items}
-use Rattle.gql_admit.specs.Asked.{Asked}
-use Rattle.gql_admit.specs.Choice.{choice, choice_of, chosen, named, only, Operation, with_fragments}
-use Rattle.gql_admit.specs.Conflicting.{conflict_breach, rooted_in}
+use Rattle.gql_fields.specs.Terms.{Terms}
+use Rattle.gql_fields.specs.declared.breach.Breach.{Breach}
+use Rattle.gql_rules.specs.Asked.{Asked}
+use Rattle.gql_rules.specs.ChosenOperation.{chosen, named, only, Operation}
+use Rattle.gql_rules.specs.FieldMerging.{conflict_breach, rooted_in}
+use Rattle.gql_rules.specs.RulesChecked.{conflicting, IsChecked, refused_with}
+use Rattle.gql_rules.proofs.BreachLemmas.{first_in, none_in}
+use Rattle.gql_admit.specs.Choice.{choice, choice_of, with_fragments}
 use Rattle.gql_admit.specs.Limits.{refused_by}
 use Rattle.gql_admit.specs.Prepared.{asked_by, both_pass, directives_limited, IsLimited, IsPrepared, IsRead, IsRuled, IsSettled, known_of, kept_operation, limits_checked, Prepared}
 use Rattle.gql_admit.specs.Refusal.{depth_error}
-use Rattle.gql_admit.specs.RulesChecked.{conflicting, IsChecked, refused_with}
-use Rattle.gql_admit.specs.Terms.{Terms}
-use Rattle.gql_admit.specs.declared.breach.Breach.{Breach}
 use Rattle.gql_admit.specs.declared.chosen.Chosen.{Chosen}
+use Rattle.gql_admit.proofs.KeepLemmas.{set_items}
 use Rattle.gql_conflicts.specs.DocumentConflicts.{conflicts_at, document_conflicts, IsConflict, operation_conflicts, told}
 use Rattle.gql_conflicts.specs.Rooted.{object_named as root_named, objects_beneath, objects_of as objects_at, Rooted, root_of, setting_of as setting_at}
 use Rattle.gql_conflicts.specs.declared.conflict.Conflict.{Conflict}

@@ -2,8 +2,8 @@
 use Rattle.std.proofs.Common.{◌≡◌, None, ap, sym, ◌∙◌}
 use Rattle.std.proofs.Props.{props}
 use mathlib.Core.HLevel.{is_prop→PathP}
-use Rattle.gql_admit.proofs.PreparedLemmas.{one_prepared}
 use Rattle.gql_admit.specs.Prepared.{Prepared}
+use Rattle.gql_admit.proofs.PreparedLemmas.{one_prepared}
 use Rattle.gql_doc.specs.Depth.{deep_from}
 use Rattle.gql_exec.specs.Admission.{terms_for}
 use Rattle.gql_exec.specs.Ready.{IsMadeReady, prepared_under}

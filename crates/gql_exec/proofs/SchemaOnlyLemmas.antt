@@ -6,9 +6,9 @@ use Rattle.gql_doc.specs.declared.document.ExecutableDocument.{ExecutableDocumen
 use Rattle.gql_doc.specs.declared.document.Field.{Field}
 use Rattle.gql_doc.specs.declared.document.Positioned.{Positioned}
 use Rattle.gql_doc.specs.declared.fault.ParseFault.{ParseFault}
+use Rattle.gql_fields.specs.Terms.{Terms}
 use Rattle.gql_admit.specs.Choice.{choice}
 use Rattle.gql_admit.specs.Prepared.{IsLimited, IsPrepared, IsRead, IsRuled, IsSettled, Prepared, limits_checked}
-use Rattle.gql_admit.specs.Terms.{Terms}
 use Rattle.gql_admit.specs.declared.chosen.Chosen.{Chosen}
 use Rattle.gql_tasks.proofs.RecordLemmas.{with_more_none}
 use Rattle.gql_tasks.specs.Arena.{Work}

@@ -1,6 +1,6 @@
 -- By what a schema admits requests.
 use Rattle.std.specs.Option.{is_some}
-use Rattle.gql_admit.specs.Terms.{Terms}
+use Rattle.gql_fields.specs.Terms.{Terms}
 use Rattle.gql_exec.specs.Schema.{settings_of, types_in}
 use Rattle.gql_settings.specs.Settings.{entities_for}
 use Rattle.gql_exec.specs.declared.schema.Schema.{Schema}

@@ -1,8 +1,8 @@
 -- The execution of a request over a schema (GraphQL, October 2021, section 6): its response, and
 -- what the resolver set and the turns have seen of it.
 use Rattle.std.specs.Prelude.{◌≡◌, ◌⊎◌, ℕ, Bool, true, false, List, [], ◌∷◌, None, Result, Ok, Err}
+use Rattle.gql_rules.specs.Refusal.{refusal}
 use Rattle.gql_admit.specs.Prepared.{Prepared}
-use Rattle.gql_admit.specs.Refusal.{refusal}
 use Rattle.gql_base.specs.declared.server_error.ServerError.{ServerError}
 use Rattle.gql_base.specs.declared.value.Value.TheVariants as value
 use Rattle.gql_tasks.specs.Parts.{due_by}

@@ -1,7 +1,7 @@
 //! What is made of a request before its execution.
 ghost use Rattle.std.specs.Prelude.{◌≡◌, ◌<◌, IfOk};
 ghost use Rattle.std.below.core.specs.declared.int.usize.TheConstants.{MAX};
-ghost use Rattle.gql_admit.specs.Terms.{terms_of};
+ghost use Rattle.gql_fields.specs.Terms.{terms_of};
 ghost use Rattle.gql_exec.specs.Admission.{terms_for};
 ghost use Rattle.gql_exec.specs.Ready.{GivesReady, IsMadeReady};
 

@@ -5,7 +5,8 @@ use Rattle.gql_doc.specs.declared.document.Selection.{Selection}
 use Rattle.gql_doc.specs.Depth.{deep_from, set_beneath}
 use Rattle.gql_admit.proofs.DepthLemmas.{fine_known, fine_put, fragment_found}
 use Rattle.gql_lists.proofs.FirstLemmas.{first_here, first_more}
-use Rattle.gql_admit.proofs.WalkLemmas.{spread_found, value_at}
+use Rattle.gql_fields.proofs.PairLemmas.{value_at}
+use Rattle.gql_admit.proofs.WalkLemmas.{spread_found}
 use Rattle.gql_admit.proofs.depth.+deep.Goals as goal
 
 pub deep_fragment-returns-then-suffices-clause-found :

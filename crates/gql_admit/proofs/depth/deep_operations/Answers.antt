@@ -3,7 +3,7 @@ use Rattle.gql_doc.specs.declared.document.Positioned.{Positioned}
 use Rattle.gql_base.specs.Pairs.{values_of}
 use Rattle.gql_doc.specs.Depth.{deep_from, operation_set}
 use Rattle.gql_lists.proofs.FirstLemmas.{first_here, first_more}
-use Rattle.gql_admit.proofs.WalkLemmas.{value_at}
+use Rattle.gql_fields.proofs.PairLemmas.{value_at}
 use Rattle.gql_admit.proofs.depth.deep_operations.Goals as goal
 
 pub returns-then-is_some : goal.returns-then-is_some

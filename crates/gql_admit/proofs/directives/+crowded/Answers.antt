@@ -7,7 +7,8 @@ use Rattle.gql_doc.specs.Depth.{deep_from, set_beneath}
 use Rattle.gql_select.specs.Crowded.{crowded_from, crowded_here}
 use Rattle.gql_admit.proofs.CrowdedLemmas.{clean_put, fragment_nests}
 use Rattle.gql_lists.proofs.FirstLemmas.{first_here, first_more, none_at, there_copied}
-use Rattle.gql_admit.proofs.WalkLemmas.{spread_found, spread_none, value_at}
+use Rattle.gql_fields.proofs.PairLemmas.{value_at}
+use Rattle.gql_admit.proofs.WalkLemmas.{spread_found, spread_none}
 use Rattle.gql_admit.proofs.directives.+crowded.Goals as goal
 
 pub crowded_fragment-returns-in-None-clause-clean :

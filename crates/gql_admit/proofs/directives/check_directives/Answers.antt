@@ -1,5 +1,5 @@
 use Rattle.std.proofs.Common.{arith}
-use Rattle.gql_admit.proofs.CrowdedLemmas.{nests_within}
+use Rattle.gql_rules.proofs.NestingLemmas.{nests_within}
 use Rattle.gql_admit.proofs.directives.check_directives.Goals as goal
 
 pub check_nested-requires : goal.check_nested-requires

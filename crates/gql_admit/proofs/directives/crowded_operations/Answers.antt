@@ -5,7 +5,7 @@ use Rattle.gql_doc.specs.declared.document.Positioned.{Positioned}
 use Rattle.gql_doc.specs.Depth.{deep_from, operation_set}
 use Rattle.gql_select.specs.Crowded.{crowded_from}
 use Rattle.gql_lists.proofs.FirstLemmas.{first_here, first_more, none_at, there_copied}
-use Rattle.gql_admit.proofs.WalkLemmas.{value_at}
+use Rattle.gql_fields.proofs.PairLemmas.{value_at}
 use Rattle.gql_admit.proofs.directives.crowded_operations.Goals as goal
 
 pub crowded_set-found-requires-clause-nests : goal.crowded_set-found-requires-clause-nests

@@ -1,6 +1,0 @@
-use Rattle.std.proofs.Common.{◌≡◌, true, take}
-use Rattle.gql_admit.specs.UsePlaces.{are_constant}
-use Rattle.gql_admit.proofs.constants.are_constant.Given as goal
-
-abbrev pub invariant-loop-argument : goal.invariant-loop-argument
-invariant-loop-argument l = are_constant (take l.argument-index l.arguments) ≡ true

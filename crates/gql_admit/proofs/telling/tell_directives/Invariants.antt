@@ -1,8 +1,0 @@
-use Rattle.std.proofs.Common.{◌≡◌, ◌++◌, take}
-use Rattle.gql_admit.specs.Places.{directive_places}
-use Rattle.gql_admit.specs.Walking.{tells}
-use Rattle.gql_admit.proofs.telling.tell_directives.Given as goal
-
-abbrev pub invariant-loop-directive : goal.invariant-loop-directive
-invariant-loop-directive l =
-    l.found ≡ l.initial.found ++ tells l.against (directive_places l.selects (take l.directive-index l.directives))

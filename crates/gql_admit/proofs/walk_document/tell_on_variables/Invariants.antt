@@ -1,8 +1,0 @@
-use Rattle.std.proofs.Common.{◌≡◌, ◌++◌, take}
-use Rattle.gql_admit.specs.Places.{variable_places}
-use Rattle.gql_admit.specs.Walking.{tells}
-use Rattle.gql_admit.proofs.walk_document.tell_on_variables.Given as goal
-
-abbrev pub invariant-loop-variable : goal.invariant-loop-variable
-invariant-loop-variable l =
-    l.found ≡ l.initial.found ++ tells l.against (variable_places (take l.variable-index l.variables))

@@ -1,0 +1,5 @@
+pub mod AlongLemmas
+pub mod ArgumentLemmas
+pub mod LiteralLemmas
+pub mod PairLemmas
+pub mod ToldLemmas

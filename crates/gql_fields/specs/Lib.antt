@@ -1,0 +1,13 @@
+pub mod ArgumentViews
+pub mod Arguments
+pub mod Breach
+pub mod BreachTexts
+pub mod Breaches
+pub mod BuiltIn
+pub mod FieldTypeViews
+pub mod FieldTypes
+pub mod GivenNames
+pub mod Literals
+pub mod Places
+pub mod Terms
+pub mod Walking

@@ -1,0 +1,17 @@
+pub mod AddingLemmas
+pub mod BreachLemmas
+pub mod ChosenLemmas
+pub mod ConstantLemmas
+pub mod CycleLemmas
+pub mod DefinitionLemmas
+pub mod ListedLemmas
+pub mod MarkLemmas
+pub mod MergingLemmas
+pub mod NestingLemmas
+pub mod OrderLemmas
+pub mod RankLemmas
+pub mod ReachLemmas
+pub mod RefusalLemmas
+pub mod SpreadLemmas
+pub mod UseLemmas
+pub mod UsePlaceLemmas

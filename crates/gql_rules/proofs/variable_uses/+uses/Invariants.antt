@@ -1,0 +1,23 @@
+use Rattle.std.proofs.Common.{◌≡◌, ◌++◌, take}
+use Rattle.std.specs.List.{flat_map}
+use Rattle.std.specs.Option.{option_map}
+use Rattle.gql_schema.specs.Table.{types_of}
+use Rattle.gql_rules.specs.PlaceViews.{value_place_behind}
+use Rattle.gql_rules.specs.VariableUses.{member_place, told_in_value}
+use Rattle.gql_rules.proofs.variable_uses.+uses.Given as goal
+
+abbrev pub invariant-tell_in_items-loop-value : goal.invariant-tell_in_items-loop-value
+invariant-tell_in_items-loop-value l =
+    l.found
+    ≡ l.initial.found
+    ++ flat_map (λ value. told_in_value (types_of l.types) l.defined l.argument value (option_map value_place_behind l.place))
+    (take l.value-index l.items)
+
+abbrev pub invariant-tell_in_members-loop-at : goal.invariant-tell_in_members-loop-at
+invariant-tell_in_members-loop-at l =
+    l.found
+    ≡ l.initial.found
+    ++ flat_map
+    (λ member. told_in_value (types_of l.types) l.defined l.argument member.1
+    (member_place (types_of l.types) member.0 (option_map value_place_behind l.place)))
+    (take l.at l.members)

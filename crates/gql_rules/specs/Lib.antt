@@ -1,0 +1,17 @@
+pub mod Adding
+pub mod Asked
+pub mod BreachOrder
+pub mod BreachTexts
+pub mod ChosenOperation
+pub mod FieldMerging
+pub mod FragmentCycles
+pub mod FragmentSpreads
+pub mod Nesting
+pub mod PlaceViews
+pub mod ReachedUses
+pub mod Reaching
+pub mod Refusal
+pub mod RulesChecked
+pub mod UsePlaces
+pub mod VariableDefinitions
+pub mod VariableUses

@@ -1,0 +1,205 @@
+//! The uses of variables at the places that an operation reaches.
+ghost use Rattle.std.specs.Prelude.{◌≡◌, ◌++◌, ◌∷◌, [], IfOk, OnOk, length, map};
+ghost use Rattle.std.specs.List.{flat_map};
+ghost use Rattle.gql_base.specs.Pairs.{names_of, values_of};
+ghost use Rattle.gql_doc.specs.Depth.{operations_in};
+ghost use Rattle.gql_fields.specs.BuiltIn.{built_in as the_built_in};
+ghost use Rattle.gql_fields.specs.Walking.{terms_in};
+ghost use Rattle.gql_rules.specs.Adding.{Adds};
+ghost use Rattle.gql_rules.specs.Reaching.{AreBelow};
+ghost use Rattle.gql_rules.specs.PlaceViews.{IsSpread, place_behind, shown};
+ghost use Rattle.gql_rules.specs.ReachedUses.{WrongUseIn, WrongUseOf, spread_at, spreads_at};
+ghost use Rattle.gql_rules.specs.ReachedUses.{uses_told_in};
+
+use crate::listing::{places_of_fragments, places_of_operation};
+use crate::reaching::reached_from;
+use crate::spread::Spread;
+use crate::use_place::UsePlace;
+use crate::variable_uses::tell_uses;
+use gql_base::{Items, Made, Pairs};
+use gql_doc::{DocumentOperations, FragmentDefinition, OperationDefinition, Positioned};
+use gql_fields::{Against, Breach};
+use gql_request::{Defined, definition_places};
+use std::alloc::Global;
+
+/// Tells of the variables that are used wrongly at a place that an operation reaches.
+pub fn tell_wrong_uses(
+    alloc: Global,
+    operations: &DocumentOperations,
+    against: &Against<'_>,
+    found: &mut Items<Breach>,
+) -> Made<()>
+    requires built { against.now.built.now ≡ the_built_in }
+    ensures { OnOk result (Adds (WrongUseIn (terms_in against.now) against.now.fragments.now
+        (operations_in operations.now)) found.old found.new) }
+{
+    let places = places_of_fragments(alloc, against.fragments, against.site)?;
+    let lists = places.as_slice();
+    let graph = graph_of(alloc, lists, against.fragments)?;
+    let spread = Spread {
+        places: lists,
+        graph: graph.as_slice(),
+    };
+    tell_each(alloc, operations, &spread, against, found)
+}
+
+fn tell_each(
+    alloc: Global,
+    operations: &DocumentOperations,
+    spread: &Spread<'_>,
+    against: &Against<'_>,
+    found: &mut Items<Breach>,
+) -> Made<()>
+    requires built { against.now.built.now ≡ the_built_in }
+    requires spread { IsSpread (terms_in against.now) against.now.fragments.now spread.now }
+    ensures { OnOk result (Adds (WrongUseIn (terms_in against.now) against.now.fragments.now
+        (operations_in operations.now)) found.old found.new) }
+{
+    match operations {
+        DocumentOperations::Single(operation) => {
+            tell_only(alloc, operation, spread, against, found)
+        }
+        DocumentOperations::Multiple(operations) => {
+            tell_operations(alloc, operations, spread, against, found)
+        }
+    }
+}
+
+/// Tells of the only operation.
+fn tell_only(
+    alloc: Global,
+    operation: &Positioned<OperationDefinition>,
+    spread: &Spread<'_>,
+    against: &Against<'_>,
+    found: &mut Items<Breach>,
+) -> Made<()>
+    requires built { against.now.built.now ≡ the_built_in }
+    requires spread { IsSpread (terms_in against.now) against.now.fragments.now spread.now }
+    ensures { OnOk result (Adds (WrongUseIn (terms_in against.now) against.now.fragments.now
+        (operation.now ∷ [])) found.old found.new) }
+{
+    tell_operation(alloc, operation, spread, against, found)
+}
+
+fn tell_operations(
+    alloc: Global,
+    operations: &Pairs<Positioned<OperationDefinition>>,
+    spread: &Spread<'_>,
+    against: &Against<'_>,
+    found: &mut Items<Breach>,
+) -> Made<()>
+    requires built { against.now.built.now ≡ the_built_in }
+    requires spread { IsSpread (terms_in against.now) against.now.fragments.now spread.now }
+    ensures { OnOk result (Adds (WrongUseIn (terms_in against.now) against.now.fragments.now
+        (values_of operations.now)) found.old found.new) }
+{
+    for at in 0..operations.len() {
+        let (_, operation) = operations.at(at);
+        tell_operation(alloc, operation, spread, against, found)?;
+    }
+    Ok(())
+}
+
+/// Tells of the uses at the places that an operation reaches.
+fn tell_operation(
+    alloc: Global,
+    operation: &Positioned<OperationDefinition>,
+    spread: &Spread<'_>,
+    against: &Against<'_>,
+    found: &mut Items<Breach>,
+) -> Made<()>
+    requires built { against.now.built.now ≡ the_built_in }
+    requires spread { IsSpread (terms_in against.now) against.now.fragments.now spread.now }
+    ensures { OnOk result (Adds (WrongUseOf (terms_in against.now) against.now.fragments.now
+        operation.now) found.old found.new) }
+{
+    let definitions = operation.node.variable_definitions.as_slice();
+    let index = definition_places(alloc, definitions)?;
+    let defined = Defined::new(definitions, &index);
+    let places = places_of_operation(alloc, operation, against.site)?;
+    let own = places.as_slice();
+    tell_uses(alloc, own, &defined, against.site, against.built, found)?;
+    let starts = spreads_in(alloc, own, against.fragments)?;
+    let reached = reached_from(alloc, spread.graph, starts.as_slice())?;
+    tell_reached(
+        alloc,
+        reached.as_slice(),
+        &defined,
+        spread.places,
+        against,
+        found,
+    )
+}
+
+/// Tells of the uses in the fragments that are reached.
+fn tell_reached(
+    alloc: Global,
+    reached: &[usize],
+    defined: &Defined<'_>,
+    places: &[Items<UsePlace<'_>>],
+    against: &Against<'_>,
+    found: &mut Items<Breach>,
+) -> Made<()>
+    requires { AreBelow (length places.now) reached.now }
+    ensures { OnOk result (found.new ≡ found.old
+        ++ flat_map (uses_told_in against.now.built.now (terms_in against.now)
+        defined.now (map shown places.now)) reached.now) }
+{
+    for at in reached {
+        let places = places[*at].as_slice();
+        tell_uses(alloc, places, defined, against.site, against.built, found)?;
+    }
+    Ok(())
+}
+
+/// For the places of each fragment, which fragments are spread there.
+fn graph_of(
+    alloc: Global,
+    lists: &[Items<UsePlace<'_>>],
+    fragments: &Pairs<Positioned<FragmentDefinition>>,
+) -> Made<Items<Items<usize>>>
+    ensures { IfOk result (λ graph. graph
+        ≡ map (λ places. spreads_at (names_of fragments.now) (shown places)) lists.now) }
+{
+    let mut graph = Items::with_capacity(alloc, lists.len())?;
+    for places in lists {
+        graph.push(spreads_in(alloc, places.as_slice(), fragments)?)?;
+    }
+    Ok(graph)
+}
+
+/// The known fragments that are spread at some places.
+fn spreads_in(
+    alloc: Global,
+    places: &[UsePlace<'_>],
+    fragments: &Pairs<Positioned<FragmentDefinition>>,
+) -> Made<Items<usize>>
+    ensures { IfOk result
+        (λ spreads. spreads ≡ spreads_at (names_of fragments.now) (shown places.now)) }
+{
+    let mut spreads = Items::new(alloc);
+    for place in places {
+        add_spread(place, fragments, &mut spreads)?;
+    }
+    Ok(spreads)
+}
+
+fn add_spread(
+    place: &UsePlace<'_>,
+    fragments: &Pairs<Positioned<FragmentDefinition>>,
+    spreads: &mut Items<usize>,
+) -> Made<()>
+    ensures { OnOk result (spreads.new
+        ≡ spreads.old ++ spread_at (names_of fragments.now) (place_behind place.now)) }
+{
+    match place {
+        UsePlace::Spread(spread) => {
+            match fragments.place_of(spread.node.fragment_name.node.as_str()) {
+                Some(at) => spreads.push(at),
+                None => Ok(()),
+            }
+        }
+        UsePlace::Field(_, _) => Ok(()),
+        UsePlace::Directive(_) => Ok(()),
+    }
+}
