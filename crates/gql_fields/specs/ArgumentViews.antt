@@ -1,5 +1,7 @@
 -- What has arguments, and where.
+use Rattle.gql_schema.specs.TableReading.{TypeTable}
 use Rattle.gql_fields.specs.Arguments.{Bearing, DirectiveOf, FieldOf, Owner}
+use Rattle.gql_fields.specs.Walking.{terms_in}
 use Rattle.gql_fields.specs.declared.arguments.Bearing as bearing
 use Rattle.gql_fields.specs.declared.arguments.Owner as owner
 use Rattle.gql_fields.specs.declared.arguments.Owner.TheVariants as owners
@@ -14,3 +16,7 @@ bearing_behind bearing = record {
   pos = bearing.pos;
   declared = bearing.declared.now;
 }
+
+-- the types that the arguments are checked over
+abbrev pub table_behind : bearing.Bearing → TypeTable
+table_behind bearing = (terms_in bearing.against.now).table

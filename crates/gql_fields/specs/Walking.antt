@@ -12,7 +12,7 @@ use Rattle.gql_fields.specs.Places.{FieldPlace, OnSpread, Place, directive_place
 use Rattle.gql_fields.specs.Places.{set_places}
 use Rattle.gql_fields.specs.Terms.{Terms, terms_of}
 use Rattle.gql_fields.specs.declared.breach.Breach.{Breach}
-use Rattle.gql_fields.specs.declared.walk.Against.{Against}
+use Rattle.gql_fields.specs.declared.against.Against.{Against}
 
 -- the terms that a walk goes by
 abbrev pub terms_in : Against → Terms

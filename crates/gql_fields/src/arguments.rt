@@ -1,10 +1,10 @@
 //! The arguments of fields and directives.
 ghost use Rattle.std.specs.Prelude.{◌≡◌, ◌++◌, [], ◌∷◌, ℕ, List, map, IfOk, OnOk};
 ghost use Rattle.std.specs.List.{flat_map};
-ghost use Rattle.std.specs.Option.{option_copied};
+ghost use Rattle.gql_base.specs.Pairs.{under};
 ghost use Rattle.gql_schema.specs.NameSet.{is_among, with_name};
-ghost use Rattle.gql_schema.specs.Table.{types_of};
-ghost use Rattle.gql_fields.specs.ArgumentViews.{bearing_behind, owner_behind};
+ghost use Rattle.gql_fields.specs.Walking.{terms_in};
+ghost use Rattle.gql_fields.specs.ArgumentViews.{bearing_behind, owner_behind, table_behind};
 ghost use Rattle.gql_fields.specs.Arguments.{argument_name, is_optional, misfit as misfit_of};
 ghost use Rattle.gql_fields.specs.Arguments.{told_of_argument, told_of_arguments};
 ghost use Rattle.gql_fields.specs.Arguments.{told_of_declared, told_of_doubled, told_of_given};
@@ -13,6 +13,7 @@ ghost use Rattle.gql_fields.specs.Arguments.{unknown_argument as unknown_argumen
 ghost use Rattle.gql_fields.specs.Literals.{reason_text};
 ghost use Rattle.gql_fields.specs.GivenNames.{AreNames};
 
+use crate::against::Against;
 use crate::argument_texts::{
     doubled_argument, expected_type, invalid_value, missing_argument, unknown_argument,
 };
@@ -20,7 +21,7 @@ use crate::breach::Breach;
 use crate::literals::{is_other_than_one, literal_fits, wants_one};
 use gql_base::{Copied, Items, Made, Pos, Text, TypeRef};
 use gql_doc::{Argument, DocValue};
-use gql_schema::{ByName, InputValue, NameSet, Types};
+use gql_schema::{ByName, InputValue, NameSet};
 use std::alloc::Global;
 
 /// What has arguments: a field, by its name and that of the type that it stands on, or a directive.
@@ -30,65 +31,61 @@ pub enum Owner<'a> {
     Directive(&'a str),
 }
 
-/// A place with arguments: what has them, where it stands, and which it declares.
+/// A place with arguments: what has them, where it stands, which it declares, and what they are
+/// checked against.
 #[derive(Clone, Copy)]
 pub struct Bearing<'a> {
     pub owner: Owner<'a>,
     pub pos: Pos,
     pub declared: &'a ByName<InputValue>,
+    pub against: &'a Against<'a>,
 }
 
 /// Tells of the arguments that are given, and of those that are wanting.
 pub fn tell_arguments(
-    alloc: Global,
     bearing: &Bearing<'_>,
     arguments: &[Argument],
-    types: &Types,
     found: &mut Items<Breach>,
 ) -> Made<()>
     ensures { OnOk result (found.new ≡ found.old
-        ++ told_of_arguments (types_of types.now) (bearing_behind bearing.now) arguments.now) }
+        ++ told_of_arguments (table_behind bearing.now) (bearing_behind bearing.now)
+        arguments.now) }
 {
-    let mut given = NameSet::new(alloc);
-    tell_given(alloc, bearing, arguments, types, &mut given, found)?;
-    tell_missing(alloc, bearing, &given, found)
+    let mut given = NameSet::new(bearing.against.alloc);
+    tell_given(bearing, arguments, &mut given, found)?;
+    tell_missing(bearing, &given, found)
 }
 
 fn tell_given(
-    alloc: Global,
     bearing: &Bearing<'_>,
     arguments: &[Argument],
-    types: &Types,
     given: &mut NameSet,
     found: &mut Items<Breach>,
 ) -> Made<()>
     requires { given.old ≡ [] }
     ensures found { OnOk result (found.new ≡ found.old
-        ++ told_of_given (types_of types.now) (bearing_behind bearing.now) arguments.now) }
+        ++ told_of_given (table_behind bearing.now) (bearing_behind bearing.now) arguments.now) }
     ensures given { OnOk result (AreNames (map argument_name arguments.now) given.new) }
 {
     for argument in arguments {
-        tell_argument(alloc, bearing, argument, types, given, found)?;
+        tell_argument(bearing, argument, given, found)?;
     }
     Ok(())
 }
 
 fn tell_argument(
-    alloc: Global,
     bearing: &Bearing<'_>,
     argument: &Argument,
-    types: &Types,
     given: &mut NameSet,
     found: &mut Items<Breach>,
 ) -> Made<()>
     ensures found { OnOk result (found.new ≡ found.old
-        ++ told_of_argument (types_of types.now) (bearing_behind bearing.now) given.old
+        ++ told_of_argument (table_behind bearing.now) (bearing_behind bearing.now) given.old
         argument.now) }
     ensures given { OnOk result (given.new ≡ with_name given.old (argument_name argument.now)) }
 {
-    tell_doubled(alloc, argument, given, found)?;
-    let declared = bearing.declared.get(argument.name.node.as_str());
-    tell_declared(alloc, &bearing.owner, argument, declared, types, found)
+    tell_doubled(bearing.against.alloc, argument, given, found)?;
+    tell_declared(bearing, argument, found)
 }
 
 /// Tells of an argument whose name is given before, and takes its name among those that are given.
@@ -110,50 +107,45 @@ fn tell_doubled(
 }
 
 /// Tells of an argument that isn't declared, or whose literal doesn't fit.
-fn tell_declared(
-    alloc: Global,
-    owner: &Owner<'_>,
-    argument: &Argument,
-    declared: Option<&InputValue>,
-    types: &Types,
-    found: &mut Items<Breach>,
-) -> Made<()>
-    ensures { OnOk result (found.new ≡ found.old ++ told_of_declared (types_of types.now)
-        (owner_behind owner.now) argument.now (option_copied declared.entry)) }
+fn tell_declared(bearing: &Bearing<'_>, argument: &Argument, found: &mut Items<Breach>) -> Made<()>
+    ensures { OnOk result (found.new ≡ found.old ++ told_of_declared (table_behind bearing.now)
+        (owner_behind bearing.now.owner) argument.now
+        (under (argument_name argument.now) bearing.now.declared.now)) }
 {
-    match declared {
+    let name = argument.name.node.as_str();
+    match bearing.declared.get(name) {
         None => {
-            let name = argument.name.node.as_str();
-            found.push(unknown_argument(alloc, owner, argument.name.pos, name)?)
+            let alloc = bearing.against.alloc;
+            found.push(unknown_argument(alloc, &bearing.owner, argument.name.pos, name)?)
         }
-        Some(input) => tell_value(alloc, argument, input.ty(), types, found),
+        Some(input) => tell_value(argument, input.ty(), bearing.against, found),
     }
 }
 
 /// Tells of a literal that doesn't fit.
 fn tell_value(
-    alloc: Global,
     argument: &Argument,
     ty: &TypeRef,
-    types: &Types,
+    against: &Against<'_>,
     found: &mut Items<Breach>,
 ) -> Made<()>
     ensures { OnOk result (found.new ≡ found.old
-        ++ told_of_value (types_of types.now) argument.now ty.now) }
+        ++ told_of_value (terms_in against.now).table argument.now ty.now) }
 {
-    if literal_fits(&argument.value.node, ty, types) {
+    if literal_fits(&argument.value.node, ty, against.site.types) {
         Ok(())
     } else {
-        found.push(misfit(alloc, argument, ty, types)?)
+        found.push(misfit(argument, ty, against)?)
     }
 }
 
-fn misfit(alloc: Global, argument: &Argument, ty: &TypeRef, types: &Types) -> Made<Breach>
-    ensures { IfOk result (λ made. made ≡ misfit_of (types_of types.now) argument.now ty.now) }
+fn misfit(argument: &Argument, ty: &TypeRef, against: &Against<'_>) -> Made<Breach>
+    ensures { IfOk result
+        (λ made. made ≡ misfit_of (terms_in against.now).table argument.now ty.now) }
 {
-    let reason = reason(alloc, &argument.value.node, ty, types)?;
+    let reason = reason(&argument.value.node, ty, against)?;
     invalid_value(
-        alloc,
+        against.alloc,
         argument.name.pos,
         argument.name.node.as_str(),
         reason.as_str(),
@@ -161,37 +153,35 @@ fn misfit(alloc: Global, argument: &Argument, ty: &TypeRef, types: &Types) -> Ma
 }
 
 /// Why a value doesn't fit a type.
-fn reason(alloc: Global, value: &DocValue, ty: &TypeRef, types: &Types) -> Made<Text>
-    ensures { IfOk result (λ text. text ≡ reason_text (types_of types.now) ty.now value.now) }
+fn reason(value: &DocValue, ty: &TypeRef, against: &Against<'_>) -> Made<Text>
+    ensures { IfOk result
+        (λ text. text ≡ reason_text (terms_in against.now).table ty.now value.now) }
 {
-    if wants_one(ty, types) && is_other_than_one(value) {
-        Text::new(alloc, "Oneof input objects requires have exactly one field")
+    if wants_one(ty, against.site.types) && is_other_than_one(value) {
+        Text::new(
+            against.alloc,
+            "Oneof input objects requires have exactly one field",
+        )
     } else {
-        let text = ty.text(alloc)?;
-        expected_type(alloc, text.as_str())
+        let text = ty.text(against.alloc)?;
+        expected_type(against.alloc, text.as_str())
     }
 }
 
 /// Tells of each argument that is wanting.
-fn tell_missing(
-    alloc: Global,
-    bearing: &Bearing<'_>,
-    given: &NameSet,
-    found: &mut Items<Breach>,
-) -> Made<()>
+fn tell_missing(bearing: &Bearing<'_>, given: &NameSet, found: &mut Items<Breach>) -> Made<()>
     ensures { OnOk result (found.new ≡ found.old
         ++ flat_map (told_of_missing (bearing_behind bearing.now) given.now)
         bearing.now.declared.now) }
 {
     for place in 0..bearing.declared.len() {
         let (name, input) = bearing.declared.at(place);
-        tell_if_missing(alloc, bearing, name, input, given, found)?;
+        tell_if_missing(bearing, name, input, given, found)?;
     }
     Ok(())
 }
 
 fn tell_if_missing(
-    alloc: Global,
     bearing: &Bearing<'_>,
     name: &str,
     input: &InputValue,
@@ -204,6 +194,7 @@ fn tell_if_missing(
     if may_be_left_out(input) || given.has(name) {
         Ok(())
     } else {
+        let alloc = bearing.against.alloc;
         found.push(missing_argument(alloc, &bearing.owner, bearing.pos, name)?)
     }
 }

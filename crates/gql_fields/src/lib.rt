@@ -7,6 +7,7 @@
 //! given, and unknown fragments.
 #![tactic(auto)]
 
+mod against;
 mod argument_texts;
 mod arguments;
 mod breach;
@@ -22,11 +23,11 @@ mod skip_include;
 mod walk;
 mod whole_document;
 
+pub use against::Against;
 pub use breach::{Breach, BreachKind};
 pub use breach_texts::breach_of;
 pub use built_in_arguments::{BuiltIn, built_in};
 pub use field_type::{FieldType, is_composite_type};
 pub use site::Site;
 pub use skip_include::{is_condition, is_include_directive, is_skip_directive};
-pub use walk::Against;
 pub use whole_document::walk_document;

@@ -11,21 +11,19 @@ ghost use Rattle.gql_fields.specs.FieldTypeViews.{known_behind, type_behind};
 ghost use Rattle.gql_fields.specs.Places.{directive_places};
 ghost use Rattle.gql_fields.specs.Walking.{field_place, tells, tells_field, terms_in};
 
+use crate::against::Against;
 use crate::argument_texts::unknown_directive;
 use crate::arguments::{Bearing, Owner, tell_arguments};
 use crate::breach::Breach;
 use crate::breach_texts::{no_set, set_on_leaf, unknown_field, unknown_fragment};
 use crate::field_type::{FieldType, is_leaf_type};
 use crate::skip_include::is_condition;
-use crate::walk::Against;
 use gql_base::{Items, Made};
 use gql_doc::{Directive, Field, FragmentSpread, Positioned};
 use gql_schema::SchemaType;
-use std::alloc::Global;
 
 /// Tells of a field that its type hasn't, or of the set and the arguments of one that is known.
 pub fn tell_field(
-    alloc: Global,
     field: &Positioned<Field>,
     ty: &SchemaType,
     known: &Option<FieldType<'_>>,
@@ -38,14 +36,13 @@ pub fn tell_field(
     match known {
         None => {
             let name = field.node.name.node.as_str();
-            found.push(unknown_field(alloc, field.pos, name, ty.name())?)
+            found.push(unknown_field(against.alloc, field.pos, name, ty.name())?)
         }
-        Some(known) => tell_known(alloc, field, ty, known, against, found),
+        Some(known) => tell_known(field, ty, known, against, found),
     }
 }
 
 fn tell_known(
-    alloc: Global,
     field: &Positioned<Field>,
     ty: &SchemaType,
     known: &FieldType<'_>,
@@ -55,12 +52,11 @@ fn tell_known(
     ensures { OnOk result (found.new ≡ found.old ++ told_of_known (terms_in against.now)
         (field_place ty.now field.now) (known_behind against.now.built.now known.now)) }
 {
-    tell_set(alloc, field, ty, known, against, found)?;
-    tell_field_arguments(alloc, field, ty, known, against, found)
+    tell_set(field, ty, known, against, found)?;
+    tell_field_arguments(field, ty, known, against, found)
 }
 
 fn tell_field_arguments(
-    alloc: Global,
     field: &Positioned<Field>,
     ty: &SchemaType,
     known: &FieldType<'_>,
@@ -77,14 +73,14 @@ fn tell_field_arguments(
         owner: Owner::Field(field.node.name.node.as_str(), ty.name()),
         pos: field.pos,
         declared: known.arguments(against.built),
+        against,
     };
     let arguments = field.node.arguments.as_slice();
-    tell_arguments(alloc, &bearing, arguments, against.site.types, found)
+    tell_arguments(&bearing, arguments, found)
 }
 
 /// Tells of a field whose type wants no set, or wants one.
 fn tell_set(
-    alloc: Global,
     field: &Positioned<Field>,
     ty: &SchemaType,
     known: &FieldType<'_>,
@@ -100,11 +96,11 @@ fn tell_set(
     let is_leaf = is_leaf_name(against, known.inner_name());
     let has_set = !field.node.selection_set.node.items.is_empty();
     if is_leaf && has_set {
-        let text = known.text(alloc)?;
-        found.push(set_on_leaf(alloc, field.pos, name, text.as_str())?)
+        let text = known.text(against.alloc)?;
+        found.push(set_on_leaf(against.alloc, field.pos, name, text.as_str())?)
     } else if !is_leaf && !has_set {
-        let text = known.text(alloc)?;
-        found.push(no_set(alloc, field.pos, name, text.as_str())?)
+        let text = known.text(against.alloc)?;
+        found.push(no_set(against.alloc, field.pos, name, text.as_str())?)
     } else {
         Ok(())
     }
@@ -122,7 +118,6 @@ fn is_leaf_name(against: &Against<'_>, name: &str) -> bool
 
 /// Tells of some directives, which stand on a selection or on a definition.
 pub fn tell_directives(
-    alloc: Global,
     directives: &[Positioned<Directive>],
     selects: bool,
     against: &Against<'_>,
@@ -132,14 +127,13 @@ pub fn tell_directives(
         ++ tells against.now (directive_places selects directives.now)) }
 {
     for directive in directives {
-        tell_directive(alloc, directive, selects, against, found)?;
+        tell_directive(directive, selects, against, found)?;
     }
     Ok(())
 }
 
 /// Tells of a directive that isn't known where it stands, or of the arguments of another.
 fn tell_directive(
-    alloc: Global,
     directive: &Positioned<Directive>,
     selects: bool,
     against: &Against<'_>,
@@ -149,15 +143,14 @@ fn tell_directive(
         (terms_in against.now) selects directive.now) }
 {
     if selects && is_condition(&directive.node) {
-        tell_directive_arguments(alloc, directive, against, found)
+        tell_directive_arguments(directive, against, found)
     } else {
         let name = directive.node.name.node.as_str();
-        found.push(unknown_directive(alloc, directive.pos, name)?)
+        found.push(unknown_directive(against.alloc, directive.pos, name)?)
     }
 }
 
 fn tell_directive_arguments(
-    alloc: Global,
     directive: &Positioned<Directive>,
     against: &Against<'_>,
     found: &mut Items<Breach>,
@@ -170,14 +163,14 @@ fn tell_directive_arguments(
         owner: Owner::Directive(directive.node.name.node.as_str()),
         pos: directive.pos,
         declared: &against.built.condition,
+        against,
     };
     let arguments = directive.node.arguments.as_slice();
-    tell_arguments(alloc, &bearing, arguments, against.site.types, found)
+    tell_arguments(&bearing, arguments, found)
 }
 
 /// Tells of a spread of a fragment that isn't there.
 pub fn tell_spread(
-    alloc: Global,
     spread: &Positioned<FragmentSpread>,
     against: &Against<'_>,
     found: &mut Items<Breach>,
@@ -189,6 +182,6 @@ pub fn tell_spread(
     let name = spread.node.fragment_name.node.as_str();
     match against.fragments.get(name) {
         Some(_) => Ok(()),
-        None => found.push(unknown_fragment(alloc, spread.pos, name)?),
+        None => found.push(unknown_fragment(against.alloc, spread.pos, name)?),
     }
 }

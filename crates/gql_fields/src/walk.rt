@@ -10,31 +10,20 @@ ghost use Rattle.gql_fields.specs.Places.{inline_places, on_named};
 ghost use Rattle.gql_fields.specs.Places.{selection_places, set_places, under_condition};
 ghost use Rattle.gql_fields.specs.Walking.{spread_places, tells, terms_in};
 
+use crate::against::Against;
 use crate::breach::Breach;
 use crate::breach_texts::unknown_condition;
-use crate::built_in_arguments::BuiltIn;
 use crate::field_type::{FieldType, is_composite_type};
 use crate::selections::{tell_directives, tell_field, tell_spread};
-use crate::site::Site;
 use gql_base::{Items, Made, Name, Pairs};
 use gql_doc::{
     Field, FragmentDefinition, FragmentSpread, InlineFragment, Positioned, Selection, SelectionSet,
 };
 use gql_schema::SchemaType;
-use std::alloc::Global;
-
-/// What the walk goes by: what the document is checked against, and its fragments.
-#[derive(Clone, Copy)]
-pub struct Against<'a> {
-    pub site: &'a Site<'a>,
-    pub fragments: &'a Pairs<Positioned<FragmentDefinition>>,
-    pub built: &'a BuiltIn,
-}
 
 /// Walks through a set on a type.
 #[cycle(walk)]
 pub fn walk_set(
-    alloc: Global,
     set: &SelectionSet,
     ty: &SchemaType,
     against: &Against<'_>,
@@ -43,12 +32,11 @@ pub fn walk_set(
     ensures { OnOk result (found.new ≡ found.old
         ++ tells against.now (set_places (terms_in against.now) set.now ty.now)) }
 {
-    walk_selections(alloc, set.items.as_slice(), ty, against, found)
+    walk_selections(set.items.as_slice(), ty, against, found)
 }
 
 #[cycle(walk)]
 fn walk_selections(
-    alloc: Global,
     selections: &[Positioned<Selection>],
     ty: &SchemaType,
     against: &Against<'_>,
@@ -59,14 +47,13 @@ fn walk_selections(
         selections.now)) }
 {
     for selection in selections {
-        walk_selection(alloc, &selection.node, ty, against, found)?;
+        walk_selection(&selection.node, ty, against, found)?;
     }
     Ok(())
 }
 
 #[cycle(walk)]
 fn walk_selection(
-    alloc: Global,
     selection: &Selection,
     ty: &SchemaType,
     against: &Against<'_>,
@@ -76,16 +63,15 @@ fn walk_selection(
         ++ tells against.now (selection_places (terms_in against.now) selection.now ty.now)) }
 {
     match selection {
-        Selection::Field(field) => walk_field(alloc, field, ty, against, found),
-        Selection::FragmentSpread(spread) => walk_spread(alloc, spread, against, found),
-        Selection::InlineFragment(inline) => walk_inline(alloc, &inline.node, ty, against, found),
+        Selection::Field(field) => walk_field(field, ty, against, found),
+        Selection::FragmentSpread(spread) => walk_spread(spread, against, found),
+        Selection::InlineFragment(inline) => walk_inline(&inline.node, ty, against, found),
     }
 }
 
 #[cycle(walk)]
 #[tactic(auto, using(crate::proofs::ToldLemmas::told_both))]
 fn walk_field(
-    alloc: Global,
     field: &Positioned<Field>,
     ty: &SchemaType,
     against: &Against<'_>,
@@ -96,27 +82,14 @@ fn walk_field(
         (field_places (terms_in against.now) field.now.node field.now.pos ty.now)) }
 {
     let known = against.site.field_type(ty, field.node.name.node.as_str());
-    tell_field(alloc, field, ty, &known, against, found)?;
-    tell_directives(
-        alloc,
-        field.node.directives.as_slice(),
-        true,
-        against,
-        found,
-    )?;
-    walk_beneath(
-        alloc,
-        &field.node.selection_set.node,
-        &known,
-        against,
-        found,
-    )
+    tell_field(field, ty, &known, against, found)?;
+    tell_directives(field.node.directives.as_slice(), true, against, found)?;
+    walk_beneath(&field.node.selection_set.node, &known, against, found)
 }
 
 /// Walks through the set of a field that is known.
 #[cycle(walk)]
 fn walk_beneath(
-    alloc: Global,
     set: &SelectionSet,
     known: &Option<FieldType<'_>>,
     against: &Against<'_>,
@@ -128,14 +101,13 @@ fn walk_beneath(
 {
     match known {
         None => Ok(()),
-        Some(known) => walk_named(alloc, set, known.inner_name(), against, found),
+        Some(known) => walk_named(set, known.inner_name(), against, found),
     }
 }
 
 #[cycle(walk)]
 #[tactic(auto, using(crate::proofs::ToldLemmas::told_both))]
 fn walk_inline(
-    alloc: Global,
     inline: &InlineFragment,
     ty: &SchemaType,
     against: &Against<'_>,
@@ -144,9 +116,8 @@ fn walk_inline(
     ensures { OnOk result (found.new ≡ found.old
         ++ tells against.now (inline_places (terms_in against.now) inline.now ty.now)) }
 {
-    tell_directives(alloc, inline.directives.as_slice(), true, against, found)?;
+    tell_directives(inline.directives.as_slice(), true, against, found)?;
     walk_under(
-        alloc,
         &inline.selection_set.node,
         &inline.type_condition,
         ty,
@@ -158,7 +129,6 @@ fn walk_inline(
 /// Walks through the set of a fragment in place, on the type around it or on that of its condition.
 #[cycle(walk)]
 fn walk_under(
-    alloc: Global,
     set: &SelectionSet,
     condition: &Option<Positioned<Name>>,
     ty: &SchemaType,
@@ -170,10 +140,10 @@ fn walk_under(
         (set_places (terms_in against.now) set.now) ty.now)) }
 {
     match condition {
-        None => walk_set(alloc, set, ty, against, found),
+        None => walk_set(set, ty, against, found),
         Some(condition) => {
-            tell_condition(alloc, condition, against, found)?;
-            walk_named(alloc, set, condition.node.as_str(), against, found)
+            tell_condition(condition, against, found)?;
+            walk_named(set, condition.node.as_str(), against, found)
         }
     }
 }
@@ -181,7 +151,6 @@ fn walk_under(
 /// Walks through a set on the type of a name, where it is composite.
 #[cycle(walk)]
 pub fn walk_named(
-    alloc: Global,
     set: &SelectionSet,
     name: &str,
     against: &Against<'_>,
@@ -194,7 +163,7 @@ pub fn walk_named(
         None => Ok(()),
         Some(ty) => {
             if is_composite_type(ty) {
-                walk_set(alloc, set, ty, against, found)
+                walk_set(set, ty, against, found)
             } else {
                 Ok(())
             }
@@ -204,7 +173,6 @@ pub fn walk_named(
 
 /// Tells of a condition on no composite type.
 pub fn tell_condition(
-    alloc: Global,
     condition: &Positioned<Name>,
     against: &Against<'_>,
     found: &mut Items<Breach>,
@@ -216,7 +184,7 @@ pub fn tell_condition(
     if is_composite_name(against, name) {
         Ok(())
     } else {
-        found.push(unknown_condition(alloc, condition.pos, name)?)
+        found.push(unknown_condition(against.alloc, condition.pos, name)?)
     }
 }
 
@@ -232,19 +200,12 @@ fn is_composite_name(against: &Against<'_>, name: &str) -> bool
 
 /// Tells of a spread and of its directives.
 fn walk_spread(
-    alloc: Global,
     spread: &Positioned<FragmentSpread>,
     against: &Against<'_>,
     found: &mut Items<Breach>,
 ) -> Made<()>
     ensures { OnOk result (found.new ≡ found.old ++ tells against.now (spread_places spread.now)) }
 {
-    tell_spread(alloc, spread, against, found)?;
-    tell_directives(
-        alloc,
-        spread.node.directives.as_slice(),
-        true,
-        against,
-        found,
-    )
+    tell_spread(spread, against, found)?;
+    tell_directives(spread.node.directives.as_slice(), true, against, found)
 }

@@ -6,21 +6,20 @@ ghost use Rattle.gql_fields.specs.Places.{document_places, fragment_places, oper
 ghost use Rattle.gql_fields.specs.Places.{rooted_places, variable_places};
 ghost use Rattle.gql_fields.specs.Walking.{inner_places, tells, terms_in};
 
+use crate::against::Against;
 use crate::breach::Breach;
 use crate::selections::tell_directives;
-use crate::walk::{Against, tell_condition, walk_named, walk_set};
+use crate::walk::{tell_condition, walk_named, walk_set};
 use gql_base::{Items, Made, Pairs};
 use gql_doc::{
     DocumentOperations, ExecutableDocument, FragmentDefinition, OperationDefinition, Positioned,
     VariableDefinition,
 };
 use gql_schema::SchemaType;
-use std::alloc::Global;
 
 /// Tells the rules that are broken at the places of a document.
 #[tactic(auto, using(crate::proofs::ToldLemmas::told_both))]
 pub fn walk_document(
-    alloc: Global,
     doc: &ExecutableDocument,
     against: &Against<'_>,
     found: &mut Items<Breach>,
@@ -29,16 +28,13 @@ pub fn walk_document(
         ++ tells against.now (document_places (terms_in against.now) doc.now)) }
 {
     match &doc.operations {
-        DocumentOperations::Single(operation) => walk_operation(alloc, operation, against, found)?,
-        DocumentOperations::Multiple(operations) => {
-            walk_operations(alloc, operations, against, found)?
-        }
+        DocumentOperations::Single(operation) => walk_operation(operation, against, found)?,
+        DocumentOperations::Multiple(operations) => { walk_operations(operations, against, found)? }
     }
-    walk_fragments(alloc, &doc.fragments, against, found)
+    walk_fragments(&doc.fragments, against, found)
 }
 
 fn walk_operations(
-    alloc: Global,
     operations: &Pairs<Positioned<OperationDefinition>>,
     against: &Against<'_>,
     found: &mut Items<Breach>,
@@ -48,13 +44,12 @@ fn walk_operations(
 {
     for place in 0..operations.len() {
         let (_, operation) = operations.at(place);
-        walk_operation(alloc, operation, against, found)?;
+        walk_operation(operation, against, found)?;
     }
     Ok(())
 }
 
 fn walk_operation(
-    alloc: Global,
     operation: &Positioned<OperationDefinition>,
     against: &Against<'_>,
     found: &mut Items<Breach>,
@@ -64,14 +59,13 @@ fn walk_operation(
 {
     match against.site.root(operation.node.ty) {
         None => Ok(()),
-        Some(ty) => walk_rooted(alloc, operation, ty, against, found),
+        Some(ty) => walk_rooted(operation, ty, against, found),
     }
 }
 
 /// Walks through an operation on the type of its root.
 #[tactic(auto, using(crate::proofs::ToldLemmas::told_both))]
 fn walk_rooted(
-    alloc: Global,
     operation: &Positioned<OperationDefinition>,
     ty: &SchemaType,
     against: &Against<'_>,
@@ -81,26 +75,13 @@ fn walk_rooted(
         ++ tells against.now (rooted_places (terms_in against.now) operation.now ty.now)) }
 {
     let variables = operation.node.variable_definitions.as_slice();
-    tell_on_variables(alloc, variables, against, found)?;
-    tell_directives(
-        alloc,
-        operation.node.directives.as_slice(),
-        false,
-        against,
-        found,
-    )?;
-    walk_set(
-        alloc,
-        &operation.node.selection_set.node,
-        ty,
-        against,
-        found,
-    )
+    tell_on_variables(variables, against, found)?;
+    tell_directives(operation.node.directives.as_slice(), false, against, found)?;
+    walk_set(&operation.node.selection_set.node, ty, against, found)
 }
 
 /// Tells of the directives of the definitions of variables.
 fn tell_on_variables(
-    alloc: Global,
     variables: &[Positioned<VariableDefinition>],
     against: &Against<'_>,
     found: &mut Items<Breach>,
@@ -109,19 +90,12 @@ fn tell_on_variables(
         ++ tells against.now (variable_places variables.now)) }
 {
     for variable in variables {
-        tell_directives(
-            alloc,
-            variable.node.directives.as_slice(),
-            false,
-            against,
-            found,
-        )?;
+        tell_directives(variable.node.directives.as_slice(), false, against, found)?;
     }
     Ok(())
 }
 
 fn walk_fragments(
-    alloc: Global,
     fragments: &Pairs<Positioned<FragmentDefinition>>,
     against: &Against<'_>,
     found: &mut Items<Breach>,
@@ -131,13 +105,12 @@ fn walk_fragments(
 {
     for place in 0..fragments.len() {
         let (_, fragment) = fragments.at(place);
-        walk_fragment(alloc, fragment, against, found)?;
+        walk_fragment(fragment, against, found)?;
     }
     Ok(())
 }
 
 fn walk_fragment(
-    alloc: Global,
     fragment: &Positioned<FragmentDefinition>,
     against: &Against<'_>,
     found: &mut Items<Breach>,
@@ -145,14 +118,13 @@ fn walk_fragment(
     ensures { OnOk result (found.new ≡ found.old
         ++ tells against.now (fragment_places (terms_in against.now) fragment.now)) }
 {
-    tell_condition(alloc, &fragment.node.type_condition, against, found)?;
-    walk_inner(alloc, fragment, against, found)
+    tell_condition(&fragment.node.type_condition, against, found)?;
+    walk_inner(fragment, against, found)
 }
 
 /// Walks through what stands behind the condition of a fragment.
 #[tactic(auto, using(crate::proofs::ToldLemmas::told_both))]
 fn walk_inner(
-    alloc: Global,
     fragment: &Positioned<FragmentDefinition>,
     against: &Against<'_>,
     found: &mut Items<Breach>,
@@ -160,15 +132,8 @@ fn walk_inner(
     ensures { OnOk result (found.new ≡ found.old
         ++ tells against.now (inner_places (terms_in against.now) fragment.now)) }
 {
-    tell_directives(
-        alloc,
-        fragment.node.directives.as_slice(),
-        false,
-        against,
-        found,
-    )?;
+    tell_directives(fragment.node.directives.as_slice(), false, against, found)?;
     walk_named(
-        alloc,
         &fragment.node.selection_set.node,
         fragment.node.type_condition.node.as_str(),
         against,

@@ -11,7 +11,7 @@ use Rattle.gql_fields.specs.Places.{Place, document_places}
 use Rattle.gql_fields.specs.Terms.{Terms}
 use Rattle.gql_fields.specs.Walking.{tells, terms_in}
 use Rattle.gql_fields.specs.declared.breach.Breach.{Breach}
-use Rattle.gql_fields.specs.declared.walk.Against.{Against}
+use Rattle.gql_fields.specs.declared.against.Against.{Against}
 use Rattle.gql_rules.specs.Asked.{Asked}
 use Rattle.gql_rules.specs.Adding.{Adds}
 use Rattle.gql_rules.specs.FragmentCycles.{IsCircular}

@@ -24,7 +24,6 @@ use std::alloc::Global;
 
 /// Tells of the variables that are used wrongly at a place that an operation reaches.
 pub fn tell_wrong_uses(
-    alloc: Global,
     operations: &DocumentOperations,
     against: &Against<'_>,
     found: &mut Items<Breach>,
@@ -33,18 +32,17 @@ pub fn tell_wrong_uses(
     ensures { OnOk result (Adds (WrongUseIn (terms_in against.now) against.now.fragments.now
         (operations_in operations.now)) found.old found.new) }
 {
-    let places = places_of_fragments(alloc, against.fragments, against.site)?;
+    let places = places_of_fragments(against.alloc, against.fragments, against.site)?;
     let lists = places.as_slice();
-    let graph = graph_of(alloc, lists, against.fragments)?;
+    let graph = graph_of(against.alloc, lists, against.fragments)?;
     let spread = Spread {
         places: lists,
         graph: graph.as_slice(),
     };
-    tell_each(alloc, operations, &spread, against, found)
+    tell_each(operations, &spread, against, found)
 }
 
 fn tell_each(
-    alloc: Global,
     operations: &DocumentOperations,
     spread: &Spread<'_>,
     against: &Against<'_>,
@@ -56,18 +54,15 @@ fn tell_each(
         (operations_in operations.now)) found.old found.new) }
 {
     match operations {
-        DocumentOperations::Single(operation) => {
-            tell_only(alloc, operation, spread, against, found)
-        }
+        DocumentOperations::Single(operation) => tell_only(operation, spread, against, found),
         DocumentOperations::Multiple(operations) => {
-            tell_operations(alloc, operations, spread, against, found)
+            tell_operations(operations, spread, against, found)
         }
     }
 }
 
 /// Tells of the only operation.
 fn tell_only(
-    alloc: Global,
     operation: &Positioned<OperationDefinition>,
     spread: &Spread<'_>,
     against: &Against<'_>,
@@ -78,11 +73,10 @@ fn tell_only(
     ensures { OnOk result (Adds (WrongUseIn (terms_in against.now) against.now.fragments.now
         (operation.now ∷ [])) found.old found.new) }
 {
-    tell_operation(alloc, operation, spread, against, found)
+    tell_operation(operation, spread, against, found)
 }
 
 fn tell_operations(
-    alloc: Global,
     operations: &Pairs<Positioned<OperationDefinition>>,
     spread: &Spread<'_>,
     against: &Against<'_>,
@@ -95,14 +89,13 @@ fn tell_operations(
 {
     for at in 0..operations.len() {
         let (_, operation) = operations.at(at);
-        tell_operation(alloc, operation, spread, against, found)?;
+        tell_operation(operation, spread, against, found)?;
     }
     Ok(())
 }
 
 /// Tells of the uses at the places that an operation reaches.
 fn tell_operation(
-    alloc: Global,
     operation: &Positioned<OperationDefinition>,
     spread: &Spread<'_>,
     against: &Against<'_>,
@@ -113,27 +106,20 @@ fn tell_operation(
     ensures { OnOk result (Adds (WrongUseOf (terms_in against.now) against.now.fragments.now
         operation.now) found.old found.new) }
 {
+    let alloc = against.alloc;
     let definitions = operation.node.variable_definitions.as_slice();
     let index = definition_places(alloc, definitions)?;
     let defined = Defined::new(definitions, &index);
     let places = places_of_operation(alloc, operation, against.site)?;
     let own = places.as_slice();
-    tell_uses(alloc, own, &defined, against.site, against.built, found)?;
+    tell_uses(own, &defined, against, found)?;
     let starts = spreads_in(alloc, own, against.fragments)?;
     let reached = reached_from(alloc, spread.graph, starts.as_slice())?;
-    tell_reached(
-        alloc,
-        reached.as_slice(),
-        &defined,
-        spread.places,
-        against,
-        found,
-    )
+    tell_reached(reached.as_slice(), &defined, spread.places, against, found)
 }
 
 /// Tells of the uses in the fragments that are reached.
 fn tell_reached(
-    alloc: Global,
     reached: &[usize],
     defined: &Defined<'_>,
     places: &[Items<UsePlace<'_>>],
@@ -147,7 +133,7 @@ fn tell_reached(
 {
     for at in reached {
         let places = places[*at].as_slice();
-        tell_uses(alloc, places, defined, against.site, against.built, found)?;
+        tell_uses(places, defined, against, found)?;
     }
     Ok(())
 }

@@ -40,16 +40,22 @@ pub fn check_rules(
         (asking variables.now (option_copied name.entry)) doc.now checked) }
 {
     let built = built_in(alloc)?;
-    let breaches = breaches_of(alloc, against(site, doc, &built), doc, variables, name)?;
+    let breaches = breaches_of(against(alloc, site, doc, &built), doc, variables, name)?;
     refused(alloc, breaches.as_slice())
 }
 
-fn against<'a>(site: &'a Site<'a>, doc: &'a ExecutableDocument, built: &'a BuiltIn) -> Against<'a>
+fn against<'a>(
+    alloc: Global,
+    site: &'a Site<'a>,
+    doc: &'a ExecutableDocument,
+    built: &'a BuiltIn,
+) -> Against<'a>
     ensures site { result.site.now ≡ site.now }
     ensures fragments { result.fragments.now ≡ doc.now.fragments }
     ensures built { result.built.now ≡ built.now }
 {
     Against {
+        alloc,
         site,
         fragments: &doc.fragments,
         built,
@@ -59,7 +65,6 @@ fn against<'a>(site: &'a Site<'a>, doc: &'a ExecutableDocument, built: &'a Built
 /// All breaches of a document in their order, each once.
 #[tactic(auto, using(crate::proofs::BreachLemmas::all_listed))]
 fn breaches_of(
-    alloc: Global,
     against: Against<'_>,
     doc: &ExecutableDocument,
     variables: &Variables,
@@ -72,19 +77,12 @@ fn breaches_of(
         (λ breaches. Lists (IsBreach (terms_in against.entry)
         (asking variables.now (option_copied name.entry)) doc.now) breaches) }
 {
-    let mut found = Items::new(alloc);
-    walk_document(alloc, doc, &against, &mut found)?;
-    tell_variables(
-        alloc,
-        &doc.operations,
-        against.site,
-        variables,
-        name,
-        &mut found,
-    )?;
-    tell_wrong_uses(alloc, &doc.operations, &against, &mut found)?;
-    tell_circular(alloc, &doc.fragments, &mut found)?;
-    tell_conflicts(alloc, against.site, doc, &mut found)?;
+    let mut found = Items::new(against.alloc);
+    walk_document(doc, &against, &mut found)?;
+    tell_variables(&doc.operations, variables, name, &against, &mut found)?;
+    tell_wrong_uses(&doc.operations, &against, &mut found)?;
+    tell_circular(against.alloc, &doc.fragments, &mut found)?;
+    tell_conflicts(against.alloc, against.site, doc, &mut found)?;
     Ok(sorted_once(found))
 }
 

@@ -1,14 +1,13 @@
 //! The definitions of variables.
-ghost use Rattle.std.specs.Prelude.{◌≡◌, ◌++◌, [], IfOk, OnOk, None};
+ghost use Rattle.std.specs.Prelude.{◌≡◌, ◌++◌, IfOk, OnOk, None};
 ghost use Rattle.std.specs.List.{flat_map};
-ghost use Rattle.std.specs.Option.{option_copied, option_map};
-ghost use Rattle.gql_base.specs.Pairs.{under, values_of};
+ghost use Rattle.std.specs.Option.{option_copied};
+ghost use Rattle.gql_base.specs.Pairs.{values_of};
 ghost use Rattle.gql_doc.specs.Depth.{operations_in};
 ghost use Rattle.gql_schema.specs.NameSet.{is_among, with_name};
 ghost use Rattle.gql_schema.specs.Table.{types_of};
-ghost use Rattle.gql_fields.specs.Terms.{terms_of};
+ghost use Rattle.gql_fields.specs.Walking.{terms_in};
 ghost use Rattle.gql_rules.specs.Asked.{asking};
-ghost use Rattle.gql_rules.specs.ChosenOperation.{chosen, operation_of};
 ghost use Rattle.gql_rules.specs.VariableDefinitions.{default_fits as is_fitting_default};
 ghost use Rattle.gql_rules.specs.VariableDefinitions.{definition_name, fault_of as fault_in};
 ghost use Rattle.gql_rules.specs.VariableDefinitions.{has_value as has_fitting_value};
@@ -21,118 +20,111 @@ use crate::definition_fault::DefinitionFault;
 use crate::definition_texts::wrong_definition;
 use gql_base::{Copied, Items, Made, Name, Pairs, TypeRef, Value, Variables};
 use gql_doc::{DocumentOperations, OperationDefinition, Positioned, VariableDefinition};
-use gql_fields::{Breach, Site};
+use gql_fields::{Against, Breach};
 use gql_schema::{NameSet, Types, stands_at_inputs, value_fits};
 use std::alloc::Global;
 
 /// Tells of the definitions of each operation, and of the values that the chosen one is given.
 pub fn tell_variables(
-    alloc: Global,
     operations: &DocumentOperations,
-    site: &Site<'_>,
     variables: &Variables,
     name: Option<&str>,
+    against: &Against<'_>,
     found: &mut Items<Breach>,
 ) -> Made<()>
-    ensures { OnOk result (found.new ≡ found.old ++ told_of_variables (terms_of site.now)
+    ensures { OnOk result (found.new ≡ found.old ++ told_of_variables (terms_in against.now)
         (asking variables.now (option_copied name.entry)) operations.now) }
 {
-    tell_each(alloc, operations, site, found)?;
+    tell_each(operations, against, found)?;
     match chosen_in(operations, name) {
         None => Ok(()),
-        Some(operation) => tell_operation(alloc, operation, Some(variables), site, found),
+        Some(operation) => tell_operation(operation, Some(variables), against, found),
     }
 }
 
 /// Tells of each operation.
 fn tell_each(
-    alloc: Global,
     operations: &DocumentOperations,
-    site: &Site<'_>,
+    against: &Against<'_>,
     found: &mut Items<Breach>,
 ) -> Made<()>
-    ensures { OnOk result (found.new ≡ found.old
-        ++ flat_map (told_of_operation (terms_of site.now) None) (operations_in operations.now)) }
+    ensures { OnOk result (found.new ≡ found.old ++ flat_map
+        (told_of_operation (terms_in against.now) None) (operations_in operations.now)) }
 {
     match operations {
-        DocumentOperations::Single(operation) => {
-            tell_operation(alloc, operation, None, site, found)
-        }
-        DocumentOperations::Multiple(operations) => tell_all(alloc, operations, site, found),
+        DocumentOperations::Single(operation) => tell_operation(operation, None, against, found),
+        DocumentOperations::Multiple(operations) => tell_all(operations, against, found),
     }
 }
 
 fn tell_all(
-    alloc: Global,
     operations: &Pairs<Positioned<OperationDefinition>>,
-    site: &Site<'_>,
+    against: &Against<'_>,
     found: &mut Items<Breach>,
 ) -> Made<()>
     ensures { OnOk result (found.new ≡ found.old
-        ++ flat_map (told_of_operation (terms_of site.now) None) (values_of operations.now)) }
+        ++ flat_map (told_of_operation (terms_in against.now) None) (values_of operations.now)) }
 {
     for place in 0..operations.len() {
         let (_, operation) = operations.at(place);
-        tell_operation(alloc, operation, None, site, found)?;
+        tell_operation(operation, None, against, found)?;
     }
     Ok(())
 }
 
 /// Tells of the definitions of an operation whose kind has a root.
 fn tell_operation(
-    alloc: Global,
     operation: &Positioned<OperationDefinition>,
     given: Option<&Variables>,
-    site: &Site<'_>,
+    against: &Against<'_>,
     found: &mut Items<Breach>,
 ) -> Made<()>
     ensures { OnOk result (found.new ≡ found.old
-        ++ told_of_operation (terms_of site.now) (option_copied given.entry) operation.now) }
+        ++ told_of_operation (terms_in against.now) (option_copied given.entry) operation.now) }
 {
-    match site.root(operation.node.ty) {
+    match against.site.root(operation.node.ty) {
         None => Ok(()),
         Some(_) => {
             let definitions = operation.node.variable_definitions.as_slice();
-            tell_definitions(alloc, definitions, given, site.types, found)
+            tell_definitions(definitions, given, against, found)
         }
     }
 }
 
 fn tell_definitions(
-    alloc: Global,
     definitions: &[Positioned<VariableDefinition>],
     given: Option<&Variables>,
-    types: &Types,
+    against: &Against<'_>,
     found: &mut Items<Breach>,
 ) -> Made<()>
     ensures { OnOk result (found.new ≡ found.old
-        ++ told_of_definitions (types_of types.now) (option_copied given.entry) definitions.now) }
+        ++ told_of_definitions (terms_in against.now).table (option_copied given.entry)
+        definitions.now) }
 {
-    let mut before = NameSet::new(alloc);
+    let mut before = NameSet::new(against.alloc);
     for definition in definitions {
-        tell_definition(alloc, definition, given, types, &mut before, found)?;
+        tell_definition(definition, given, &mut before, against, found)?;
     }
     Ok(())
 }
 
 /// Tells of a definition after those of some names, and takes its name among them.
 fn tell_definition(
-    alloc: Global,
     definition: &Positioned<VariableDefinition>,
     given: Option<&Variables>,
-    types: &Types,
     before: &mut NameSet,
+    against: &Against<'_>,
     found: &mut Items<Breach>,
 ) -> Made<()>
     ensures found { OnOk result (found.new ≡ found.old
-        ++ told_of_definition (types_of types.now) (option_copied given.entry) before.old
+        ++ told_of_definition (terms_in against.now).table (option_copied given.entry) before.old
         definition.now) }
     ensures before { OnOk result
         (before.new ≡ with_name before.old (definition_name definition.now)) }
 {
-    let seen = take_name(alloc, &definition.node.name.node, before)?;
-    let fault = fault_of(&definition.node, seen, given, types);
-    tell_fault(alloc, definition, fault, found)
+    let seen = take_name(against.alloc, &definition.node.name.node, before)?;
+    let fault = fault_of(&definition.node, seen, given, against.site.types);
+    tell_fault(against.alloc, definition, fault, found)
 }
 
 /// Whether a name stands among others, which have it from then on.

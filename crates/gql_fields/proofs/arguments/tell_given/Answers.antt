@@ -1,7 +1,6 @@
 use Rattle.std.proofs.Common.{arith, [], length, refl, subst, sym, append-nil}
 use Rattle.std.proofs.lemmas.Option.{slice_get_read}
-use Rattle.gql_schema.specs.Table.{types_of}
-use Rattle.gql_fields.specs.ArgumentViews.{bearing_behind}
+use Rattle.gql_fields.specs.ArgumentViews.{bearing_behind, table_behind}
 use Rattle.gql_fields.specs.Arguments.{argument_name, told_of_argument}
 use Rattle.gql_fields.specs.GivenNames.{AreNames}
 use Rattle.gql_fields.proofs.AlongLemmas.{along_step, named_along, none_named}
@@ -16,7 +15,7 @@ loop-argument-init c = record {
 
 pub loop-argument-preserved : goal.loop-argument-preserved
 loop-argument-preserved c =
-    let table = types_of c.args.types.now in
+    let table = table_behind c.args.bearing.now in
     let bearing = bearing_behind c.args.bearing.now in
     let arguments = c.args.arguments.now in
     let index = c.loop-argument.argument-index in

@@ -1,7 +1,7 @@
 use Rattle.std.proofs.Common.{arith, [], length, refl, subst, sym, append-nil}
 use Rattle.std.proofs.lemmas.Option.{slice_get_read}
 use Rattle.std.specs.Option.{option_copied}
-use Rattle.gql_schema.specs.Table.{types_of}
+use Rattle.gql_fields.specs.Walking.{terms_in}
 use Rattle.gql_fields.specs.GivenNames.{AreNames}
 use Rattle.gql_fields.proofs.AlongLemmas.{along_step, named_along, none_named}
 use Rattle.gql_rules.specs.VariableDefinitions.{definition_name, told_of_definition}
@@ -16,7 +16,7 @@ loop-definition-init c = record {
 
 pub loop-definition-preserved : goal.loop-definition-preserved
 loop-definition-preserved c =
-    let table = types_of c.args.types.now in
+    let table = (terms_in c.args.against.now).table in
     let given = option_copied c.args.given in
     let definitions = c.args.definitions.now in
     let index = c.loop-definition.definition-index in

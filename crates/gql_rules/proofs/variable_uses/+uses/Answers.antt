@@ -3,7 +3,7 @@ use Rattle.std.proofs.lemmas.List.{take_all}
 use Rattle.std.specs.List.{flat_map}
 use Rattle.std.specs.Option.{option_map}
 use Rattle.gql_doc.specs.declared.document.DocValue.{DocValue}
-use Rattle.gql_schema.specs.Table.{types_of}
+use Rattle.gql_fields.specs.Walking.{terms_in}
 use Rattle.gql_fields.specs.declared.breach.Breach.{Breach}
 use Rattle.gql_fields.proofs.ToldLemmas.{flat_of_map, flat_step}
 use Rattle.gql_rules.specs.PlaceViews.{value_place_behind}
@@ -12,7 +12,7 @@ use Rattle.gql_rules.proofs.variable_uses.+uses.Goals as goal
 
 pub tell_in_items-returns : goal.tell_in_items-returns
 tell_in_items-returns t c =
-    let tells = told_in_value (types_of c.args.types.now) c.args.defined.now c.args.argument.now in
+    let tells = told_in_value (terms_in c.args.inside.now.against.now).table c.args.inside.now.defined.now c.args.inside.now.argument.now in
     let place = option_map value_place_behind c.args.place in
     c.loop-value.invariant
     ∙ ap (λ (vs : List DocValue). c.args.found.now ++ flat_map (λ (value : DocValue). tells value place) vs)
@@ -21,9 +21,9 @@ tell_in_items-returns t c =
 
 pub tell_in_members-loop-at-preserved : goal.tell_in_members-loop-at-preserved
 tell_in_members-loop-at-preserved t c =
-    let table = types_of c.args.types.now in
-    let definitions = c.args.defined.now in
-    let argument = c.args.argument.now in
+    let table = (terms_in c.args.inside.now.against.now).table in
+    let definitions = c.args.inside.now.defined.now in
+    let argument = c.args.inside.now.argument.now in
     let place = option_map value_place_behind c.args.place in
     let name = c.at.result.0.now in
     let value = c.at.result.1.now in
@@ -33,9 +33,9 @@ tell_in_members-loop-at-preserved t c =
 
 pub tell_in_members-returns : goal.tell_in_members-returns
 tell_in_members-returns t c =
-    let table = types_of c.args.types.now in
-    let definitions = c.args.defined.now in
-    let argument = c.args.argument.now in
+    let table = (terms_in c.args.inside.now.against.now).table in
+    let definitions = c.args.inside.now.defined.now in
+    let argument = c.args.inside.now.argument.now in
     let place = option_map value_place_behind c.args.place in
     c.loop-at.invariant
     ∙ ap (λ (ms : List (List ℕ × DocValue)). c.args.found.now

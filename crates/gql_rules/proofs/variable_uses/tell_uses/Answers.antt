@@ -1,7 +1,7 @@
 use Rattle.std.proofs.Common.{arith, ◌++◌, List, ap, sym, ◌∙◌}
 use Rattle.std.proofs.lemmas.List.{take_all}
 use Rattle.std.specs.List.{flat_map}
-use Rattle.gql_fields.specs.Terms.{terms_of}
+use Rattle.gql_fields.specs.Walking.{terms_in}
 use Rattle.gql_fields.specs.declared.breach.Breach.{Breach}
 use Rattle.gql_fields.proofs.ToldLemmas.{flat_of_map}
 use Rattle.gql_rules.specs.PlaceViews.{place_behind}
@@ -11,7 +11,7 @@ use Rattle.gql_rules.proofs.variable_uses.tell_uses.Goals as goal
 
 pub returns : goal.returns
 returns c =
-    let tells = uses_told_at c.args.built.now (terms_of c.args.site.now) c.args.defined.now in
+    let tells = uses_told_at c.args.against.now.built.now (terms_in c.args.against.now) c.args.defined.now in
     let places = c.args.places.now in
     c.loop-place.invariant
     ∙ ap (λ (ps : List UsePlace). c.args.found.now ++ flat_map (λ (p : UsePlace). tells (place_behind p)) ps) (take_all c.loop-place.place-index places (omega arith))
