@@ -1,6 +1,7 @@
 pub mod ArgumentViews
 pub mod Arguments
 pub mod Breach
+pub mod BreachOrder
 pub mod BreachTexts
 pub mod Breaches
 pub mod BuiltIn

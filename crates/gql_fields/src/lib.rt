@@ -11,6 +11,7 @@ mod against;
 mod argument_texts;
 mod arguments;
 mod breach;
+mod breach_order;
 mod breach_texts;
 mod built_in_arguments;
 mod copied;
@@ -25,6 +26,7 @@ mod whole_document;
 
 pub use against::Against;
 pub use breach::{Breach, BreachKind};
+pub use breach_order::sorted_once;
 pub use breach_texts::breach_of;
 pub use built_in_arguments::{BuiltIn, built_in};
 pub use field_type::{FieldType, is_composite_type};

@@ -16,7 +16,7 @@ use Rattle.gql_rules.specs.Asked.{Asked}
 use Rattle.gql_rules.specs.Adding.{Adds}
 use Rattle.gql_rules.specs.FragmentCycles.{IsCircular}
 use Rattle.gql_rules.specs.FieldMerging.{IsConflicting}
-use Rattle.gql_rules.specs.BreachOrder.{Lists}
+use Rattle.gql_fields.specs.BreachOrder.{Lists}
 use Rattle.gql_rules.specs.VariableDefinitions.{told_of_variables}
 use Rattle.gql_rules.specs.RulesChecked.{IsBreach, at_place, by_use, circular, conflicting, error_of, of_variable, refused_with}
 use Rattle.gql_rules.specs.ReachedUses.{WrongUseIn}

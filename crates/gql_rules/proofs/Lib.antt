@@ -8,7 +8,6 @@ pub mod ListedLemmas
 pub mod MarkLemmas
 pub mod MergingLemmas
 pub mod NestingLemmas
-pub mod OrderLemmas
 pub mod RankLemmas
 pub mod ReachLemmas
 pub mod RefusalLemmas

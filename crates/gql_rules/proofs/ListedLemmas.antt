@@ -7,7 +7,7 @@ use Rattle.std.specs.declared.cmp.Ordering.{Ordering}
 use Rattle.std.proofs.lemmas.Cmp.{tied_itself}
 use Rattle.std.proofs.lemmas.List.Elements.{Contains-append_cases}
 use Rattle.gql_fields.specs.declared.breach.Breach.{Breach}
-use Rattle.gql_rules.specs.BreachOrder.{Lists, breach_order, breach_total}
+use Rattle.gql_fields.specs.BreachOrder.{Lists, breach_order, breach_total}
 use Rattle.gql_rules.proofs.BreachLemmas.{first_in, later_in, none_in, one_in}
 
 module _ {K : Type 0} (R : K → K → Ordering) (total : IsTotalOrder R) where

@@ -1,6 +1,5 @@
 pub mod Adding
 pub mod Asked
-pub mod BreachOrder
 pub mod BreachTexts
 pub mod ChosenOperation
 pub mod FieldMerging

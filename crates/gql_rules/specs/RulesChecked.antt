@@ -9,7 +9,7 @@ use Rattle.gql_fields.specs.Places.{Place, document_places}
 use Rattle.gql_fields.specs.Terms.{Terms}
 use Rattle.gql_fields.specs.declared.breach.Breach.{Breach}
 use Rattle.gql_rules.specs.Asked.{Asked}
-use Rattle.gql_rules.specs.BreachOrder.{Lists}
+use Rattle.gql_fields.specs.BreachOrder.{Lists}
 use Rattle.gql_rules.specs.FragmentCycles.{IsCircular}
 use Rattle.gql_rules.specs.FieldMerging.{IsConflicting}
 use Rattle.gql_rules.specs.VariableDefinitions.{told_of_variables}

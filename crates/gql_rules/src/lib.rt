@@ -8,7 +8,6 @@
 //! list of all breaches in their order.
 #![tactic(auto)]
 
-mod breach_order;
 mod chosen_operation;
 mod constants;
 mod definition_fault;

@@ -5,11 +5,10 @@ ghost use Rattle.gql_fields.specs.BuiltIn.{built_in as the_built_in};
 ghost use Rattle.gql_fields.specs.Terms.{terms_of};
 ghost use Rattle.gql_fields.specs.Walking.{terms_in};
 ghost use Rattle.gql_rules.specs.Asked.{asking};
-ghost use Rattle.gql_rules.specs.BreachOrder.{Lists};
+ghost use Rattle.gql_fields.specs.BreachOrder.{Lists};
 ghost use Rattle.gql_rules.specs.Nesting.{IsWithinDepth};
 ghost use Rattle.gql_rules.specs.RulesChecked.{IsBreach, IsChecked, error_of, refused_with};
 
-use crate::breach_order::sorted_once;
 use crate::field_merging::tell_conflicts;
 use crate::fragment_cycles::tell_circular;
 use crate::reached_uses::tell_wrong_uses;
@@ -17,7 +16,7 @@ use crate::refusal::refuse;
 use crate::variable_definitions::tell_variables;
 use gql_base::{Items, Made, ServerError, Variables};
 use gql_doc::ExecutableDocument;
-use gql_fields::{Against, Breach, BuiltIn, Site, built_in, walk_document};
+use gql_fields::{Against, Breach, BuiltIn, Site, built_in, sorted_once, walk_document};
 use std::alloc::Global;
 
 /// Refuses a document that breaks a rule of the specification over the site's types, with all that

@@ -1,10 +1,10 @@
 //! The order in which breaches are told.
 ghost use Rattle.std.specs.Prelude.{◌≡◌};
 ghost use Rattle.std.specs.List.{Contains};
-ghost use Rattle.gql_rules.specs.BreachOrder.{Lists, kind_place};
+ghost use Rattle.gql_fields.specs.BreachOrder.{Lists, kind_place};
 
+use crate::breach::{Breach, BreachKind};
 use gql_base::Items;
-use gql_fields::{Breach, BreachKind};
 use std::cmp::Ordering;
 
 /// The breaches in order, each once.
@@ -41,7 +41,7 @@ fn kind_place(kind: BreachKind) -> u8
 impl Ord for Breach {
     ghost use Rattle.std.specs.Cmp.Rules.{comparing};
     ghost use Rattle.std.proofs.Common.{rules};
-    ghost use Rattle.gql_rules.specs.BreachOrder.{breach_order, breach_total};
+    ghost use Rattle.gql_fields.specs.BreachOrder.{breach_order, breach_total};
 
     ghost cmp = { breach_order };
 
@@ -65,7 +65,7 @@ impl PartialOrd for Breach {
     ghost use Rattle.std.specs.Cmp.Rules.{comparing};
     ghost use Rattle.std.proofs.Common.{rules};
     ghost use Rattle.std.specs.Ordering.{as_partial_cmp};
-    ghost use Rattle.gql_rules.specs.BreachOrder.{breach_order};
+    ghost use Rattle.gql_fields.specs.BreachOrder.{breach_order};
 
     ghost partial_cmp = { as_partial_cmp breach_order };
 
@@ -84,7 +84,7 @@ impl PartialEq for Breach {
     ghost use Rattle.std.specs.Cmp.{partial_equiv_from_equiv};
     ghost use Rattle.std.proofs.lemmas.Cmp.{eq_by_cmp_equiv};
     ghost use Rattle.std.specs.Ordering.{eq_by_cmp};
-    ghost use Rattle.gql_rules.specs.BreachOrder.{breach_order, breach_total};
+    ghost use Rattle.gql_fields.specs.BreachOrder.{breach_order, breach_total};
 
     ghost eq = { eq_by_cmp breach_order };
 
@@ -97,7 +97,7 @@ impl PartialEq for Breach {
 
 impl Eq for Breach {
     ghost use Rattle.std.proofs.lemmas.Cmp.{eq_by_cmp_equiv};
-    ghost use Rattle.gql_rules.specs.BreachOrder.{breach_total};
+    ghost use Rattle.gql_fields.specs.BreachOrder.{breach_total};
 
     ghost laws = { eq_by_cmp_equiv breach_total };
 }

@@ -3,9 +3,9 @@ use Rattle.std.proofs.lemmas.Cmp.{eq_by_cmp_equiv}
 use Rattle.std.proofs.lemmas.List.Filters.{dedup_is}
 use Rattle.std.proofs.lemmas.List.Kept.{Contains-dedup, Contains-from_dedup, IsStrictlySortedBy-dedup}
 use Rattle.std.proofs.lemmas.List.Sorted.{Contains-permutation, IsPermutation-sym}
-use Rattle.gql_rules.specs.BreachOrder.{breach_total}
-use Rattle.gql_rules.proofs.OrderLemmas.{equal_is}
-use Rattle.gql_rules.proofs.breach_order.sorted_once.Goals as goal
+use Rattle.gql_fields.specs.BreachOrder.{breach_total}
+use Rattle.gql_fields.proofs.OrderLemmas.{equal_is}
+use Rattle.gql_fields.proofs.breach_order.sorted_once.Goals as goal
 
 pub returns : goal.returns
 returns c =

@@ -6,7 +6,7 @@ use Rattle.gql_lists.proofs.OrderLemmas.{first_ties, is_equal, number_ties, seco
 use Rattle.gql_fields.specs.declared.breach.Breach.{Breach}
 use Rattle.gql_fields.specs.declared.breach.BreachKind.{BreachKind}
 use Rattle.gql_fields.specs.declared.breach.BreachKind.TheVariants as kinds
-use Rattle.gql_rules.specs.BreachOrder.{breach_order, kind_place, pos_order, text_order}
+use Rattle.gql_fields.specs.BreachOrder.{breach_order, kind_place, pos_order, text_order}
 
 pos_ties : (one other : Pos) → pos_order one other ≡ Equal → one ≡ other
 pos_ties one other tied =
