@@ -1,5 +1,5 @@
-//! The public types but `Bench` can be moved to threads and shared between them.
-use crate::{ListTurns, Numbers, Rule, RuleKind, Table, TableFuture, TableMaker};
+//! The public types can be moved to threads and shared between them.
+use crate::{Bench, ListTurns, Numbers, Rule, RuleKind, Table, TableFuture, TableMaker};
 
 fn shared<T: Send + Sync>() {}
 
@@ -23,4 +23,8 @@ fn of_table() {
 
 fn of_table_maker() {
     shared::<TableMaker>();
+}
+
+fn of_bench() {
+    shared::<Bench>();
 }
