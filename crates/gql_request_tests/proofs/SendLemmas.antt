@@ -3,7 +3,6 @@
 use denote.Ref.{NamedLft}
 use denote.Param.Send.{IsSend, IsSync, sendable}
 use Rattle.gql_base.proofs.SendLemmas.{type_ref_sync}
-use Rattle.gql_base.proofs.name.Name.TheSendSync as name
 use Rattle.gql_base.proofs.path_segment.PathSegment.TheSendSync as segment
 use Rattle.gql_doc.proofs.SendLemmas.{field_sync}
 use Rattle.gql_request.proofs.SendLemmas.{request_sync}
@@ -24,7 +23,7 @@ node_field_sync : (a : NamedLft) → IsSync (path_node.the_field a).row
 node_field_sync a = search (segment.the_sync, sendable) depth 20
 
 pub info_send : (a : NamedLft) → IsSend (info.the_row a)
-info_send a = search (node_field_send, type_ref_sync, field_sync, name.the_sync, sendable) depth 24
+info_send a = search (node_field_send, type_ref_sync, field_sync, sendable) depth 24
 
 pub info_sync : (a : NamedLft) → IsSync (info.the_row a)
-info_sync a = search (node_field_sync, type_ref_sync, field_sync, name.the_sync, sendable) depth 24
+info_sync a = search (node_field_sync, type_ref_sync, field_sync, sendable) depth 24
