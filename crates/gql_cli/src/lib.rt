@@ -13,8 +13,8 @@ mod program;
 mod shared;
 mod status;
 
-pub use gql_bench::{Bench, ListTurns, Table, TableMaker, Tables, bench_of};
-pub use gql_form::Command;
+pub use gql_bench::{Bench, ListTurns, Rule, Table, TableMaker, Tables, bench_of};
+pub use gql_form::{Command, EventForm, SessionForm};
 pub use gql_io::{
     Failed, INPUT_LIMIT, MemorySink, MemorySource, Sink, SinkFault, Source, StdSink, StdSource,
     SureSink, SureSource,

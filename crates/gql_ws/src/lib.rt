@@ -15,6 +15,7 @@ mod ws_event;
 mod ws_message;
 
 pub use client_message::ClientMessage;
+pub use gql_multipart::{MultipartMixed, is_accept_multipart_mixed};
 pub use gql_protocols::{ALL_WEBSOCKET_PROTOCOLS, Protocols, UnsupportedProtocol};
 pub use job::{Job, WsStep};
 pub use message_fault::MessageFault;
