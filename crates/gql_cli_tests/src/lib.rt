@@ -1,5 +1,5 @@
 //! Tests of `gql_cli` whose runs are no lines of the stored cases of `gql_cases`: inputs that a test
-//! makes, faults in mid-stream, and pipes.
+//! makes, faults in mid-stream, and pipes; and the paths by which users name what there is.
 #![tactic(auto)]
 
 #[cfg(test)]
@@ -8,3 +8,4 @@ mod input_tests;
 mod runs;
 #[cfg(test)]
 mod stream_tests;
+pub mod surface;
