@@ -5,7 +5,6 @@ mod FittingLemmas
 mod ListedLemmas
 mod MarkLemmas
 mod GroupLemmas
-mod OrderLemmas
 mod Rows
 mod SameFieldLemmas
 mod WalkLemmas

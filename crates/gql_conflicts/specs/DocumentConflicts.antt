@@ -3,7 +3,7 @@
 -- that is possible at a set, the first occurrence of a key that doesn't ask what the key's first
 -- occurrence asks is a conflict; under a key stand the sets of all its occurrences that ask what
 -- the first one asks.
-use Rattle.std.specs.Prelude.{◌≡◌, ℕ, List, [], Option, Some, None}
+use Rattle.std.specs.Prelude.{◌≡◌, ◌↔◌, ℕ, List, [], Option, Some, None}
 use Rattle.std.specs.List.{Contains, flat_map}
 use Rattle.gql_doc.specs.Depth.{Fragments, operation_set, operations_in, selections_of}
 use Rattle.gql_doc.specs.Document.{key_of}
@@ -51,6 +51,11 @@ document_conflicts rooted document levels =
 abbrev pub IsConflict : Rooted → ExecutableDocument → ℕ → Conflict → Type 0
 IsConflict rooted document levels conflict =
     Contains (document_conflicts rooted document levels) conflict
+
+-- a list tells exactly the conflicts of the document, in whichever order and how often whatever
+pub record Lists (rooted : Rooted) (document : ExecutableDocument) (levels : ℕ)
+    (list : List Conflict) : Type 0 where
+  pub exact : (found : Conflict) → Contains list found ↔ IsConflict rooted document levels found
 
 -- a document has no conflict, whatever the types are and however deep its sets nest
 abbrev pub IsClear : ExecutableDocument → Type 0

@@ -1,5 +1,4 @@
 pub mod Classes
-pub mod ConflictOrder
 pub mod DocumentConflicts
 pub mod Groups
 pub mod Marks

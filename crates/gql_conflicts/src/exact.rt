@@ -1,18 +1,15 @@
 //! All conflicts of a document.
-ghost use Rattle.std.specs.Prelude.{◌≡◌, ◌↔◌, [], IfOk, OnOk};
-ghost use Rattle.std.specs.List.{Contains, flat_map};
+ghost use Rattle.std.specs.Prelude.{◌≡◌, [], IfOk, OnOk};
+ghost use Rattle.std.specs.List.{flat_map};
 ghost use Rattle.gql_base.specs.Pairs.{values_of};
 ghost use Rattle.gql_doc.specs.Depth.{operations_in};
-ghost use Rattle.gql_conflicts.specs.ConflictOrder.{Lists};
-ghost use Rattle.gql_conflicts.specs.DocumentConflicts.{IsConflict};
+ghost use Rattle.gql_conflicts.specs.DocumentConflicts.{Lists};
 ghost use Rattle.gql_conflicts.specs.Rooted.{rooted_of};
 ghost use Rattle.gql_conflicts.specs.Walk.{operation_tells};
 ghost use Rattle.gql_conflicts.specs.Walked.{Walks};
-ghost use Rattle.gql_conflicts.specs.declared.conflict.Conflict.{Conflict as Told};
 
 use crate::coarse::is_clear;
 use crate::conflict::Conflict;
-use crate::conflict_order::sorted_once;
 use crate::reader::Reader;
 use crate::rooted_types::RootedTypes;
 use crate::roots::root_of;
@@ -23,21 +20,20 @@ use gql_base::{Items, Made, Pairs};
 use gql_doc::{DocumentOperations, ExecutableDocument, OperationDefinition, Positioned};
 use std::alloc::Global;
 
-/// The conflicts of a document whose sets nest within so many levels, by place and then by key,
-/// each once. A document that the coarse test clears is not walked through.
+/// The conflicts of a document whose sets nest within so many levels, in no order; one may be told
+/// more than once. A document that the coarse test clears is not walked through.
 pub fn conflicts_in(
     alloc: Global,
     rooted: &RootedTypes<'_>,
     doc: &ExecutableDocument,
     levels: usize,
 ) -> Made<Items<Conflict>>
-    ensures { IfOk result (Lists (IsConflict (rooted_of rooted.now) doc.now levels)) }
+    ensures { IfOk result (Lists (rooted_of rooted.now) doc.now levels) }
 {
     if is_clear(alloc, doc)? {
         return Ok(Items::new(alloc));
     }
-    let found = walk_document(alloc, rooted, doc, levels)?;
-    Ok(sorted_once(found))
+    walk_document(alloc, rooted, doc, levels)
 }
 
 /// What the walk through all operations finds.
@@ -47,8 +43,7 @@ fn walk_document<'a>(
     doc: &'a ExecutableDocument,
     levels: usize,
 ) -> Made<Items<Conflict>>
-    ensures { IfOk result (λ found. (conflict : Told) → Contains found conflict
-        ↔ IsConflict (rooted_of rooted.entry.now) doc.entry.now levels conflict) }
+    ensures { IfOk result (Lists (rooted_of rooted.entry.now) doc.entry.now levels) }
 {
     let fragments = &doc.fragments;
     let reader = Reader {

@@ -11,7 +11,6 @@ mod asked;
 mod beneath;
 mod coarse;
 mod conflict;
-mod conflict_order;
 mod entry;
 mod exact;
 mod fitting;

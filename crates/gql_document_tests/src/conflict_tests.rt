@@ -4,64 +4,85 @@
 use crate::sample::{document_of, types};
 use gql_base::{Items, Made};
 use gql_conflicts::{Conflict, RootedTypes, conflicts_in};
-use gql_schema::Types;
 use std::alloc::Global;
 use std::test::Fail;
 
-/// Texts over the sample of types, and the conflicts of each. All fields that it hasn't are leaves.
-const TEXTS: [(&str, &str); 2] = [
-    (
-        "{ o { k: a } o: p { k: b } o { k: c } }",
-        "1:14 o; 1:32 k; ",
-    ),
-    ("{ n { ... on A { k: a } ... on B { k: b } } }", ""),
-];
+/// A conflict on the first line of a text: its column and its key.
+type Told = (usize, &'static str);
+
+/// A text over the sample of types, and its conflicts. All fields that it hasn't are leaves.
+const TEXT: &str = "{ o { k: a } o: p { k: b } o { k: c } }";
+
+const TOLD: [Told; 2] = [(14, "o"), (32, "k")];
+
+/// A text without a conflict, which the coarse test doesn't clear.
+const OTHER_TEXT: &str = "{ n { ... on A { k: a } ... on B { k: b } } }";
 
 /// How deep the sets of these texts nest at most.
 const LEVELS: usize = 8;
 
-/// Each conflict's place and key.
-fn conflicts_text(alloc: Global, conflicts: &Items<Conflict>) -> Made<String> {
-    let mut out = String::new(alloc);
-    for conflict in conflicts.as_slice() {
-        let line = conflict.pos.line;
-        let column = conflict.pos.column;
-        write!(out, "{line}:{column} ")?;
-        out.push_str(conflict.key.as_str())?;
-        out.push_str("; ")?;
-    }
-    Ok(out)
-}
-
 /// What is told of a text.
-fn answer(alloc: Global, types: &Types, text: &str) -> Made<String> {
+fn answer(alloc: Global, text: &str) -> Made<Items<Conflict>> {
+    let types = types(alloc)?;
     let rooted = RootedTypes {
-        types,
+        types: &types,
         query: "Query",
         mutation: None,
         subscription: None,
         entities: false,
     };
     let document = document_of(alloc, text)?;
-    conflicts_text(alloc, &conflicts_in(alloc, &rooted, &document, LEVELS)?)
+    conflicts_in(alloc, &rooted, &document, LEVELS)
 }
 
-/// The first text of a table for which something else is told.
-fn first_wrong(
-    alloc: Global,
-    table: &[(&'static str, &'static str)],
-) -> Made<Option<&'static str>> {
-    let types = types(alloc)?;
-    for (text, want) in table {
-        if answer(alloc, &types, *text)?.as_str() != *want {
-            return Ok(Some(*text));
+fn is_same(conflict: &Conflict, told: &Told) -> bool {
+    let (column, key) = told;
+    conflict.pos.line == 1 && conflict.pos.column == *column && conflict.key.as_str() == *key
+}
+
+fn is_wanted(conflict: &Conflict, wanted: &[Told]) -> bool {
+    for told in wanted {
+        if is_same(conflict, told) {
+            return true;
         }
     }
-    Ok(None)
+    false
+}
+
+fn is_told(told: &Told, conflicts: &[Conflict]) -> bool {
+    for conflict in conflicts {
+        if is_same(conflict, told) {
+            return true;
+        }
+    }
+    false
+}
+
+/// Whether the conflicts are those that are wanted, in whichever order and how often whatever.
+fn are_wanted(conflicts: &[Conflict], wanted: &[Told]) -> bool {
+    for conflict in conflicts {
+        if !is_wanted(conflict, wanted) {
+            return false;
+        }
+    }
+    for told in wanted {
+        if !is_told(told, conflicts) {
+            return false;
+        }
+    }
+    true
 }
 
 #[test]
 fn conflicts_are_told(rt: HostRuntime) -> Result<(), Fail> {
-    assert_eq!(rt; first_wrong(rt.alloc(), &TEXTS)?, None);
+    let conflicts = answer(rt.alloc(), TEXT)?;
+    assert!(rt; are_wanted(conflicts.as_slice(), &TOLD));
+    Ok(())
+}
+
+#[test]
+fn fields_of_other_objects_dont_conflict(rt: HostRuntime) -> Result<(), Fail> {
+    let conflicts = answer(rt.alloc(), OTHER_TEXT)?;
+    assert!(rt; conflicts.is_empty());
     Ok(())
 }

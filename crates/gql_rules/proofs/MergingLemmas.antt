@@ -8,8 +8,7 @@ use Rattle.gql_doc.specs.declared.document.Positioned.{Positioned}
 use Rattle.gql_doc.specs.declared.document.SelectionSet.{SelectionSet}
 use Rattle.gql_schema.specs.TableReading.{has_type}
 use Rattle.gql_select.proofs.LevelLemmas.{flat_same, nested_conflicts_same}
-use Rattle.gql_conflicts.specs.ConflictOrder.{Lists}
-use Rattle.gql_conflicts.specs.DocumentConflicts.{IsConflict, conflicts_at, document_conflicts, operation_conflicts, told}
+use Rattle.gql_conflicts.specs.DocumentConflicts.{IsConflict, Lists, conflicts_at, document_conflicts, operation_conflicts, told}
 use Rattle.gql_conflicts.specs.Rooted.{Rooted, objects_beneath, root_of}
 use Rattle.gql_conflicts.specs.declared.conflict.Conflict.{Conflict}
 use Rattle.gql_fields.specs.Terms.{Terms}
@@ -64,7 +63,7 @@ module _ (rooted : Rooted) (document : ExecutableDocument) (one other : ℕ) whe
 
 -- the conflicts of a document, all told
 pub all_conflicts : (terms : Terms) (document : ExecutableDocument) (rooted : Rooted) (levels : ℕ) (conflicts : List Conflict) (old new : List Breach)
-    → rooted ≡ rooted_in terms → NestsWithin document levels → Lists (IsConflict rooted document levels) conflicts
+    → rooted ≡ rooted_in terms → NestsWithin document levels → Lists rooted document levels conflicts
     → new ≡ old ++ map conflict_breach conflicts → Adds (IsConflicting terms document) old new
 all_conflicts terms document rooted levels conflicts old new roots nests lists is =
     adds_same (Contains (map conflict_breach conflicts)) (IsConflicting terms document) old new to back (adds_told old (map conflict_breach conflicts) new is)
