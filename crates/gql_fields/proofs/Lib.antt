@@ -1,5 +1,6 @@
 pub mod AlongLemmas
 pub mod ArgumentLemmas
+pub mod KeptLemmas
 pub mod LiteralLemmas
 pub mod OrderLemmas
 pub mod PairLemmas

@@ -11,4 +11,6 @@ pub mod GivenNames
 pub mod Literals
 pub mod Places
 pub mod Terms
+pub mod UsePlaceViews
+pub mod UsePlaces
 pub mod Walking

@@ -37,11 +37,13 @@ abbrev pub tells_field : Against → SchemaType → Positioned Field → Option 
 tells_field against ty field known =
     told_of_field against.built.now (terms_in against) (field_place ty field) known
 
--- the places of a spread
+-- the place of a spread, and with it those of its directives
+abbrev pub spread_place : Positioned FragmentSpread → Place
+spread_place spread = OnSpread spread.pos spread.node.fragment_name.node
+
 abbrev pub spread_places : Positioned FragmentSpread → List Place
 spread_places spread =
-    OnSpread spread.pos spread.node.fragment_name.node
-    ∷ directive_places true spread.node.directives
+    spread_place spread ∷ directive_places true spread.node.directives
 
 -- the places of a fragment after its condition
 abbrev pub inner_places : Terms → Positioned FragmentDefinition → List Place

@@ -8,7 +8,7 @@ use Rattle.gql_doc.specs.declared.document.DocValue.TheFolds.{fold-roll-DocValue
 use Rattle.gql_doc.specs.declared.document.Positioned.{Positioned}
 use Rattle.gql_doc.specs.declared.document.VariableDefinition.{VariableDefinition}
 use Rattle.gql_schema.specs.TableReading.{TypeTable}
-use Rattle.gql_rules.specs.UsePlaces.{constant_step, is_constant}
+use Rattle.gql_fields.specs.UsePlaces.{constant_step, is_constant}
 use Rattle.gql_rules.specs.VariableUses.{TellsIn, ValuePlace, items_place, member_place, told_in_value, value_step}
 
 never : {A : Type 0} → false ≡ true → A

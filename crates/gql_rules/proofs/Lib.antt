@@ -5,6 +5,7 @@ pub mod ConstantLemmas
 pub mod CycleLemmas
 pub mod DefinitionLemmas
 pub mod ListedLemmas
+pub mod ListedOperations
 pub mod MarkLemmas
 pub mod MergingLemmas
 pub mod NestingLemmas

@@ -20,12 +20,13 @@ use Rattle.gql_fields.specs.declared.breach.Breach.{Breach}
 use Rattle.gql_fields.specs.declared.built_in_arguments.BuiltIn.{BuiltIn}
 use Rattle.gql_rules.specs.Adding.{Adds}
 use Rattle.gql_rules.specs.Reaching.{AreBelow, AreReached, AreWithin, is_in, led_to}
-use Rattle.gql_rules.specs.PlaceViews.{IsSpread, shown}
-use Rattle.gql_rules.specs.UsePlaces.{kept}
+use Rattle.gql_fields.specs.UsePlaceViews.{shown}
+use Rattle.gql_rules.specs.PlaceViews.{IsSpread}
+use Rattle.gql_fields.specs.UsePlaces.{kept}
 use Rattle.gql_rules.specs.ReachedUses.{IsReached, WrongUseIn, WrongUseOf, fragment_spreads, operation_spreads, own, place_graph, spread, spread_at, spreads_at, uses_told_in}
 use Rattle.gql_rules.specs.VariableUses.{uses_told, uses_told_at}
 use Rattle.gql_rules.specs.declared.spread.Spread.{Spread}
-use Rattle.gql_rules.specs.declared.use_place.UsePlace.{UsePlace}
+use Rattle.gql_fields.specs.declared.use_place.UsePlace.{UsePlace}
 use Rattle.gql_rules.proofs.AddingLemmas.{adds_same, adds_then, adds_told}
 use Rattle.gql_rules.proofs.BreachLemmas.{first_in, given_at, given_from, later_in, none_in, one_in}
 use Rattle.gql_rules.proofs.MarkLemmas.{reached_within}

@@ -28,62 +28,12 @@ use Rattle.gql_fields.specs.Terms.{Terms}
 use Rattle.gql_fields.specs.declared.breach.Breach.{Breach}
 use Rattle.gql_fields.specs.declared.built_in_arguments.BuiltIn.{BuiltIn}
 use Rattle.gql_fields.proofs.ToldLemmas.{places_in_set}
-use Rattle.gql_rules.specs.PlaceViews.{place_behind, shown}
-use Rattle.gql_rules.specs.UsePlaces.{are_constant, is_constant, kept, kept_at, matters}
+use Rattle.gql_fields.specs.UsePlaceViews.{place_behind, shown}
+use Rattle.gql_fields.specs.UsePlaces.{are_constant, is_constant, kept, kept_at, matters}
 use Rattle.gql_rules.specs.ReachedUses.{spread_at, spreads_at}
 use Rattle.gql_rules.specs.VariableUses.{ValuePlace, declared_place, told_in_arguments, told_in_field, uses_told, uses_told_at}
-use Rattle.gql_rules.specs.declared.use_place.UsePlace.{UsePlace}
+use Rattle.gql_fields.specs.declared.use_place.UsePlace.{UsePlace}
 use Rattle.gql_rules.proofs.ConstantLemmas.{constant_silent}
-
-pub kept_both : (one other : List Place) → kept (one ++ other) ≡ kept one ++ kept other
-kept_both one other = flat_map-append kept_at one other
-
-pub shown_more : (places : List UsePlace) (place : UsePlace) → shown (places ++ place ∷ []) ≡ shown places ++ place_behind place ∷ []
-shown_more places place = map-append place_behind places (place ∷ [])
-
--- none of the directives of a definition matters
-kept-directives : (ds : List (Positioned Directive)) → kept (directive_places false ds) ≡ []
-kept-directives [] = refl
-kept-directives (d ∷ ds) = kept-directives ds
-
-kept-variables : (vs : List (Positioned VariableDefinition)) → kept (variable_places vs) ≡ []
-kept-variables [] = refl
-kept-variables (v ∷ vs) =
-    kept_both (directive_places false v.node.directives) (variable_places vs) ∙ (λ i. kept-directives v.node.directives i ++ kept-variables vs i)
-
-pub kept_fragment : (terms : Terms) (fragment : Positioned FragmentDefinition)
-    → kept (fragment_places terms fragment) ≡ kept (on_named terms fragment.node.type_condition.node (set_places terms (fragment_set fragment).node))
-kept_fragment terms fragment =
-    let inner : List Place = on_named terms fragment.node.type_condition.node (set_places terms (fragment_set fragment).node) in
-    kept_both (directive_places false fragment.node.directives) inner ∙ (λ i. kept-directives fragment.node.directives i ++ kept inner)
-
-pub kept_rooted : (terms : Terms) (operation : Positioned OperationDefinition) (ty : SchemaType)
-    → kept (rooted_places terms operation ty) ≡ kept (set_places terms (operation_set operation).node ty)
-kept_rooted terms operation ty =
-    let inner : List Place = set_places terms (operation_set operation).node ty in
-    kept_both (variable_places operation.node.variable_definitions) (directive_places false operation.node.directives ++ inner)
-    ∙ (λ i. kept-variables operation.node.variable_definitions i ++ kept_both (directive_places false operation.node.directives) inner i)
-    ∙ (λ i. kept-directives operation.node.directives i ++ kept inner)
-
--- an empty set has no places
-none-in : (terms : Terms) (set : SelectionSet) (ty : SchemaType) → (out-SelectionSet set).items ≡ [] → set_places terms set ty ≡ []
-none-in terms set ty empty =
-    places_in_set terms set ty ∙ ap (flat_map (λ (selection : Positioned Selection). selection_places terms selection.node ty)) empty
-
-none-on : (terms : Terms) (set : SelectionSet) → (out-SelectionSet set).items ≡ [] → (ty : Option SchemaType) → on_composite ty (set_places terms set) ≡ []
-none-on terms set empty None = refl
-none-on terms set empty (Some (types.Object object)) = none-in terms set (types.Object object) empty
-none-on terms set empty (Some (types.Interface interface)) = none-in terms set (types.Interface interface) empty
-none-on terms set empty (Some (types.Union union)) = none-in terms set (types.Union union) empty
-none-on terms set empty (Some (types.Scalar scalar)) = refl
-none-on terms set empty (Some (types.Enum enum)) = refl
-none-on terms set empty (Some (types.InputObject input)) = refl
-none-on terms set empty (Some (types.Subscription subscription)) = refl
-
-pub none_beneath : (terms : Terms) (set : SelectionSet) (known : Option TypeRef) → (out-SelectionSet set).items ≡ []
-    → kept (beneath_field terms known (set_places terms set)) ≡ []
-none_beneath terms set None empty = refl
-none_beneath terms set (Some ty) empty = ap kept (none-on terms set empty (under (innermost ty) terms.table))
 
 -- places that don't matter add nothing
 module _ {B : Type 0} (f : Place → List B) (silent : (place : Place) → matters place ≡ false → f place ≡ []) where

@@ -11,6 +11,5 @@ pub mod ReachedUses
 pub mod Reaching
 pub mod Refusal
 pub mod RulesChecked
-pub mod UsePlaces
 pub mod VariableDefinitions
 pub mod VariableUses

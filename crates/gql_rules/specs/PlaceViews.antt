@@ -1,27 +1,15 @@
 -- What the places that are listed show of a document.
-use Rattle.std.specs.Prelude.{◌≡◌, true, List, map}
+use Rattle.std.specs.Prelude.{◌≡◌, map}
 use Rattle.gql_base.specs.Pairs.{values_of}
 use Rattle.gql_doc.specs.Depth.{Fragments}
-use Rattle.gql_fields.specs.Places.{OnDirective, OnField, OnSpread, Place, fragment_places}
+use Rattle.gql_fields.specs.Places.{fragment_places}
 use Rattle.gql_fields.specs.Terms.{Terms}
-use Rattle.gql_fields.specs.Walking.{field_place}
-use Rattle.gql_rules.specs.UsePlaces.{kept}
+use Rattle.gql_fields.specs.UsePlaceViews.{shown}
+use Rattle.gql_fields.specs.UsePlaces.{kept}
 use Rattle.gql_rules.specs.ReachedUses.{place_graph}
 use Rattle.gql_rules.specs.VariableUses.{ValuePlace}
 use Rattle.gql_rules.specs.declared.spread.Spread.{Spread}
-use Rattle.gql_rules.specs.declared.use_place.UsePlace.{UsePlace}
-use Rattle.gql_rules.specs.declared.use_place.UsePlace.TheVariants as places
 use Rattle.gql_rules.specs.declared.value_place.ValuePlace as value_place
-
-abbrev pub place_behind : UsePlace → Place
-place_behind (places.Field ty field) = OnField (field_place ty.now field.now)
-place_behind (places.Directive directive) = OnDirective true directive.now
-place_behind (places.Spread spread) =
-    OnSpread spread.now.pos spread.now.node.fragment_name.node
-
--- the places of a list
-abbrev pub shown : List UsePlace → List Place
-shown places = map place_behind places
 
 -- the place of a value
 abbrev pub value_place_behind : value_place.ValuePlace → ValuePlace

@@ -9,20 +9,17 @@
 #![tactic(auto)]
 
 mod chosen_operation;
-mod constants;
 mod definition_fault;
 mod definition_texts;
 mod field_merging;
 mod fragment_cycles;
 mod fragment_spreads;
-mod listing;
 mod reached_uses;
 mod reaching;
 mod refusal;
 mod rules;
 mod spread;
 mod usage_allowed;
-mod use_place;
 mod value_place;
 mod variable_definitions;
 mod variable_texts;

@@ -1,117 +1,91 @@
 //! The uses of variables at the places that an operation reaches.
-ghost use Rattle.std.specs.Prelude.{◌≡◌, ◌++◌, ◌∷◌, [], IfOk, OnOk, length, map};
+ghost use Rattle.std.specs.Prelude.{◌≡◌, ◌++◌, IfOk, OnOk, length, map};
 ghost use Rattle.std.specs.List.{flat_map};
 ghost use Rattle.gql_base.specs.Pairs.{names_of, values_of};
-ghost use Rattle.gql_doc.specs.Depth.{operations_in};
 ghost use Rattle.gql_fields.specs.BuiltIn.{built_in as the_built_in};
+ghost use Rattle.gql_fields.specs.Places.{fragment_places};
+ghost use Rattle.gql_fields.specs.UsePlaceViews.{listed_behind, listed_of, operation_behind};
+ghost use Rattle.gql_fields.specs.UsePlaceViews.{place_behind, shown};
+ghost use Rattle.gql_fields.specs.UsePlaces.{kept};
 ghost use Rattle.gql_fields.specs.Walking.{terms_in};
 ghost use Rattle.gql_rules.specs.Adding.{Adds};
 ghost use Rattle.gql_rules.specs.Reaching.{AreBelow};
-ghost use Rattle.gql_rules.specs.PlaceViews.{IsSpread, place_behind, shown};
+ghost use Rattle.gql_rules.specs.PlaceViews.{IsSpread};
 ghost use Rattle.gql_rules.specs.ReachedUses.{WrongUseIn, WrongUseOf, spread_at, spreads_at};
 ghost use Rattle.gql_rules.specs.ReachedUses.{uses_told_in};
 
-use crate::listing::{places_of_fragments, places_of_operation};
 use crate::reaching::reached_from;
 use crate::spread::Spread;
-use crate::use_place::UsePlace;
 use crate::variable_uses::tell_uses;
 use gql_base::{Items, Made, Pairs};
-use gql_doc::{DocumentOperations, FragmentDefinition, OperationDefinition, Positioned};
-use gql_fields::{Against, Breach};
+use gql_doc::{FragmentDefinition, Positioned};
+use gql_fields::{Against, Breach, Listed, OperationPlaces, UsePlace};
 use gql_request::{Defined, definition_places};
 use std::alloc::Global;
 
-/// Tells of the variables that are used wrongly at a place that an operation reaches.
+/// Tells of the variables that are used wrongly at a place that an operation reaches, by the places
+/// of a document that were listed.
 pub fn tell_wrong_uses(
-    operations: &DocumentOperations,
+    listed: &Listed<'_>,
     against: &Against<'_>,
     found: &mut Items<Breach>,
 ) -> Made<()>
     requires built { against.now.built.now ≡ the_built_in }
+    requires operations { map listed_behind listed.now.operations
+        ≡ map (listed_of (terms_in against.now)) (map operation_behind listed.now.operations) }
+    requires fragments { map shown listed.now.fragments
+        ≡ map (λ fragment. kept (fragment_places (terms_in against.now) fragment))
+        (values_of against.now.fragments.now) }
     ensures { OnOk result (Adds (WrongUseIn (terms_in against.now) against.now.fragments.now
-        (operations_in operations.now)) found.old found.new) }
+        (map operation_behind listed.now.operations)) found.old found.new) }
 {
-    let places = places_of_fragments(against.alloc, against.fragments, against.site)?;
-    let lists = places.as_slice();
+    let lists = listed.fragments.as_slice();
     let graph = graph_of(against.alloc, lists, against.fragments)?;
     let spread = Spread {
         places: lists,
         graph: graph.as_slice(),
     };
-    tell_each(operations, &spread, against, found)
-}
-
-fn tell_each(
-    operations: &DocumentOperations,
-    spread: &Spread<'_>,
-    against: &Against<'_>,
-    found: &mut Items<Breach>,
-) -> Made<()>
-    requires built { against.now.built.now ≡ the_built_in }
-    requires spread { IsSpread (terms_in against.now) against.now.fragments.now spread.now }
-    ensures { OnOk result (Adds (WrongUseIn (terms_in against.now) against.now.fragments.now
-        (operations_in operations.now)) found.old found.new) }
-{
-    match operations {
-        DocumentOperations::Single(operation) => tell_only(operation, spread, against, found),
-        DocumentOperations::Multiple(operations) => {
-            tell_operations(operations, spread, against, found)
-        }
-    }
-}
-
-/// Tells of the only operation.
-fn tell_only(
-    operation: &Positioned<OperationDefinition>,
-    spread: &Spread<'_>,
-    against: &Against<'_>,
-    found: &mut Items<Breach>,
-) -> Made<()>
-    requires built { against.now.built.now ≡ the_built_in }
-    requires spread { IsSpread (terms_in against.now) against.now.fragments.now spread.now }
-    ensures { OnOk result (Adds (WrongUseIn (terms_in against.now) against.now.fragments.now
-        (operation.now ∷ [])) found.old found.new) }
-{
-    tell_operation(operation, spread, against, found)
+    tell_operations(listed.operations.as_slice(), &spread, against, found)
 }
 
 fn tell_operations(
-    operations: &Pairs<Positioned<OperationDefinition>>,
+    operations: &[OperationPlaces<'_>],
     spread: &Spread<'_>,
     against: &Against<'_>,
     found: &mut Items<Breach>,
 ) -> Made<()>
     requires built { against.now.built.now ≡ the_built_in }
+    requires operations { map listed_behind operations.now
+        ≡ map (listed_of (terms_in against.now)) (map operation_behind operations.now) }
     requires spread { IsSpread (terms_in against.now) against.now.fragments.now spread.now }
     ensures { OnOk result (Adds (WrongUseIn (terms_in against.now) against.now.fragments.now
-        (values_of operations.now)) found.old found.new) }
+        (map operation_behind operations.now)) found.old found.new) }
 {
-    for at in 0..operations.len() {
-        let (_, operation) = operations.at(at);
-        tell_operation(operation, spread, against, found)?;
+    for listed in operations {
+        tell_operation(listed, spread, against, found)?;
     }
     Ok(())
 }
 
 /// Tells of the uses at the places that an operation reaches.
 fn tell_operation(
-    operation: &Positioned<OperationDefinition>,
+    listed: &OperationPlaces<'_>,
     spread: &Spread<'_>,
     against: &Against<'_>,
     found: &mut Items<Breach>,
 ) -> Made<()>
     requires built { against.now.built.now ≡ the_built_in }
+    requires listed { listed_behind listed.now
+        ≡ listed_of (terms_in against.now) (operation_behind listed.now) }
     requires spread { IsSpread (terms_in against.now) against.now.fragments.now spread.now }
     ensures { OnOk result (Adds (WrongUseOf (terms_in against.now) against.now.fragments.now
-        operation.now) found.old found.new) }
+        (operation_behind listed.now)) found.old found.new) }
 {
     let alloc = against.alloc;
-    let definitions = operation.node.variable_definitions.as_slice();
+    let definitions = listed.operation.node.variable_definitions.as_slice();
     let index = definition_places(alloc, definitions)?;
     let defined = Defined::new(definitions, &index);
-    let places = places_of_operation(alloc, operation, against.site)?;
-    let own = places.as_slice();
+    let own = listed.places.as_slice();
     tell_uses(own, &defined, against, found)?;
     let starts = spreads_in(alloc, own, against.fragments)?;
     let reached = reached_from(alloc, spread.graph, starts.as_slice())?;

@@ -63,9 +63,9 @@ fn against<'a>(
 
 /// All breaches of a document in their order, each once.
 #[tactic(auto, using(crate::proofs::BreachLemmas::all_listed))]
-fn breaches_of(
-    against: Against<'_>,
-    doc: &ExecutableDocument,
+fn breaches_of<'a>(
+    against: Against<'a>,
+    doc: &'a ExecutableDocument,
     variables: &Variables,
     name: Option<&str>,
 ) -> Made<Items<Breach>>
@@ -77,9 +77,9 @@ fn breaches_of(
         (asking variables.now (option_copied name.entry)) doc.now) breaches) }
 {
     let mut found = Items::new(against.alloc);
-    walk_document(doc, &against, &mut found)?;
+    let listed = walk_document(doc, &against, &mut found)?;
     tell_variables(&doc.operations, variables, name, &against, &mut found)?;
-    tell_wrong_uses(&doc.operations, &against, &mut found)?;
+    tell_wrong_uses(&listed, &against, &mut found)?;
     tell_circular(against.alloc, &doc.fragments, &mut found)?;
     tell_conflicts(against.alloc, against.site, doc, &mut found)?;
     Ok(sorted_once(found))

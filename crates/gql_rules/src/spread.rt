@@ -1,5 +1,5 @@
-use crate::use_place::UsePlace;
 use gql_base::Items;
+use gql_fields::UsePlace;
 
 /// The places of each fragment that matter, and which fragments are spread there.
 #[derive(Clone, Copy)]

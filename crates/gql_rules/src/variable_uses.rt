@@ -6,7 +6,8 @@ ghost use Rattle.gql_schema.specs.Table.{types_of};
 ghost use Rattle.gql_request.specs.Defined.{first_definition};
 ghost use Rattle.gql_fields.specs.FieldTypes.{known_field};
 ghost use Rattle.gql_fields.specs.Walking.{field_place, terms_in};
-ghost use Rattle.gql_rules.specs.PlaceViews.{place_behind, shown, value_place_behind};
+ghost use Rattle.gql_fields.specs.UsePlaceViews.{place_behind, shown};
+ghost use Rattle.gql_rules.specs.PlaceViews.{value_place_behind};
 ghost use Rattle.gql_rules.specs.VariableUses.{declared_place as place_declared};
 ghost use Rattle.gql_rules.specs.VariableUses.{items_place as place_of_items};
 ghost use Rattle.gql_rules.specs.VariableUses.{member_place as place_of_member};
@@ -15,12 +16,11 @@ ghost use Rattle.gql_rules.specs.VariableUses.{told_in_members, told_in_value, t
 ghost use Rattle.gql_rules.specs.VariableUses.{told_in_field, uses_told, uses_told_at};
 
 use crate::usage_allowed::fits_place;
-use crate::use_place::UsePlace;
 use crate::value_place::ValuePlace;
 use crate::variable_texts::{misplaced_variable, undefined_variable};
 use gql_base::{Items, Made, Name, Pairs};
 use gql_doc::{Argument, Directive, DocValue, Field, Positioned};
-use gql_fields::{Against, Breach, is_condition};
+use gql_fields::{Against, Breach, UsePlace, is_condition};
 use gql_request::Defined;
 use gql_schema::{ByName, InputValue, SchemaType, Types, type_of_items};
 

@@ -1,6 +1,6 @@
 use Rattle.std.proofs.Common.{◌≡◌, map, take}
 use Rattle.gql_base.specs.Pairs.{names_of}
-use Rattle.gql_rules.specs.PlaceViews.{shown}
+use Rattle.gql_fields.specs.UsePlaceViews.{shown}
 use Rattle.gql_rules.specs.ReachedUses.{spreads_at}
 use Rattle.gql_rules.proofs.reached_uses.graph_of.Given as goal
 

@@ -3,9 +3,9 @@ use Rattle.std.proofs.lemmas.List.{take_all}
 use Rattle.std.specs.List.{flat_map}
 use Rattle.gql_base.specs.Pairs.{names_of}
 use Rattle.gql_fields.proofs.ToldLemmas.{flat_of_map}
-use Rattle.gql_rules.specs.PlaceViews.{place_behind}
+use Rattle.gql_fields.specs.UsePlaceViews.{place_behind}
 use Rattle.gql_rules.specs.ReachedUses.{spread_at}
-use Rattle.gql_rules.specs.declared.use_place.UsePlace.{UsePlace}
+use Rattle.gql_fields.specs.declared.use_place.UsePlace.{UsePlace}
 use Rattle.gql_rules.proofs.reached_uses.spreads_in.Goals as goal
 
 pub returns : goal.returns

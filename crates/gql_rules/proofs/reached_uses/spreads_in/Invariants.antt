@@ -1,7 +1,7 @@
 use Rattle.std.proofs.Common.{◌≡◌, take}
 use Rattle.std.specs.List.{flat_map}
 use Rattle.gql_base.specs.Pairs.{names_of}
-use Rattle.gql_rules.specs.PlaceViews.{place_behind}
+use Rattle.gql_fields.specs.UsePlaceViews.{place_behind}
 use Rattle.gql_rules.specs.ReachedUses.{spread_at}
 use Rattle.gql_rules.proofs.reached_uses.spreads_in.Given as goal
 

@@ -5,7 +5,7 @@ use Rattle.gql_doc.specs.declared.document.VariableDefinition.{VariableDefinitio
 use Rattle.gql_fields.specs.Walking.{terms_in}
 use Rattle.gql_fields.proofs.ToldLemmas.{on_ok}
 use Rattle.gql_rules.specs.Reaching.{AreReached}
-use Rattle.gql_rules.specs.PlaceViews.{shown}
+use Rattle.gql_fields.specs.UsePlaceViews.{shown}
 use Rattle.gql_rules.specs.ReachedUses.{uses_told_in}
 use Rattle.gql_rules.specs.VariableUses.{uses_told}
 use Rattle.gql_rules.proofs.UseLemmas.{graph_inside, operation_told, reached_below, starts_below}
@@ -36,12 +36,12 @@ returns c =
     let reached = c.as_slice-2.result.now in
     let old = c.args.found.now in
     let now = c.tell_uses.new.found in
-    let defined : c.new-defined.result ≡ c.args.operation.now.node.variable_definitions
+    let defined : c.new-defined.result ≡ c.args.listed.now.operation.now.node.variable_definitions
     = c.new-defined.ensures ∙ c.as_slice-definitions.ensures in
     on_ok c.tell_reached.result _ _
     (λ told.
-    operation_told terms fragments c.args.operation.now built places lists c.args.spread.now.graph.now starts reached old now c.tell_reached.new.found
-    c.requires.built (ap shown c.as_slice-own.ensures ∙ c.in_ok-places.ensures) c.requires.spread.places c.requires.spread.graph
+    operation_told terms fragments c.args.listed.now.operation.now built places lists c.args.spread.now.graph.now starts reached old now c.tell_reached.new.found
+    c.requires.built (ap shown c.as_slice-own.ensures ∙ ap (λ p. p.1) c.requires.listed) c.requires.spread.places c.requires.spread.graph
     (c.as_slice.ensures ∙ c.in_ok-starts.ensures)
     (subst (AreReached c.args.spread.now.graph.now starts) (sym c.as_slice-2.ensures) c.in_ok-reached.ensures)
     (c.in_ok-tell_uses.ensures ∙ ap (λ (ds : List (Positioned VariableDefinition)). old ++ uses_told built terms ds places) defined)

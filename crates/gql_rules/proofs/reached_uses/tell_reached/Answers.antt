@@ -3,7 +3,7 @@ use Rattle.std.proofs.lemmas.Option.{slice_get-get_or, slice_get_read}
 use Rattle.gql_fields.specs.Places.{Place}
 use Rattle.gql_fields.specs.Walking.{terms_in}
 use Rattle.gql_fields.proofs.ToldLemmas.{flat_step}
-use Rattle.gql_rules.specs.PlaceViews.{shown}
+use Rattle.gql_fields.specs.UsePlaceViews.{shown}
 use Rattle.gql_rules.specs.ReachedUses.{uses_told_in}
 use Rattle.gql_rules.specs.VariableUses.{uses_told}
 use Rattle.gql_rules.proofs.UseLemmas.{below_at, list_is}

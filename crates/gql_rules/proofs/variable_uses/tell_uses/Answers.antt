@@ -4,9 +4,9 @@ use Rattle.std.specs.List.{flat_map}
 use Rattle.gql_fields.specs.Walking.{terms_in}
 use Rattle.gql_fields.specs.declared.breach.Breach.{Breach}
 use Rattle.gql_fields.proofs.ToldLemmas.{flat_of_map}
-use Rattle.gql_rules.specs.PlaceViews.{place_behind}
+use Rattle.gql_fields.specs.UsePlaceViews.{place_behind}
 use Rattle.gql_rules.specs.VariableUses.{uses_told_at}
-use Rattle.gql_rules.specs.declared.use_place.UsePlace.{UsePlace}
+use Rattle.gql_fields.specs.declared.use_place.UsePlace.{UsePlace}
 use Rattle.gql_rules.proofs.variable_uses.tell_uses.Goals as goal
 
 pub returns : goal.returns

@@ -1,7 +1,7 @@
 //! Values of a document in which no variable stands.
 ghost use Rattle.std.specs.Prelude.{◌≡◌};
-ghost use Rattle.gql_rules.specs.UsePlaces.{are_constant as hold_none, is_constant as holds_none};
-ghost use Rattle.gql_rules.specs.UsePlaces.{items_constant, members_constant};
+ghost use Rattle.gql_fields.specs.UsePlaces.{are_constant as hold_none, is_constant as holds_none};
+ghost use Rattle.gql_fields.specs.UsePlaces.{items_constant, members_constant};
 
 use gql_base::Pairs;
 use gql_doc::{Argument, DocValue};

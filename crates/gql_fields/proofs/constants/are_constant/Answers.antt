@@ -1,9 +1,9 @@
 use Rattle.std.proofs.Common.{arith, refl, length}
 use Rattle.std.proofs.lemmas.Option.{slice_get_read}
 use Rattle.gql_doc.specs.declared.document.Argument.{Argument}
-use Rattle.gql_rules.specs.UsePlaces.{is_constant}
+use Rattle.gql_fields.specs.UsePlaces.{is_constant}
 use Rattle.gql_lists.proofs.AllLemmas.{all_fails, all_more}
-use Rattle.gql_rules.proofs.constants.are_constant.Goals as goal
+use Rattle.gql_fields.proofs.constants.are_constant.Goals as goal
 
 pub returns-then-not-is_constant : goal.returns-then-not-is_constant
 returns-then-not-is_constant c =

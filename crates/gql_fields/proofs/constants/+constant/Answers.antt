@@ -1,9 +1,9 @@
 use Rattle.std.proofs.Common.{arith, ℕ, Bool, List, refl, sym, ◌∙◌, length}
 use Rattle.std.proofs.lemmas.Option.{slice_get_read}
 use Rattle.gql_doc.specs.declared.document.DocValue.{DocValue}
-use Rattle.gql_rules.specs.UsePlaces.{constant_member, is_constant}
+use Rattle.gql_fields.specs.UsePlaces.{constant_member, is_constant}
 use Rattle.gql_lists.proofs.AllLemmas.{all_fails, all_mapped, all_more, all_passed}
-use Rattle.gql_rules.proofs.constants.+constant.Goals as goal
+use Rattle.gql_fields.proofs.constants.+constant.Goals as goal
 
 pub items_are_constant-returns-then-not-is_constant : goal.items_are_constant-returns-then-not-is_constant
 items_are_constant-returns-then-not-is_constant t c =
