@@ -22,7 +22,7 @@ use Rattle.gql_exec.specs.Root.{root_for}
 use Rattle.gql_exec.specs.Scene.{scene_for}
 use Rattle.gql_exec.specs.declared.dynamic_request.DynamicRequest.{DynamicRequest}
 use Rattle.gql_exec.specs.declared.schema.Schema.{Schema}
-use Rattle.gql_engine.specs.Jobs.{Job}
+use Rattle.gql_objects.specs.Jobs.{Job}
 use Rattle.gql_engine.specs.ExecuteQuery.{job_subject, merged_response, merged_work, root_jobs}
 use Rattle.gql_engine.specs.ExecuteMutation.{key_jobs, key_work, last_world_of, serial_response}
 use Rattle.gql_request.specs.QueryEnv.{levels_of}

@@ -33,7 +33,7 @@ use Rattle.gql_exec.specs.Schema.{settings_of as schema_settings, types_in}
 use Rattle.gql_exec.specs.declared.dynamic_request.DynamicRequest.{DynamicRequest}
 use Rattle.gql_exec.specs.declared.schema.Schema.{Schema}
 use Rattle.gql_form.specs.declared.bench_form.BenchForm.{BenchForm}
-use Rattle.gql_engine.specs.Jobs.{Job}
+use Rattle.gql_objects.specs.Jobs.{Job}
 use Rattle.gql_engine.specs.ExecuteQuery.{job_subject, root_jobs}
 use Rattle.gql_engine.specs.ExecuteMutation.{key_jobs}
 use Rattle.gql_request.specs.BatchResponse.{responses_of}

@@ -13,16 +13,17 @@ use Rattle.gql_resolve.specs.Layers.{layers_of}
 use Rattle.gql_resolve.specs.declared.resolver_context.ResolverContext.{ResolverContext}
 use Rattle.gql_collect.specs.Asks.{arguments_in, resolver_in}
 use Rattle.gql_collect.specs.Groups.{united}
-use Rattle.gql_engine.specs.Jobs.{asked_by_job, Job}
+use Rattle.gql_engine.specs.GivenTasks.{asked_by_job}
+use Rattle.gql_objects.specs.Jobs.{Job}
 use Rattle.gql_collect.specs.Levels.{Asked, asked_by}
-use Rattle.gql_engine.specs.Parents.{path_to, rooted, steps_by, value_of}
-use Rattle.gql_engine.specs.Paths.{path_of}
-use Rattle.gql_engine.specs.Tasks.{job_of_task, jobs_in}
-use Rattle.gql_engine.specs.declared.objects.parent.Held.{Held}
-use Rattle.gql_engine.specs.declared.objects.parent.Held.TheVariants as held
-use Rattle.gql_engine.specs.declared.objects.step.Step.{Step}
-use Rattle.gql_engine.specs.declared.execute_field.task.Task.{Task}
-use Rattle.gql_engine.proofs.PathLemmas.{trail_some}
+use Rattle.gql_objects.specs.Parents.{path_to, rooted, steps_by, value_of}
+use Rattle.gql_objects.specs.Paths.{path_of}
+use Rattle.gql_objects.specs.Tasks.{job_of_task, jobs_in}
+use Rattle.gql_objects.specs.declared.parent.Held.{Held}
+use Rattle.gql_objects.specs.declared.parent.Held.TheVariants as held
+use Rattle.gql_objects.specs.declared.step.Step.{Step}
+use Rattle.gql_objects.specs.declared.task.Task.{Task}
+use Rattle.gql_objects.proofs.PathLemmas.{trail_some}
 
 and_true : (b : Bool) → (b && true) ≡ b
 and_true true = refl

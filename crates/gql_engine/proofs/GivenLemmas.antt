@@ -5,7 +5,6 @@ use Rattle.std.specs.declared.alloc.Global.{Global}
 use Rattle.std.specs.declared.rc.Rc.{Rc}
 use Rattle.std.specs.declared.vec.Vec.{Vec}
 use Rattle.gql_base.specs.TypeRef.{is_nullable}
-use Rattle.gql_base.specs.declared.path_segment.PathSegment.{PathSegment}
 use Rattle.gql_base.specs.declared.pos.Pos.{Pos}
 use Rattle.gql_base.specs.declared.value.Value.{Value}
 use Rattle.gql_tasks.specs.declared.given.Given.TheVariants.{Answered}
@@ -22,48 +21,31 @@ use Rattle.gql_select.specs.Collected.{own_selections}
 use Rattle.gql_collect.specs.Asks.{type_in}
 use Rattle.gql_select.specs.Behind.{all_behind}
 use Rattle.gql_collect.specs.GroupFields.{keeps_whole}
-use Rattle.gql_engine.specs.KeptTasks.{IsFilled}
+use Rattle.gql_objects.specs.KeptTasks.{IsFilled}
 use Rattle.gql_collect.specs.Groups.{united}
-use Rattle.gql_engine.specs.Jobs.{completed_by, Job, jobs_beneath}
-use Rattle.gql_engine.specs.Parents.{jobs_of_standing, spot_found, Standing, standing_at, standing_behind}
-use Rattle.gql_engine.specs.Assembly.{members_each, place_made}
+use Rattle.gql_objects.specs.Jobs.{completed_by, Job, jobs_beneath}
+use Rattle.gql_objects.specs.Parents.{jobs_of_standing, standing_at, standing_behind}
+use Rattle.gql_objects.specs.Assembly.{members_each, place_made}
 use Rattle.gql_complete.specs.CompleteValue.{IsLeaf, leaf_in}
 use Rattle.gql_complete.specs.FillShape.{tree_with}
 use Rattle.gql_engine.specs.PlanHolds.{ComesAlone, IsLeafAlone}
-use Rattle.gql_engine.specs.ListParents.{AreBelow}
-use Rattle.gql_engine.specs.CompletedObjects.{IsPlaced}
+use Rattle.gql_objects.specs.ListParents.{AreBelow}
+use Rattle.gql_objects.specs.CompletedObjects.{IsPlaced}
 use Rattle.gql_complete.specs.FoundObjects.{bare, Spot, spots}
-use Rattle.gql_engine.specs.Tasks.{IsDeep, job_of_task, job_with, path_with}
+use Rattle.gql_objects.specs.Tasks.{IsDeep, job_of_task, job_with, path_with}
 use Rattle.gql_collect.specs.declared.group.Group.{Group}
-use Rattle.gql_engine.specs.declared.assembly.kept.Filled.{Filled}
-use Rattle.gql_engine.specs.declared.assembly.kept.Placed.{Placed}
+use Rattle.gql_objects.specs.declared.assembly.kept.Filled.{Filled}
+use Rattle.gql_objects.specs.declared.assembly.kept.Placed.{Placed}
 use Rattle.gql_collect.specs.declared.level.Node.{Node}
-use Rattle.gql_engine.specs.declared.objects.parent.Found.{Found}
-use Rattle.gql_engine.specs.declared.objects.parent.Parent.{Parent}
-use Rattle.gql_engine.specs.declared.execute_field.task.Task.{Task}
-use Rattle.gql_engine.proofs.ObjectLevelLemmas.{deep_spots, found_below, placed_jobs}
+use Rattle.gql_objects.specs.declared.parent.Parent.{Parent}
+use Rattle.gql_objects.specs.declared.task.Task.{Task}
+use Rattle.gql_objects.proofs.ObjectLevelLemmas.{deep_spots, placed_jobs}
 use Rattle.gql_collect.proofs.LevelLemmas.{pos_with_others}
-use Rattle.gql_engine.proofs.FoundLemmas.{spots-Leaf}
+use Rattle.gql_objects.proofs.FoundLemmas.{spots-Leaf}
 
 -- a united field stands where its first occurrence does
 pub pos_united : (group : Group) → group.first.now.pos ≡ (united group).pos
 pos_united group = sym (pos_with_others group.first.now (all_behind group.more.items))
-
--- objects that were found in a completed answer
-module _ {V : Type 0} (made whole : Completed V) (path : List PathSegment) (start found : List (Found V)) (whole_is : made ≡ whole) (none : start ≡ [])
-    (found_is : map spot_found found ≡ map spot_found start ++ spots made path) where
-  found_spots : map spot_found found ≡ spots whole path
-  found_spots = found_is ∙ ap (λ fs. map spot_found fs ++ spots made path) none ∙ ap (λ w. spots w path) whole_is
-
-  pub completed_below : AreBelow (spots whole path)
-  completed_below = subst AreBelow found_spots (found_below found)
-
-  pub completed_parents : (at : Spot V → Standing V) (parents : List (Standing V)) → parents ≡ map at (map spot_found found) → parents ≡ map at (spots whole path)
-  completed_parents at parents is = is ∙ ap (map at) found_spots
-
-  pub completed_tasks : (at : Spot V → Standing V) (old new : List (Job V)) → new ≡ old ++ flat_map jobs_of_standing (map at (map spot_found found))
-      → new ≡ old ++ flat_map jobs_of_standing (map at (spots whole path))
-  completed_tasks at old new is = is ∙ ap (λ ss. old ++ flat_map jobs_of_standing (map at ss)) found_spots
 
 module _ {V : Type 0} (parent : Parent V) (node : Node) (answer : Answer V) where
   -- an answer that is completed and taken apart, with its objects

@@ -25,12 +25,12 @@ use Rattle.gql_select.specs.Collected.{own_selections}
 use Rattle.gql_select.specs.Documents.{placing_by}
 use Rattle.gql_select.specs.Grouped.{below_root, in_turn, respond_by}
 use Rattle.gql_collect.specs.Asks.{asking_by, asks_of}
-use Rattle.gql_engine.specs.Outcomes.{outcome_by}
+use Rattle.gql_objects.specs.Outcomes.{outcome_by}
 use Rattle.gql_collect.specs.Basis.{execution_of, setting_by}
 use Rattle.gql_engine.specs.TaskCounts.{counting_keys, counts_by, serial_count, serial_count_by, tasks_in, tasks_of}
 use Rattle.gql_collect.specs.GroupFields.{collected}
 use Rattle.gql_collect.specs.GroupFields.{groups_by}
-use Rattle.gql_engine.specs.Jobs.{Job, job_of, jobs_of_as}
+use Rattle.gql_objects.specs.Jobs.{Job, job_of, jobs_of_as}
 use Rattle.gql_engine.specs.ExecuteQuery.{basis_by, job_subject, Nests, root_selections, root_spot}
 use Rattle.gql_engine.specs.ExecuteMutation.{answer_in_phase, key_jobs_by, keys_of, levels_beneath}
 use Rattle.gql_complete.specs.FoundObjects.{Spot, spots}
@@ -41,8 +41,8 @@ use Rattle.gql_collect.specs.declared.basis.Basis.{Basis}
 use Rattle.gql_collect.specs.declared.basis.Grouping.{Grouping}
 use Rattle.gql_collect.specs.declared.basis.Grouping.TheVariants as grouping
 use Rattle.gql_collect.proofs.AsksLemmas.{asking_is}
-use Rattle.gql_engine.proofs.OutcomeLemmas.{outcome_is}
-use Rattle.gql_engine.proofs.ObjectLevelLemmas.{jobs_all_as}
+use Rattle.gql_objects.proofs.OutcomeLemmas.{outcome_is}
+use Rattle.gql_objects.proofs.ObjectLevelLemmas.{jobs_all_as}
 use Rattle.gql_engine.proofs.TaskCountLemmas.{counting_is, parents-Absent, parents-Leaf, spots_counted, TaskWithin}
 use Rattle.gql_engine.proofs.MutationLemmas.{below_outcome}
 use Rattle.gql_collect.proofs.NestingLemmas.{both_within, merged_all, nests_within}

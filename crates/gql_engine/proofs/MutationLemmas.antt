@@ -29,26 +29,26 @@ use Rattle.gql_select.specs.Grouped.{in_turn, respond_by, world_behind}
 use Rattle.gql_select.specs.Reading.{keyed}
 use Rattle.gql_select.proofs.UnitingLemmas.{distinct_united, either, united_distinct}
 use Rattle.gql_collect.specs.Asks.{asking_by, asks_of}
-use Rattle.gql_engine.specs.Outcomes.{outcome_by}
-use Rattle.gql_engine.specs.Members.{absent_place, members_with, typename_place}
-use Rattle.gql_engine.specs.Assembly.{IsRight}
+use Rattle.gql_objects.specs.Outcomes.{outcome_by}
+use Rattle.gql_objects.specs.Members.{absent_place, members_with, typename_place}
+use Rattle.gql_objects.specs.Assembly.{IsRight}
 use Rattle.gql_collect.specs.Basis.{execution_of, setting_by}
 use Rattle.gql_collect.specs.GroupFields.{collected}
 use Rattle.gql_collect.specs.GroupFields.{groups_by, keeps_whole}
-use Rattle.gql_engine.specs.Jobs.{Job, job_of, jobs_of_as}
+use Rattle.gql_objects.specs.Jobs.{Job, job_of, jobs_of_as}
 use Rattle.gql_collect.specs.Levels.{Asked, asked_in_as, asked_on}
-use Rattle.gql_engine.specs.ExecuteSelectionSet.{beneath_by}
+use Rattle.gql_objects.specs.ExecuteSelectionSet.{beneath_by}
 use Rattle.gql_engine.specs.ExecuteQuery.{basis_by, job_subject, Nests, root_selections, root_spot}
 use Rattle.gql_engine.specs.ExecuteMutation.{answer_in_phase, answering, key_jobs_by, keys_of, last_world_of, PlacedInTurn, serial_members_by}
-use Rattle.gql_engine.specs.PlaceStore.{present}
+use Rattle.gql_objects.specs.PlaceStore.{present}
 use Rattle.gql_collect.specs.Nesting.{IsWithin}
 use Rattle.gql_collect.specs.declared.asks.Asks.{Asks}
 use Rattle.gql_collect.specs.declared.asks.Asks.TheVariants as asks
 use Rattle.gql_collect.specs.declared.basis.Basis.{Basis}
 use Rattle.gql_collect.specs.declared.basis.Grouping.{Grouping}
 use Rattle.gql_collect.proofs.AsksLemmas.{asking_is}
-use Rattle.gql_engine.proofs.OutcomeLemmas.{outcome_is}
-use Rattle.gql_engine.proofs.MembersLemmas.{fill-Absent, fill-Leaf, places_under}
+use Rattle.gql_objects.proofs.OutcomeLemmas.{outcome_is}
+use Rattle.gql_objects.proofs.MembersLemmas.{fill-Absent, fill-Leaf, places_under}
 use Rattle.gql_collect.proofs.NestingLemmas.{both_within, merged_all, nests_within}
 
 -- one place more

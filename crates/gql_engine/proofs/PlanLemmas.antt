@@ -9,25 +9,27 @@ use Rattle.gql_tasks.specs.Plan.{HasMade}
 use Rattle.gql_tasks.specs.declared.given.Given.{Given}
 use Rattle.gql_tasks.specs.declared.given.Given.TheVariants.{Answered, Put}
 use Rattle.gql_place.specs.declared.piece.Piece.{Piece}
-use Rattle.gql_engine.specs.Entries.{laid}
-use Rattle.gql_engine.specs.Assembly.{IsMadeAlone}
-use Rattle.gql_engine.specs.KeptTasks.{entries_in, entry_of, IsFilledWith, made_beneath}
-use Rattle.gql_engine.specs.PlanHolds.{ComesAlone, HoldsGiven, HoldsSince, store_in}
-use Rattle.gql_engine.specs.Jobs.{completed_by, Job, jobs_at}
-use Rattle.gql_engine.specs.Parents.{standing_at, standing_behind}
-use Rattle.gql_engine.specs.PlaceStore.{PutsAt}
+use Rattle.gql_objects.specs.Entries.{laid}
+use Rattle.gql_objects.specs.Assembly.{IsMadeAlone}
+use Rattle.gql_objects.specs.KeptTasks.{entries_in, entry_of}
+use Rattle.gql_engine.specs.GivenTasks.{IsFilledWith, made_beneath}
+use Rattle.gql_engine.specs.PlanHolds.{ComesAlone, HoldsGiven, HoldsSince}
+use Rattle.gql_objects.specs.KeptTasks.{store_in}
+use Rattle.gql_objects.specs.Jobs.{completed_by, Job, jobs_at}
+use Rattle.gql_objects.specs.Parents.{standing_at, standing_behind}
+use Rattle.gql_objects.specs.PlaceStore.{PutsAt}
 use Rattle.gql_complete.specs.FoundObjects.{spots}
-use Rattle.gql_engine.specs.Tasks.{IsDeep, job_of_task, jobs_in}
+use Rattle.gql_objects.specs.Tasks.{IsDeep, job_of_task, jobs_in}
 use Rattle.gql_engine.specs.TreePlan.{HasKept, HoldsIn}
-use Rattle.gql_engine.specs.declared.assembly.kept.Filled.{Filled}
-use Rattle.gql_engine.specs.declared.assembly.kept.Kept.{Kept}
-use Rattle.gql_engine.specs.declared.execute_field.task.Task.{Task}
+use Rattle.gql_objects.specs.declared.assembly.kept.Filled.{Filled}
+use Rattle.gql_objects.specs.declared.assembly.kept.Kept.{Kept}
+use Rattle.gql_objects.specs.declared.task.Task.{Task}
 use Rattle.gql_engine.specs.declared.execute_field.tree_plan.TreePlan.{TreePlan}
 use Rattle.gql_tasks.proofs.BlockLemmas.{is-zero}
-use Rattle.gql_engine.proofs.AssemblyLemmas.{no_length}
-use Rattle.gql_engine.proofs.ObjectLevelLemmas.{every_at}
-use Rattle.gql_engine.proofs.EntryLemmas.{laid_more}
-use Rattle.gql_engine.proofs.PlaceStoreLemmas.{stored_beside, stored_more, stored_now, stored_put}
+use Rattle.gql_objects.proofs.AssemblyLemmas.{no_length}
+use Rattle.gql_objects.proofs.ObjectLevelLemmas.{every_at}
+use Rattle.gql_objects.proofs.EntryLemmas.{laid_more}
+use Rattle.gql_objects.proofs.PlaceStoreLemmas.{stored_beside, stored_more, stored_now, stored_put}
 
 -- a task was given something: what is kept of it stands behind the rest, its place is open, and the tasks under it stand after all tasks
 pub record Completes (V : Type 0) (tasks tasks' : List (Task V)) (kept kept' : List (Kept V)) (places places' : List (Option Piece)) (k : Kept V) (job : Job V)

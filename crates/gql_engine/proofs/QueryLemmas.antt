@@ -37,34 +37,34 @@ use Rattle.gql_resolve.specs.declared.answer.Answer.{Answer}
 use Rattle.gql_resolve.specs.declared.record_entry.RecordEntry.{RecordEntry}
 use Rattle.gql_resolve.specs.declared.resolver_set.ResolverSet.{Ghosts as Resolving}
 use Rattle.gql_resolve.specs.declared.turns.Turns.{Ghosts as Choosing}
-use Rattle.gql_engine.specs.Members.{members_with}
-use Rattle.gql_engine.specs.Assembly.{AllHeld, AreApart, beneath_due, IsAssembled, IsFilledDue, IsMadeAlone, IsRight}
+use Rattle.gql_objects.specs.Members.{members_with}
+use Rattle.gql_objects.specs.Assembly.{AllHeld, AreApart, beneath_due, IsAssembled, IsFilledDue, IsMadeAlone, IsRight}
 use Rattle.gql_collect.specs.Basis.{setting_by}
 use Rattle.gql_engine.specs.TaskCounts.{count_by}
 use Rattle.gql_collect.specs.GroupFields.{collected}
 use Rattle.gql_collect.specs.GroupFields.{groups_in, keeps_whole}
-use Rattle.gql_engine.specs.KeptTasks.{IsFilled}
+use Rattle.gql_objects.specs.KeptTasks.{IsFilled}
 use Rattle.gql_engine.specs.PlanHolds.{HoldsGiven, HoldsSince}
-use Rattle.gql_engine.specs.Jobs.{Job, jobs_at_as, jobs_beneath, jobs_by_as}
+use Rattle.gql_objects.specs.Jobs.{Job, jobs_at_as, jobs_beneath, jobs_by_as}
 use Rattle.gql_collect.specs.Levels.{asked_in_as, members_of}
-use Rattle.gql_engine.specs.Parents.{jobs_here, Standing, standing_at, standing_at_as, standing_of}
+use Rattle.gql_objects.specs.Parents.{jobs_here, Standing, standing_at, standing_at_as, standing_of}
 use Rattle.gql_engine.specs.ExecuteQuery.{basis_by, job_subject, Nests, own_jobs_by, response_by, root_jobs_by, root_selections, root_spot, work_by}
 use Rattle.gql_engine.specs.RootKeys.{IsKey}
 use Rattle.gql_engine.specs.NeverRoots.{jobs_as}
 use Rattle.gql_engine.specs.ExecuteMutation.{key_jobs_by}
-use Rattle.gql_engine.specs.PlaceStore.{IsStored, Store}
-use Rattle.gql_engine.specs.Tasks.{IsDeep, job_of_task, jobs_in}
+use Rattle.gql_objects.specs.PlaceStore.{IsStored, Store}
+use Rattle.gql_objects.specs.Tasks.{IsDeep, job_of_task, jobs_in}
 use Rattle.gql_collect.specs.Nesting.{AllNest}
 use Rattle.gql_collect.specs.declared.basis.Grouping.{Grouping}
-use Rattle.gql_engine.specs.declared.assembly.kept.Filled.{Filled}
+use Rattle.gql_objects.specs.declared.assembly.kept.Filled.{Filled}
 use Rattle.gql_collect.specs.declared.level.Level.{Level}
-use Rattle.gql_engine.specs.declared.objects.parent.Held.TheVariants as held
-use Rattle.gql_engine.specs.declared.execute_field.task.Task.{Task}
-use Rattle.gql_engine.proofs.ObjectLevelLemmas.{every_at, every_of, jobs_all, jobs_all_as}
+use Rattle.gql_objects.specs.declared.parent.Held.TheVariants as held
+use Rattle.gql_objects.specs.declared.task.Task.{Task}
+use Rattle.gql_objects.proofs.ObjectLevelLemmas.{every_at, every_of, jobs_all, jobs_all_as}
 use Rattle.gql_engine.proofs.TaskCountLemmas.{tasks_counted}
-use Rattle.gql_engine.proofs.JobLemmas.{at_root, root_level_jobs}
+use Rattle.gql_objects.proofs.JobLemmas.{at_root, root_level_jobs}
 use Rattle.gql_select.proofs.NestLemmas.{collected_nest}
-use Rattle.gql_engine.proofs.PlacedLemmas.{apart_at, root_right}
+use Rattle.gql_objects.proofs.PlacedLemmas.{apart_at, root_right}
 use Rattle.gql_collect.proofs.NestingLemmas.{nests_within}
 
 -- a list that begins with another

@@ -26,14 +26,14 @@ use Rattle.gql_resolve.specs.declared.record_entry.RecordEntry.{RecordEntry}
 use Rattle.gql_resolve.specs.declared.turns.Turns.{Ghosts as Choosing}
 use Rattle.gql_resolve.specs.declared.answer.Answer.{Answer}
 use Rattle.gql_resolve.specs.declared.resolver_set.ResolverSet.{Ghosts as Resolving}
-use Rattle.gql_engine.specs.Assembly.{AllHeldSince, ArePlaced, IsRight}
+use Rattle.gql_objects.specs.Assembly.{AllHeldSince, ArePlaced, IsRight}
 use Rattle.gql_engine.specs.PlanHolds.{HoldsSince}
-use Rattle.gql_engine.specs.Jobs.{Job}
+use Rattle.gql_objects.specs.Jobs.{Job}
 use Rattle.gql_engine.specs.RootKeys.{HasPlace, KeyCut, KeyOver, PutsLast}
-use Rattle.gql_engine.specs.PlaceStore.{Store}
-use Rattle.gql_engine.specs.Tasks.{IsDeep, job_of_task, jobs_in}
-use Rattle.gql_engine.specs.declared.assembly.kept.Filled.{Filled}
-use Rattle.gql_engine.specs.declared.execute_field.task.Task.{Task}
+use Rattle.gql_objects.specs.PlaceStore.{Store}
+use Rattle.gql_objects.specs.Tasks.{IsDeep, job_of_task, jobs_in}
+use Rattle.gql_objects.specs.declared.assembly.kept.Filled.{Filled}
+use Rattle.gql_objects.specs.declared.task.Task.{Task}
 use Rattle.gql_engine.proofs.QueryLemmas.{at_task, held_since, stored_due}
 
 set_last : {X : Type 0} (xs : List X) (x y : X) → slice_set (xs ++ x ∷ []) (length (xs ++ x ∷ []) - 1) y ≡ xs ++ y ∷ []

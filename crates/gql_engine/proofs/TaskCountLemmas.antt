@@ -35,12 +35,12 @@ use Rattle.gql_select.proofs.GroupLemmas.{by_merged_groups}
 use Rattle.gql_select.specs.Collected.{own_selections, Setting}
 use Rattle.gql_select.specs.Reading.{over}
 use Rattle.gql_collect.specs.Asks.{asking_by, asks_of}
-use Rattle.gql_engine.specs.Outcomes.{outcome_by}
+use Rattle.gql_objects.specs.Outcomes.{outcome_by}
 use Rattle.gql_collect.specs.Basis.{execution_of, setting_by}
 use Rattle.gql_engine.specs.TaskCounts.{count_by, counting_by, counts_by, merged_count, tasks_in, tasks_of}
 use Rattle.gql_collect.specs.GroupFields.{collected}
 use Rattle.gql_collect.specs.GroupFields.{groups_by, groups_in}
-use Rattle.gql_engine.specs.Jobs.{completed_by, Job, job_of, jobs_at, jobs_beneath, jobs_of}
+use Rattle.gql_objects.specs.Jobs.{completed_by, Job, job_of, jobs_at, jobs_beneath, jobs_of}
 use Rattle.gql_engine.specs.ExecuteQuery.{basis_by, basis_of, job_subject, Nests, root_jobs_by, root_selections, root_spot}
 use Rattle.gql_complete.specs.FoundObjects.{numbered, Spot, spots, spots_step}
 use Rattle.gql_collect.specs.Nesting.{IsWithin}
@@ -50,8 +50,8 @@ use Rattle.gql_collect.specs.declared.basis.Basis.{Basis}
 use Rattle.gql_collect.specs.declared.basis.Grouping.{Grouping}
 use Rattle.gql_collect.specs.declared.basis.Grouping.TheVariants as grouping
 use Rattle.gql_collect.proofs.AsksLemmas.{asking_is}
-use Rattle.gql_engine.proofs.OutcomeLemmas.{outcome_is}
-use Rattle.gql_engine.proofs.ObjectLevelLemmas.{every_flat, every_of, jobs_all}
+use Rattle.gql_objects.proofs.OutcomeLemmas.{outcome_is}
+use Rattle.gql_objects.proofs.ObjectLevelLemmas.{every_flat, every_of, jobs_all}
 use Rattle.gql_collect.proofs.NestingLemmas.{both_within, every_map, groups_all, groups_none, nests_within}
 
 -- Sums.

@@ -19,11 +19,11 @@ use Rattle.gql_select.specs.Collected.{own_selections}
 use Rattle.gql_select.specs.Documents.{reading}
 use Rattle.gql_select.specs.Grouped.{in_turn, Mutating, serial_grouped, serial_respond, world_behind}
 use Rattle.gql_select.specs.Reading.{merged}
-use Rattle.gql_engine.specs.Assembly.{IsRight}
+use Rattle.gql_objects.specs.Assembly.{IsRight}
 use Rattle.gql_collect.specs.Basis.{execution_of, setting_by}
 use Rattle.gql_collect.specs.GroupFields.{collected}
-use Rattle.gql_engine.specs.Jobs.{Job, jobs_at_as}
-use Rattle.gql_engine.specs.ExecuteSelectionSet.{members_by}
+use Rattle.gql_objects.specs.Jobs.{Job, jobs_at_as}
+use Rattle.gql_objects.specs.ExecuteSelectionSet.{members_by}
 use Rattle.gql_engine.specs.ExecuteQuery.{basis_by, basis_of, job_subject, place_at_root, root_selections}
 use Rattle.gql_engine.specs.ExecuteQuery.{root_spot}
 use Rattle.gql_collect.specs.declared.basis.Grouping.{Grouping}

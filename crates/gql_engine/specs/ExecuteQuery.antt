@@ -18,8 +18,9 @@ use Rattle.gql_select.specs.Conflicts.{Agree}
 use Rattle.gql_select.specs.Documents.{placing_by, reading}
 use Rattle.gql_select.specs.Grouped.{grouped, Placing, respond}
 use Rattle.gql_collect.specs.Basis.{execution_of, setting_by}
-use Rattle.gql_engine.specs.Jobs.{asked_by_job, Job, jobs_at, jobs_at_as, jobs_beneath}
-use Rattle.gql_engine.specs.ExecuteSelectionSet.{members_by}
+use Rattle.gql_engine.specs.GivenTasks.{asked_by_job}
+use Rattle.gql_objects.specs.Jobs.{Job, jobs_at, jobs_at_as, jobs_beneath}
+use Rattle.gql_objects.specs.ExecuteSelectionSet.{members_by}
 use Rattle.gql_complete.specs.FoundObjects.{Spot}
 use Rattle.gql_collect.specs.declared.basis.Basis.{Basis}
 use Rattle.gql_collect.specs.declared.basis.Grouping.{Grouping}

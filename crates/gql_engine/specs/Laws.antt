@@ -11,7 +11,6 @@ use Rattle.gql_engine.specs.declared.scene.Scene.{Scene}
 use Rattle.gql_meaning.specs.Completion.{Completed}
 use Rattle.gql_collect.specs.Execution.{Execution, field_asking}
 use Rattle.gql_place.specs.Filled.{fill}
-use Rattle.gql_place.specs.declared.place.Place.{Place}
 use Rattle.gql_resolve.specs.Call.{Call}
 use Rattle.gql_resolve.specs.declared.answer.Answer.{Answer}
 use Rattle.gql_resolve.specs.declared.field_value.FieldValue.{FieldValue}
@@ -20,12 +19,11 @@ use Rattle.gql_doc.specs.Depth.{deep_from, field_set, selections_of}
 use Rattle.gql_doc.specs.declared.document.SelectionSet.{SelectionSet}
 use Rattle.gql_select.specs.Collected.{collect_within, own_selections, Setting}
 use Rattle.gql_collect.specs.Asks.{asking_by, asks_of}
-use Rattle.gql_engine.specs.Members.{members_with}
 use Rattle.gql_engine.specs.TaskCounts.{count_by, merged_count, serial_count, serial_count_by}
 use Rattle.gql_complete.specs.FillShape.{tree_with}
-use Rattle.gql_engine.specs.Jobs.{jobs_at, jobs_by}
+use Rattle.gql_objects.specs.Jobs.{jobs_at, jobs_by}
 use Rattle.gql_collect.specs.Levels.{asked_in}
-use Rattle.gql_engine.specs.ExecuteSelectionSet.{beneath_by, members_by, place_by}
+use Rattle.gql_objects.specs.ExecuteSelectionSet.{beneath_by, members_by}
 use Rattle.gql_engine.specs.ExecuteQuery.{AgreesInside, apart_response, merged_response, response_by}
 use Rattle.gql_engine.specs.ExecuteMutation.{serial_apart_response, serial_response, serial_response_by}
 use Rattle.gql_complete.specs.FoundObjects.{bare, Spot, spots}
@@ -39,13 +37,6 @@ FieldsAskTheirCalls V =
     (field : Positioned Field)
     → field_asking is_root execution object parent field
     ≡ asking_by is_root execution.layers parent (asks_of execution object field)
-
-module _ {V : Type 0} (basis : Basis) (answer : Call V → Answer V) (n : ℕ) where
-  -- the members of an object, of the places of its tasks
-  abbrev pub members_of_tasks : List (Positioned Selection) → Spot V → List (List ℕ × Place)
-  members_of_tasks selections spot =
-      members_with spot.object (asked_in basis spot.object selections)
-      (map (place_by basis answer n) (jobs_at basis selections spot))
 
 -- the places of the tasks of an object, with one level of sets less, make its members
 abbrev pub MembersAreMerged : (V : Type 0) → Type 0

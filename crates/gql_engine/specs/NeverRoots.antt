@@ -20,8 +20,9 @@ use Rattle.gql_select.specs.Collected.{own_selections}
 use Rattle.gql_select.specs.Constants.{constants}
 use Rattle.gql_collect.specs.Basis.{execution_of}
 use Rattle.gql_collect.specs.GroupFields.{groups_in}
-use Rattle.gql_engine.specs.Jobs.{asked_by_job, completed_by, Job, job_at, job_of, jobs_at}
-use Rattle.gql_engine.specs.Jobs.{jobs_at_as, jobs_beneath, jobs_of_as}
+use Rattle.gql_engine.specs.GivenTasks.{asked_by_job}
+use Rattle.gql_objects.specs.Jobs.{completed_by, Job, job_at, job_of, jobs_at}
+use Rattle.gql_objects.specs.Jobs.{jobs_at_as, jobs_beneath, jobs_of_as}
 use Rattle.gql_complete.specs.FoundObjects.{Spot, spots}
 use Rattle.gql_collect.specs.declared.basis.Basis.{Basis}
 

@@ -1,6 +1,6 @@
 -- What a plan holds of its tasks: the places of those with none under them, and what is kept of
 -- the others.
-use Rattle.std.specs.Prelude.{◌≡◌, ◌<◌, ◌⊎◌, ℕ, false, List, [], Option, None, Ok}
+use Rattle.std.specs.Prelude.{◌≡◌, ◌<◌, ◌⊎◌, ℕ, false, List, [], None, Ok}
 use Rattle.gql_tasks.specs.declared.given.Given.{Given}
 use Rattle.gql_tasks.specs.declared.given.Given.TheVariants.{Put}
 use Rattle.gql_place.specs.declared.piece.Piece.{Piece}
@@ -8,21 +8,16 @@ use Rattle.gql_meaning.specs.Completion.{shape_of}
 use Rattle.gql_resolve.specs.declared.answer.Answer.{Answer}
 use Rattle.gql_schema.specs.Table.{types_of}
 use Rattle.gql_collect.specs.Asks.{type_in}
-use Rattle.gql_engine.specs.Assembly.{IsMadeAlone}
+use Rattle.gql_objects.specs.Assembly.{IsMadeAlone}
 use Rattle.gql_complete.specs.CompleteValue.{IsLeaf, leaf_in}
-use Rattle.gql_engine.specs.KeptTasks.{entries_in, IsFilledWith, made_beneath}
+use Rattle.gql_engine.specs.GivenTasks.{IsFilledWith, made_beneath}
 use Rattle.gql_collect.specs.GroupFields.{keeps_whole}
-use Rattle.gql_engine.specs.Jobs.{Job}
-use Rattle.gql_engine.specs.PlaceStore.{IsStored, Store}
-use Rattle.gql_engine.specs.declared.assembly.kept.Filled.{Filled}
-use Rattle.gql_engine.specs.declared.assembly.kept.Kept.{Kept}
+use Rattle.gql_objects.specs.Jobs.{Job}
+use Rattle.gql_objects.specs.PlaceStore.{IsStored, Store}
+use Rattle.gql_objects.specs.declared.assembly.kept.Filled.{Filled}
 use Rattle.gql_collect.specs.declared.level.Node.{Node}
 
 module _ {V : Type 0} where
-  -- what is stored of the tasks of a plan
-  abbrev pub store_in : List (Kept V) → List (Option Piece) → Store (Filled V) Piece
-  store_in kept places = record { entries = entries_in kept; places = places }
-
   -- what a task was given last is stored
   abbrev pub HoldsGiven : List (Job V) → Store (Filled V) Piece → ℕ → Given V → Type 0
   HoldsGiven jobs store number given =

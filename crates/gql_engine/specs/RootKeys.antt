@@ -6,8 +6,8 @@ use Rattle.gql_tasks.specs.Phases.{CutInTurn, InTurn}
 use Rattle.gql_place.specs.declared.piece.Piece.{Piece}
 use Rattle.gql_resolve.specs.Call.{Call}
 use Rattle.gql_resolve.specs.declared.answer.Answer.{Answer}
-use Rattle.gql_engine.specs.Assembly.{IsRight}
-use Rattle.gql_engine.specs.Jobs.{Job}
+use Rattle.gql_objects.specs.Assembly.{IsRight}
+use Rattle.gql_objects.specs.Jobs.{Job}
 
 module _ {R Own World Future L H P : Type 0} (e : Parts R Own World Future L H P)
     (old new : Moment R Future L H P) (root : e.plan.Task) where

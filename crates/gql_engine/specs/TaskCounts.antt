@@ -16,7 +16,7 @@ use Rattle.gql_select.specs.Documents.{placing_by, reading}
 use Rattle.gql_select.specs.Grouped.{grouped, in_turn, Mutating, Placing, respond_by, serial_grouped}
 use Rattle.gql_collect.specs.Basis.{execution_of, setting_by}
 use Rattle.gql_collect.specs.GroupFields.{groups_by}
-use Rattle.gql_engine.specs.Jobs.{completed_by, Job}
+use Rattle.gql_objects.specs.Jobs.{completed_by, Job}
 use Rattle.gql_engine.specs.ExecuteQuery.{basis_by, basis_of, root_selections, root_spot}
 use Rattle.gql_engine.specs.ExecuteMutation.{keys_of, levels_beneath, root_asked}
 use Rattle.gql_complete.specs.FoundObjects.{spots}

@@ -2,10 +2,11 @@
 use Rattle.std.specs.Prelude.{◌≡◌, ℕ, Some, slice_get}
 use Rattle.gql_tasks.specs.Plan.{HasMade}
 use Rattle.gql_tasks.specs.declared.given.Given.{Given}
-use Rattle.gql_engine.specs.KeptTasks.{made_beneath}
-use Rattle.gql_engine.specs.PlanHolds.{HoldsSince, store_in}
-use Rattle.gql_engine.specs.Jobs.{Job}
-use Rattle.gql_engine.specs.Tasks.{jobs_in}
+use Rattle.gql_engine.specs.GivenTasks.{made_beneath}
+use Rattle.gql_engine.specs.PlanHolds.{HoldsSince}
+use Rattle.gql_objects.specs.KeptTasks.{store_in}
+use Rattle.gql_objects.specs.Jobs.{Job}
+use Rattle.gql_objects.specs.Tasks.{jobs_in}
 use Rattle.gql_engine.specs.declared.execute_field.tree_plan.TreePlan.{TreePlan}
 
 module _ {V : Type 0} where

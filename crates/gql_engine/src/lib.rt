@@ -5,13 +5,11 @@
 #![tactic(auto)]
 
 mod apart;
-mod assembly;
 mod execute_field;
 mod execute_mutation;
 mod execute_query;
 pub mod laws;
 mod merged;
-mod objects;
 mod root_keys;
 mod scene;
 mod shared;

@@ -19,7 +19,7 @@ use Rattle.gql_exec.specs.Scene.{shown}
 use Rattle.gql_collect.specs.Execution.{Asking, Execution, field_asking, setting_in}
 use Rattle.gql_meaning.specs.Responses.{Asked, placed, root_place, world_after}
 use Rattle.gql_collect.specs.Basis.{execution_of}
-use Rattle.gql_engine.specs.Jobs.{Job, completed_by, job_of, jobs_at, jobs_at_as, jobs_beneath}
+use Rattle.gql_objects.specs.Jobs.{Job, completed_by, job_of, jobs_at, jobs_at_as, jobs_beneath}
 use Rattle.gql_collect.specs.GroupFields.{grouping_at, groups_by}
 use Rattle.gql_engine.specs.ExecuteQuery.{basis_by, basis_of, merged_response, root_jobs_by, root_selections, root_spot, work_by}
 use Rattle.gql_engine.specs.ExecuteMutation.{key_jobs_by, last_world_of, levels_beneath, root_asked, serial_response}

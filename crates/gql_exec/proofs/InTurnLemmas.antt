@@ -11,7 +11,7 @@ use Rattle.gql_engine.specs.declared.scene.Scene.{Scene}
 use Rattle.gql_exec.proofs.BareLemmas.{beneath-bare, keys-bare}
 use Rattle.gql_exec.proofs.RecordLemmas.{mapped, ran-mapped, staged, stopped-mapped}
 use Rattle.gql_exec.specs.Bare.{bare_job, bare_scene}
-use Rattle.gql_engine.specs.Jobs.{Job}
+use Rattle.gql_objects.specs.Jobs.{Job}
 use Rattle.gql_engine.specs.ExecuteQuery.{job_subject}
 use Rattle.gql_engine.proofs.MutationLemmas.{last_past}
 use Rattle.gql_engine.specs.ExecuteMutation.{key_jobs_by, key_work_by, last_world_of}

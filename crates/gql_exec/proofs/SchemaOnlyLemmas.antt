@@ -28,7 +28,7 @@ use Rattle.gql_exec.specs.declared.schema.Schema.{Schema}
 use Rattle.gql_collect.specs.Execution.{Execution, field_asking, is_typename}
 use Rattle.gql_collect.specs.Basis.{execution_of, is_introspection_only}
 use Rattle.gql_collect.specs.GroupFields.{groups_in}
-use Rattle.gql_engine.specs.Jobs.{job_of, jobs_at_as}
+use Rattle.gql_objects.specs.Jobs.{job_of, jobs_at_as}
 use Rattle.gql_engine.specs.ExecuteQuery.{basis_by, root_selections, root_spot, work_by}
 use Rattle.gql_engine.specs.ExecuteMutation.{key_work_by}
 use Rattle.gql_collect.specs.declared.basis.Grouping.{Grouping}

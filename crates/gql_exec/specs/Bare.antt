@@ -2,7 +2,7 @@
 use Rattle.std.specs.Option.{option_map}
 use Rattle.gql_engine.specs.declared.scene.Scene.{Scene}
 use Rattle.gql_exec.specs.Scene.{shown}
-use Rattle.gql_engine.specs.Jobs.{Job}
+use Rattle.gql_objects.specs.Jobs.{Job}
 use Rattle.gql_collect.specs.declared.basis.Basis.{Basis}
 use Rattle.gql_resolve.specs.declared.layers.Layers.{Layers}
 

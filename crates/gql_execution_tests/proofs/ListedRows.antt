@@ -11,14 +11,14 @@ use Rattle.gql_place.specs.declared.shape.Shape.TheVariants as shape
 use Rattle.gql_resolve.specs.declared.field_value.FieldValue.{the_lemmas as given_lemmas}
 use Rattle.gql_resolve.specs.declared.field_value.FieldValue.TheVariants as kind
 use Rattle.gql_complete.specs.CompleteValue.{leaf_in}
-use Rattle.gql_engine.specs.ListParents.{item_spots}
+use Rattle.gql_objects.specs.ListParents.{item_spots}
 use Rattle.gql_complete.specs.ObjectLists.{items_given, IsListing, objects_in}
 use Rattle.gql_complete.specs.ObjectLists.IsListing.{list_of_names, non_null_list}
 use Rattle.gql_complete.specs.ObjectLists.IsNamed.{non_null_name, of_name}
-use Rattle.gql_engine.specs.Parents.{steps_by}
-use Rattle.gql_engine.specs.Paths.{index_step}
-use Rattle.gql_engine.specs.declared.objects.parent.Trail.{Trail}
-use Rattle.gql_engine.specs.declared.objects.step.Step.TheVariants as step
+use Rattle.gql_objects.specs.Parents.{steps_by}
+use Rattle.gql_objects.specs.Paths.{index_step}
+use Rattle.gql_objects.specs.declared.parent.Trail.{Trail}
+use Rattle.gql_objects.specs.declared.step.Step.TheVariants as step
 
 never_null : not (is_nullable (ref.NonNull (ref.Named (codes "Row")))) ≡ true
 never_null = search (rules, the_lemmas)

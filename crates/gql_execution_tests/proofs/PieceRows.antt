@@ -8,14 +8,14 @@ use Rattle.gql_place.specs.declared.place.Tree.TheVariants as tree
 use Rattle.gql_place.specs.declared.shape.Shape.{the_lemmas}
 use Rattle.gql_place.specs.declared.shape.Shape.TheVariants as shape
 use Rattle.gql_place.proofs.PieceLemmas.{leaf_same}
-use Rattle.gql_engine.specs.Assembly.{AreApart, IsMadeAlone, members_each, place_made}
+use Rattle.gql_objects.specs.Assembly.{AreApart, IsMadeAlone, members_each, place_made}
 use Rattle.gql_complete.specs.FillShape.{tree_with}
 use Rattle.gql_collect.specs.GroupFields.{keeps_whole}
 use Rattle.gql_collect.specs.Levels.{Asked}
-use Rattle.gql_engine.specs.Parents.{Standing, standing_behind}
+use Rattle.gql_objects.specs.Parents.{Standing, standing_behind}
 use Rattle.gql_complete.specs.FoundObjects.{Bare, Spot}
 use Rattle.gql_collect.specs.declared.basis.Grouping.TheVariants as grouping
-use Rattle.gql_engine.specs.declared.assembly.kept.Filled.{Filled}
+use Rattle.gql_objects.specs.declared.assembly.kept.Filled.{Filled}
 
 -- one task for each key: data alone, unless the place itself is wanted
 merged_keeps_data : keeps_whole grouping.ByKey ≡ false

@@ -1,6 +1,6 @@
 -- What is stored of tasks, on an example of three: the place of the first is there, the second has the third under it, and its place is open.
 use Rattle.std.proofs.Common.{◌≡◌, ℕ, zero, suc, ◌+◌, List, [], ◌∷◌, Option, Some, None, refl, inl, inr, arith}
-use Rattle.gql_engine.specs.PlaceStore.{IsStored, stands_for, Store}
+use Rattle.gql_objects.specs.PlaceStore.{IsStored, stands_for, Store}
 
 two : List (Option ℕ)
 two = Some 10 ∷ None ∷ []

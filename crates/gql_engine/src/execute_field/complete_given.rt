@@ -2,17 +2,14 @@
 ghost use Rattle.std.specs.Prelude.{◌≡◌, ◌++◌, true, IfOk, OnOk};
 ghost use Rattle.std.specs.List.{AllByRecursion};
 ghost use Rattle.gql_collect.specs.Asks.{is_call};
-ghost use Rattle.gql_engine.specs.KeptTasks.{IsFilled, IsFilledWith, made_beneath, put_shape};
-ghost use Rattle.gql_engine.specs.Jobs.{jobs_beneath};
-ghost use Rattle.gql_engine.specs.Tasks.{IsDeep, job_of_task, jobs_in, job_with};
+ghost use Rattle.gql_objects.specs.KeptTasks.{IsFilled};
+ghost use Rattle.gql_engine.specs.GivenTasks.{IsFilledWith, made_beneath, put_shape};
+ghost use Rattle.gql_objects.specs.Jobs.{jobs_beneath};
+ghost use Rattle.gql_objects.specs.Tasks.{IsDeep, job_of_task, jobs_in, job_with};
 
-use crate::assembly::bare::Bare;
-use crate::assembly::kept::Filled;
-use crate::execute_field::complete_answer::place_answer;
-use crate::execute_field::task::Task;
-use crate::objects::parent::Parent;
 use gql_base::{Error, Items, Made, Value};
 use gql_collect::Node;
+use gql_objects::{Bare, Filled, Parent, Task, place_answer};
 use gql_place::Shape;
 use gql_resolve::Answer;
 use gql_tasks::Given;

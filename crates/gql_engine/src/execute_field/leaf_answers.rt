@@ -5,14 +5,12 @@ ghost use Rattle.gql_tasks.specs.declared.given.Given.TheVariants.{Answered};
 ghost use Rattle.gql_place.specs.declared.piece.Piece.TheVariants as kept;
 ghost use Rattle.gql_collect.specs.Asks.{is_call};
 ghost use Rattle.gql_engine.specs.PlanHolds.{ComesAlone, IsLeafAlone};
-ghost use Rattle.gql_engine.specs.Tasks.{job_of_task};
+ghost use Rattle.gql_objects.specs.Tasks.{job_of_task};
 
-use crate::execute_field::complete_answer::known_of;
-use crate::execute_field::task::Task;
-use crate::objects::parent::Parent;
 use gql_base::Value;
 use gql_collect::Node;
 use gql_complete::{is_leaf, leaf_in};
+use gql_objects::{Parent, Task, known_of};
 use gql_resolve::Answer;
 use gql_tasks::Given;
 use std::alloc::Global;

@@ -1,22 +1,21 @@
 ghost use Rattle.std.specs.Prelude.{ℕ, ◌≡◌, ◌≤◌, Some, length, slice_get};
 ghost use Rattle.std.specs.Option.{option_copied};
 ghost use Rattle.gql_tasks.specs.Plan.{alias_in};
-ghost use Rattle.gql_engine.specs.Entries.{laid};
-ghost use Rattle.gql_engine.specs.KeptTasks.{entries_in};
+ghost use Rattle.gql_objects.specs.Entries.{laid};
+ghost use Rattle.gql_objects.specs.KeptTasks.{entries_in};
 ghost use Rattle.gql_collect.specs.Groups.{united};
-ghost use Rattle.gql_engine.specs.Tasks.{IsDeep, job_of_task};
-ghost use Rattle.gql_engine.specs.declared.execute_field.task.Task.{Task as TaskOf};
+ghost use Rattle.gql_objects.specs.Tasks.{IsDeep, job_of_task};
+ghost use Rattle.gql_objects.specs.declared.task.Task.{Task as TaskOf};
 
-use crate::assembly::assemble::{open_place, piece_alone, put_place_at, reserve_places};
-use crate::assembly::kept::Kept;
 use crate::execute_field::complete_given::fill_given;
 use crate::execute_field::leaf_answers::leaf_alone;
-use crate::execute_field::task::Task;
-use crate::objects::paths::{value_in, write_path};
 use gql_base::{Made, PathSegment};
 use gql_collect::Node;
 use gql_doc::Field;
 use gql_input::ObjectAccessor;
+use gql_objects::{
+    Kept, Task, open_place, piece_alone, put_place_at, reserve_places, value_in, write_path,
+};
 use gql_place::Piece;
 use gql_request::{QueryPathNode, ResolveInfo};
 use gql_resolve::ResolverContext;
@@ -47,9 +46,10 @@ impl<'a, V: Drop> TreePlan<'a, V> {
     ghost use Rattle.std.specs.Prelude.{ℕ, ◌≡◌, ◌<◌, ◌++◌, ◌∷◌, [], Ok, None, Some, length, IfOk};
     ghost use Rattle.std.specs.Prelude.{OnOk};
     ghost use Rattle.gql_tasks.specs.declared.given.Given.TheVariants.{Put};
-    ghost use Rattle.gql_engine.specs.PlaceStore.{PutsAt};
-    ghost use Rattle.gql_engine.specs.PlanHolds.{HoldsSince, store_in};
-    ghost use Rattle.gql_engine.specs.Tasks.{job_of_task, jobs_in};
+    ghost use Rattle.gql_objects.specs.PlaceStore.{PutsAt};
+    ghost use Rattle.gql_engine.specs.PlanHolds.{HoldsSince};
+    ghost use Rattle.gql_objects.specs.KeptTasks.{store_in};
+    ghost use Rattle.gql_objects.specs.Tasks.{job_of_task, jobs_in};
     ghost use Rattle.gql_engine.specs.TreePlan.{HasKept};
 
     /// A plan without tasks.
@@ -144,9 +144,11 @@ impl<'a, V: Drop> Plan<V> for TreePlan<'a, V> {
     ghost use Rattle.gql_tasks.specs.Given.{beneath_given};
     ghost use Rattle.gql_tasks.specs.Plan.{HasMade};
     ghost use Rattle.gql_tasks.specs.declared.given.Given.{Given as GivenTo};
-    ghost use Rattle.gql_engine.specs.PlanHolds.{HoldsSince, store_in};
-    ghost use Rattle.gql_engine.specs.Jobs.{asked_by_job, Job, jobs_beneath};
-    ghost use Rattle.gql_engine.specs.Tasks.{IsAimed, jobs_in};
+    ghost use Rattle.gql_engine.specs.PlanHolds.{HoldsSince};
+    ghost use Rattle.gql_objects.specs.KeptTasks.{store_in};
+    ghost use Rattle.gql_engine.specs.GivenTasks.{asked_by_job};
+    ghost use Rattle.gql_objects.specs.Jobs.{Job, jobs_beneath};
+    ghost use Rattle.gql_objects.specs.Tasks.{IsAimed, jobs_in};
     ghost use Rattle.gql_engine.specs.NeverRoots.{none_is_root};
 
     ghost Task = { Job V };

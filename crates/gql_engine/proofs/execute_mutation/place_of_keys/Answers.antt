@@ -2,9 +2,9 @@ use Rattle.std.proofs.Common.{map, subst}
 use Rattle.gql_meaning.specs.Responses.{root_place}
 use Rattle.gql_place.specs.Alike.{Same}
 use Rattle.gql_place.specs.Pieces.{place_in}
-use Rattle.gql_engine.specs.Members.{members_with}
-use Rattle.gql_engine.specs.Parents.{standing_behind}
-use Rattle.gql_engine.specs.PlaceStore.{present}
+use Rattle.gql_objects.specs.Members.{members_with}
+use Rattle.gql_objects.specs.Parents.{standing_behind}
+use Rattle.gql_objects.specs.PlaceStore.{present}
 use Rattle.gql_engine.proofs.execute_mutation.place_of_keys.Goals as goal
 
 pub returns-in-Ok-clause-place : goal.returns-in-Ok-clause-place

@@ -15,16 +15,17 @@ use Rattle.gql_meaning.specs.Responses.{root_place}
 use Rattle.gql_place.specs.Alike.{Same}
 use Rattle.gql_place.specs.Pieces.{place_in}
 use Rattle.gql_place.proofs.PieceLemmas.{same_trans}
-use Rattle.gql_engine.specs.Members.{members_with}
-use Rattle.gql_engine.specs.Assembly.{AreApart}
+use Rattle.gql_objects.specs.Members.{members_with}
+use Rattle.gql_objects.specs.Assembly.{AreApart}
 use Rattle.gql_collect.specs.GroupFields.{keeps_whole}
-use Rattle.gql_engine.specs.Jobs.{asked_by_job, Job}
-use Rattle.gql_engine.specs.Parents.{jobs_here, Standing, standing_behind}
+use Rattle.gql_engine.specs.GivenTasks.{asked_by_job}
+use Rattle.gql_objects.specs.Jobs.{Job}
+use Rattle.gql_objects.specs.Parents.{jobs_here, Standing, standing_behind}
 use Rattle.gql_engine.specs.ExecuteQuery.{job_subject}
 use Rattle.gql_engine.specs.ExecuteMutation.{key_jobs_by, key_work_by, no_jobs, PlacedInTurn}
-use Rattle.gql_engine.specs.PlaceStore.{present}
-use Rattle.gql_engine.specs.Tasks.{jobs_in}
-use Rattle.gql_engine.specs.declared.execute_field.task.Task.{Task}
+use Rattle.gql_objects.specs.PlaceStore.{present}
+use Rattle.gql_objects.specs.Tasks.{jobs_in}
+use Rattle.gql_objects.specs.declared.task.Task.{Task}
 use Rattle.std.specs.List.{AllByRecursion}
 use Rattle.gql_engine.specs.RootKeys.{IsKey}
 use Rattle.gql_engine.proofs.RootKeyLemmas.{halts_none, stage_none, steps_in_turn, turn_answered}

@@ -2,12 +2,12 @@ use Rattle.std.proofs.Common.{◌≤◌, ◌∙◌, Some, length, take, ap, subs
 use Rattle.std.proofs.lemmas.List.{length-map}
 use Rattle.std.proofs.lemmas.Result.{IfOk-weaker}
 use Rattle.gql_place.specs.Alike.{Paired}
-use Rattle.gql_engine.specs.Assembly.{IsRight}
-use Rattle.gql_engine.specs.KeptTasks.{entries_in}
-use Rattle.gql_engine.specs.PlaceStore.{present}
-use Rattle.gql_engine.specs.Tasks.{job_of_task, jobs_in}
-use Rattle.gql_engine.proofs.AssemblyLemmas.{held_over, placed_paired, zero_low}
-use Rattle.gql_engine.proofs.EntryLemmas.{laid_grows}
+use Rattle.gql_objects.specs.Assembly.{IsRight}
+use Rattle.gql_objects.specs.KeptTasks.{entries_in}
+use Rattle.gql_objects.specs.PlaceStore.{present}
+use Rattle.gql_objects.specs.Tasks.{job_of_task, jobs_in}
+use Rattle.gql_objects.proofs.AssemblyLemmas.{held_over, placed_paired, zero_low}
+use Rattle.gql_objects.proofs.EntryLemmas.{laid_grows}
 use Rattle.gql_engine.proofs.execute_query.place_of_root.Goals as goal
 
 pub assemble-requires : goal.assemble-requires

@@ -1,6 +1,6 @@
 use Rattle.std.proofs.Common.{ap, ◌∙◌}
-use Rattle.gql_engine.specs.Parents.{jobs_here}
-use Rattle.gql_engine.specs.declared.objects.parent.Parent.{Parent}
+use Rattle.gql_objects.specs.Parents.{jobs_here}
+use Rattle.gql_objects.specs.declared.parent.Parent.{Parent}
 use Rattle.gql_engine.proofs.QueryLemmas.{root_here}
 use Rattle.gql_engine.proofs.execute_query.root_of.Goals as goal
 

@@ -4,11 +4,11 @@ use Rattle.gql_base.specs.Pairs.{HasDistinctNames}
 use Rattle.gql_place.specs.Alike.{SameMembers}
 use Rattle.gql_place.specs.Pieces.{members_in, place_in}
 use Rattle.gql_place.proofs.PieceLemmas.{same_trans}
-use Rattle.gql_engine.specs.Members.{members_with}
+use Rattle.gql_objects.specs.Members.{members_with}
 use Rattle.gql_collect.specs.Levels.{members_of}
-use Rattle.gql_engine.specs.PlaceStore.{present}
+use Rattle.gql_objects.specs.PlaceStore.{present}
 use Rattle.gql_collect.specs.declared.level.Level.{Level}
-use Rattle.gql_engine.specs.declared.objects.parent.Parent.{Parent}
+use Rattle.gql_objects.specs.declared.parent.Parent.{Parent}
 use Rattle.gql_engine.proofs.QueryLemmas.{root_same}
 use Rattle.gql_engine.proofs.execute_query.root_piece.Goals as goal
 

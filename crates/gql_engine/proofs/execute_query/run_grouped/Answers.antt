@@ -9,14 +9,15 @@ use Rattle.gql_tasks.specs.Parts.{at, due_by}
 use Rattle.gql_tasks.specs.Progress.{seen_in}
 use Rattle.gql_tasks.specs.Rounds.{KeepNumbers, RoundsStopped, RoundsWhole}
 use Rattle.gql_resolve.specs.Call.{is_mutation}
-use Rattle.gql_engine.specs.Assembly.{AreApart, IsAssembled}
-use Rattle.gql_engine.specs.PlanHolds.{store_in}
-use Rattle.gql_engine.specs.Jobs.{asked_by_job, Job}
+use Rattle.gql_objects.specs.Assembly.{AreApart, IsAssembled}
+use Rattle.gql_objects.specs.KeptTasks.{store_in}
+use Rattle.gql_engine.specs.GivenTasks.{asked_by_job}
+use Rattle.gql_objects.specs.Jobs.{Job}
 use Rattle.gql_engine.specs.NeverRoots.{no_roots}
-use Rattle.gql_engine.specs.Parents.{standing_behind}
+use Rattle.gql_objects.specs.Parents.{standing_behind}
 use Rattle.gql_engine.specs.ExecuteQuery.{basis_by, root_jobs_by, root_selections, root_spot}
-use Rattle.gql_engine.specs.Tasks.{job_of_task, jobs_in}
-use Rattle.gql_engine.proofs.ObjectLevelLemmas.{every_at}
+use Rattle.gql_objects.specs.Tasks.{job_of_task, jobs_in}
+use Rattle.gql_objects.proofs.ObjectLevelLemmas.{every_at}
 use Rattle.gql_engine.proofs.QueryLemmas.{all_held, answers_due, apart_root, Begins, due_agrees, Finishes, query_jobs, query_stands, response_is, roots_enough, runs_whole, steps_end, stopped_none, stopped_run, stopped_whole, whole_ran}
 use Rattle.gql_engine.proofs.execute_query.run_grouped.Goals as goal
 

@@ -1,4 +1,4 @@
-use Rattle.gql_engine.proofs.SelectionSetLemmas.{members_alone}
+use Rattle.gql_objects.proofs.SelectionSetLemmas.{members_alone}
 use Rattle.gql_engine.proofs.laws.members_are_merged.Goals as goal
 
 pub returns : goal.returns

@@ -1,4 +1,4 @@
-use Rattle.gql_engine.proofs.JobLemmas.{level_jobs}
+use Rattle.gql_objects.proofs.JobLemmas.{level_jobs}
 use Rattle.gql_engine.proofs.laws.tasks_are_jobs.Goals as goal
 
 pub returns : goal.returns

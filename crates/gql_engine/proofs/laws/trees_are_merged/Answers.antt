@@ -1,4 +1,4 @@
-use Rattle.gql_engine.proofs.SelectionSetLemmas.{tree_merged}
+use Rattle.gql_objects.proofs.SelectionSetLemmas.{tree_merged}
 use Rattle.gql_engine.proofs.laws.trees_are_merged.Goals as goal
 
 pub returns : goal.returns

@@ -7,9 +7,9 @@ use Rattle.gql_tasks.proofs.RunLemmas.{all_answered}
 use Rattle.gql_tasks.specs.Parts.{at, root_parts}
 use Rattle.gql_tasks.specs.Phases.{NextRoot, serving_by}
 use Rattle.gql_tasks.specs.declared.given.Given.TheVariants.{Put}
-use Rattle.gql_engine.specs.PlanHolds.{store_in}
+use Rattle.gql_objects.specs.KeptTasks.{store_in}
 use Rattle.gql_engine.specs.ExecuteMutation.{answer_in_phase}
-use Rattle.gql_engine.specs.Tasks.{job_of_task, jobs_in}
+use Rattle.gql_objects.specs.Tasks.{job_of_task, jobs_in}
 use Rattle.gql_engine.proofs.RootKeyLemmas.{has_place, key_cut_before, key_cut_behind, key_cut_within, key_over, key_within, last_there, phase_held, right_first}
 use Rattle.gql_engine.proofs.root_keys.answer_key.Goals as goal
 

@@ -6,9 +6,9 @@ use Rattle.gql_tasks.specs.Phases.{CutInTurn, InTurn, serving_by, world_past}
 use Rattle.gql_engine.specs.RootKeys.{IsKey}
 use Rattle.gql_engine.specs.ExecuteQuery.{job_subject}
 use Rattle.gql_engine.specs.ExecuteMutation.{PlacedInTurn}
-use Rattle.gql_engine.specs.Tasks.{job_of_task, jobs_in}
-use Rattle.gql_engine.specs.declared.execute_field.task.Task.{Task}
-use Rattle.gql_engine.proofs.AssemblyLemmas.{no_length}
+use Rattle.gql_objects.specs.Tasks.{job_of_task, jobs_in}
+use Rattle.gql_objects.specs.declared.task.Task.{Task}
+use Rattle.gql_objects.proofs.AssemblyLemmas.{no_length}
 use Rattle.gql_engine.proofs.RootKeyLemmas.{drop_next, drop_past, drop_within, in_turn_again, right_there, take_drop, take_many, take_next, take_whole}
 use Rattle.gql_engine.proofs.MutationLemmas.{placed_next}
 use Rattle.gql_engine.proofs.root_keys.answer_keys.Goals as goal

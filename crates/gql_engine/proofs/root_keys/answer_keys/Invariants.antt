@@ -4,7 +4,7 @@ use Rattle.gql_tasks.specs.Parts.{at, root_parts}
 use Rattle.gql_tasks.specs.Phases.{InTurn, serving_by}
 use Rattle.gql_engine.specs.RootKeys.{IsKey}
 use Rattle.gql_engine.specs.ExecuteMutation.{PlacedInTurn}
-use Rattle.gql_engine.specs.Tasks.{jobs_in}
+use Rattle.gql_objects.specs.Tasks.{jobs_in}
 use Rattle.gql_engine.proofs.root_keys.answer_keys.Given as goal
 
 abbrev pub invariant-keys : goal.invariant-keys

@@ -2,14 +2,14 @@ use Rattle.std.proofs.Common.{◌≡◌, ◌<◌, ◌∙◌, List, ap, arith, le
 use Rattle.std.proofs.lemmas.List.{length-map}
 use Rattle.std.proofs.lemmas.Option.{slice_get_read}
 use Rattle.gql_lists.proofs.SliceLemmas.{length_set}
-use Rattle.gql_engine.specs.Assembly.{AllHeldSince}
-use Rattle.gql_engine.specs.KeptTasks.{entries_in}
-use Rattle.gql_engine.specs.PlanHolds.{store_in}
-use Rattle.gql_engine.specs.PlaceStore.{stands_for}
-use Rattle.gql_engine.specs.Tasks.{job_of_task, jobs_in}
-use Rattle.gql_engine.specs.declared.assembly.kept.Kept.{Kept}
-use Rattle.gql_engine.proofs.AssemblyLemmas.{held_over}
-use Rattle.gql_engine.proofs.EntryLemmas.{laid_grows}
+use Rattle.gql_objects.specs.Assembly.{AllHeldSince}
+use Rattle.gql_objects.specs.KeptTasks.{entries_in}
+use Rattle.gql_objects.specs.KeptTasks.{store_in}
+use Rattle.gql_objects.specs.PlaceStore.{stands_for}
+use Rattle.gql_objects.specs.Tasks.{job_of_task, jobs_in}
+use Rattle.gql_objects.specs.declared.assembly.kept.Kept.{Kept}
+use Rattle.gql_objects.proofs.AssemblyLemmas.{held_over}
+use Rattle.gql_objects.proofs.EntryLemmas.{laid_grows}
 use Rattle.gql_engine.proofs.RootKeyLemmas.{puts_last}
 use Rattle.gql_engine.proofs.root_keys.keep_key.Goals as goal
 

@@ -4,7 +4,7 @@ use Rattle.gql_meaning.specs.Completion.{shape_of}
 use Rattle.gql_schema.specs.Table.{types_of}
 use Rattle.gql_collect.specs.Asks.{type_in}
 use Rattle.gql_complete.specs.FoundObjects.{spots}
-use Rattle.gql_engine.specs.Tasks.{jobs_in, path_with}
+use Rattle.gql_objects.specs.Tasks.{jobs_in, path_with}
 use Rattle.gql_engine.proofs.GivenLemmas.{takes_deep, takes_filled, takes_jobs, takes_placed}
 use Rattle.gql_engine.proofs.execute_field.complete_given.fill_answer.Goals as goal
 

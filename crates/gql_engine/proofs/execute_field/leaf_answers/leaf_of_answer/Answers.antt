@@ -2,7 +2,7 @@ use Rattle.std.proofs.Common.{refl, subst, sym}
 use Rattle.gql_tasks.specs.declared.given.Given.TheVariants.{Answered}
 use Rattle.gql_place.specs.declared.piece.Piece.TheVariants as kept
 use Rattle.gql_engine.specs.PlanHolds.{ComesAlone, IsLeafAlone}
-use Rattle.gql_engine.specs.Tasks.{job_of_task}
+use Rattle.gql_objects.specs.Tasks.{job_of_task}
 use Rattle.gql_engine.proofs.GivenLemmas.{leaf_comes}
 use Rattle.gql_engine.proofs.execute_field.leaf_answers.leaf_of_answer.Goals as goal
 

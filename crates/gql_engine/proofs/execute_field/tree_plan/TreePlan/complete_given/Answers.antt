@@ -2,12 +2,13 @@ use Rattle.std.proofs.Common.{◌∙◌, ◌<◌, ◌++◌, inr, ◌∷◌, [], 
 use Rattle.std.proofs.lemmas.List.{length-map}
 use Rattle.std.proofs.lemmas.Option.{slice_get_read}
 use Rattle.gql_tasks.specs.Plan.{HasMade}
-use Rattle.gql_engine.specs.KeptTasks.{made_beneath}
-use Rattle.gql_engine.specs.PlanHolds.{ComesAlone, HoldsGiven, store_in}
-use Rattle.gql_engine.specs.PlaceStore.{PutsAt}
-use Rattle.gql_engine.specs.Tasks.{job_of_task, jobs_in}
-use Rattle.gql_engine.specs.declared.assembly.kept.Kept.{Kept}
-use Rattle.gql_engine.specs.declared.execute_field.task.Task.{Task}
+use Rattle.gql_engine.specs.GivenTasks.{made_beneath}
+use Rattle.gql_engine.specs.PlanHolds.{ComesAlone, HoldsGiven}
+use Rattle.gql_objects.specs.KeptTasks.{store_in}
+use Rattle.gql_objects.specs.PlaceStore.{PutsAt}
+use Rattle.gql_objects.specs.Tasks.{job_of_task, jobs_in}
+use Rattle.gql_objects.specs.declared.assembly.kept.Kept.{Kept}
+use Rattle.gql_objects.specs.declared.task.Task.{Task}
 use Rattle.gql_engine.proofs.PlanLemmas.{alone_has, alone_holds, Completes, completes_deep, completes_has, completes_holds, completes_keeps_since, completes_laid, completes_task, alone_keeps, no_items, puts_alone, PutsAlone}
 use Rattle.gql_engine.proofs.execute_field.tree_plan.TreePlan.complete_given.Goals as goal
 

@@ -3,10 +3,11 @@ use Rattle.std.proofs.lemmas.List.{length-map}
 use Rattle.std.proofs.lemmas.Option.{slice_get_read}
 use Rattle.gql_tasks.specs.Plan.{HasMade}
 use Rattle.gql_place.specs.declared.piece.Piece.TheVariants as piece
-use Rattle.gql_engine.specs.KeptTasks.{made_beneath}
-use Rattle.gql_engine.specs.PlanHolds.{HoldsGiven, store_in}
-use Rattle.gql_engine.specs.Tasks.{job_of_task, jobs_in}
-use Rattle.gql_engine.specs.declared.execute_field.task.Task.{Task}
+use Rattle.gql_engine.specs.GivenTasks.{made_beneath}
+use Rattle.gql_engine.specs.PlanHolds.{HoldsGiven}
+use Rattle.gql_objects.specs.KeptTasks.{store_in}
+use Rattle.gql_objects.specs.Tasks.{job_of_task, jobs_in}
+use Rattle.gql_objects.specs.declared.task.Task.{Task}
 use Rattle.gql_engine.proofs.PlanLemmas.{alone_has, alone_holds, alone_keeps, kept_holds, kept_keeps, kept_made, puts_alone}
 use Rattle.gql_engine.proofs.execute_field.tree_plan.TreePlanPlan.complete.Goals as goal
 

@@ -3,10 +3,10 @@ use Rattle.std.proofs.lemmas.List.{length-map}
 use Rattle.std.proofs.lemmas.Option.{slice_get_read}
 use Rattle.gql_collect.specs.Asks.{arguments_in, resolver_in}
 use Rattle.gql_collect.specs.Groups.{united}
-use Rattle.gql_engine.specs.Parents.{value_of}
-use Rattle.gql_engine.specs.Tasks.{job_of_task}
+use Rattle.gql_objects.specs.Parents.{value_of}
+use Rattle.gql_objects.specs.Tasks.{job_of_task}
 use Rattle.gql_collect.specs.declared.level.Node.{Node}
-use Rattle.gql_engine.specs.declared.objects.parent.Parent.{Parent}
+use Rattle.gql_objects.specs.declared.parent.Parent.{Parent}
 use Rattle.gql_engine.proofs.ContextLemmas.{context_is, context_of}
 use Rattle.gql_engine.proofs.execute_field.tree_plan.TreePlanPlan.context.Goals as goal
 

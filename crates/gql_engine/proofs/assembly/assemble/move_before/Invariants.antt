@@ -1,5 +1,0 @@
-use Rattle.gql_engine.proofs.MovingLemmas.{IsMoved}
-use Rattle.gql_engine.proofs.assembly.assemble.move_before.Given as goal
-
-abbrev pub invariant-loop-place : goal.invariant-loop-place
-invariant-loop-place l = IsMoved l.initial.behind.items l._place l.places.items l.behind.items

@@ -1,5 +1,0 @@
-use Rattle.gql_engine.proofs.PathLemmas.{IsWritten}
-use Rattle.gql_engine.proofs.objects.paths.write_steps.Given as goal
-
-abbrev pub invariant-loop-place : goal.invariant-loop-place
-invariant-loop-place l = IsWritten l.steps l.place l.initial.path.items l.path.items

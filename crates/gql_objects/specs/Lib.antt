@@ -1,0 +1,15 @@
+pub mod Assembly
+pub mod Bare
+pub mod CompletedObjects
+pub mod Entries
+pub mod ExecuteSelectionSet
+pub mod Jobs
+pub mod KeptTasks
+pub mod ListParents
+pub mod Members
+pub mod ObjectLevels
+pub mod Outcomes
+pub mod Parents
+pub mod Paths
+pub mod PlaceStore
+pub mod Tasks
