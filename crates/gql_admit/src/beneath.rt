@@ -1,3 +1,4 @@
+//! The sets under fields, as the walks for the limits enter them.
 ghost use Rattle.std.specs.Prelude.{◌≡◌};
 ghost use Rattle.std.specs.Option.{option_copied};
 ghost use Rattle.gql_doc.specs.Depth.{field_set, if_any, selections_of};

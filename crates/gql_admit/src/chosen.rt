@@ -1,3 +1,4 @@
+//! What GetOperation gives (GraphQL, October 2021, section 6.1): the operation that a request runs.
 use gql_base::{Pairs, Text};
 use gql_doc::{FragmentDefinition, OperationDefinition, Positioned};
 

@@ -1,3 +1,5 @@
+//! What the fields of a key are compared with: its first occurrence (GraphQL, October 2021, section
+//! 5.3.2).
 ghost use Rattle.std.specs.Prelude.{◌≡◌, IfOk};
 ghost use Rattle.gql_select.specs.Alike.{alike};
 

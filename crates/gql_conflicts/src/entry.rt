@@ -1,3 +1,4 @@
+//! The keys of classes of sets, as the coarse test has them.
 use gql_doc::{Field, Positioned};
 
 /// A key of a class of sets: a field that stands for all fields of the key, and the class of the

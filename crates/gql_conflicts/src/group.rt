@@ -1,3 +1,4 @@
+//! The occurrences of one key on an object (GraphQL, October 2021, section 5.3.2).
 use crate::asked::Asked;
 use gql_doc::{Field, Positioned};
 

@@ -1,3 +1,4 @@
+//! The classes of sets that the coarse test is to test.
 ghost use Rattle.std.specs.Prelude.{◌≡◌, IfSome, slice_get};
 ghost use Rattle.std.specs.List.{Contains};
 

@@ -1,3 +1,4 @@
+//! What CollectFields reads the sets of a document by (GraphQL, October 2021, section 6.3.2).
 ghost use Rattle.gql_collect.specs.CollectFields.{ReadsAlike};
 ghost use Rattle.gql_conflicts.specs.Reader.{setting_by};
 

@@ -1,3 +1,4 @@
+//! The types that the operations of a document stand on (GraphQL, October 2021, section 6.2).
 use gql_schema::Types;
 
 /// A table of types with the names of its roots.

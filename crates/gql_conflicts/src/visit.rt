@@ -1,3 +1,4 @@
+//! One list of fields that the exact walk has been through.
 use gql_base::Text;
 use gql_doc::{Field, Positioned};
 

@@ -1,3 +1,4 @@
+//! What the exact walk has told and been through so far.
 use crate::conflict::Conflict;
 use crate::seen::Seen;
 use gql_base::Items;

@@ -1,5 +1,5 @@
-//! ExecuteField (GraphQL, October 2021, section 6.4): the tasks of an execution, what becomes of
-//! the answer to each, and the plan that the scheduler runs.
+//! ExecuteField (GraphQL, October 2021, section 6.4): the plan that the scheduler runs, and what
+//! becomes of the answer to each of its tasks.
 
 pub(crate) mod complete_given;
 pub(crate) mod leaf_answers;

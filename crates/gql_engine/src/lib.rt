@@ -1,7 +1,6 @@
-//! ExecuteQuery and ExecuteMutation (GraphQL, October 2021, section 6.2): the objects whose fields
-//! are asked, the plan that runs these fields as tasks, the places that are put together of those
-//! under them, and the whole execution of a query or a mutation: merged, where each key of a set is
-//! one task, or apart, where each occurrence of a field is one.
+//! ExecuteQuery and ExecuteMutation (GraphQL, October 2021, section 6.2): the plan by which the
+//! scheduler runs the fields of objects as tasks, and the whole execution of a query or a mutation:
+//! merged, where each key of a set is one task, or apart, where each occurrence of a field is one.
 #![tactic(auto)]
 
 mod apart;

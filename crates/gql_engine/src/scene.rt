@@ -1,3 +1,4 @@
+//! What an execution is for (GraphQL, October 2021, section 6.2).
 use gql_request::QueryEnv;
 use gql_resolve::{FieldValue, Layers};
 use gql_schema::{Object, Types};

@@ -1,3 +1,4 @@
+//! Requests with the initial value of their root (GraphQL, October 2021, section 6.1).
 ghost use Rattle.std.specs.Prelude.{◌≡◌};
 
 use gql_base::{Copied, Made, Value};

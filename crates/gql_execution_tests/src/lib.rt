@@ -1,5 +1,5 @@
-//! Tests of execution, which is `gql_place`, `gql_collect`, `gql_complete`, `gql_engine` and
-//! `gql_exec`: what no run of the program shows, as apart execution, headers and places, and each
+//! Tests of execution, which is `gql_place`, `gql_collect`, `gql_complete`, `gql_objects`,
+//! `gql_engine` and `gql_exec`: what no run of the program shows, as apart execution, headers and places, and each
 //! public call with ample memory. Responses stand among the stored runs of `gql_cases`.
 #![tactic(auto)]
 

@@ -1,3 +1,4 @@
+//! What the rules look a document up in (GraphQL, October 2021, section 5).
 use crate::built_in_arguments::BuiltIn;
 use crate::site::Site;
 use gql_base::Pairs;

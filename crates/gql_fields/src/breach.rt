@@ -1,3 +1,5 @@
+//! The rules of validation that a document can break (GraphQL, October 2021, section 5), and what
+//! is told of each.
 use gql_base::{Pos, Text};
 
 /// The rules that a document can break. Breaches at one place are told in this order.

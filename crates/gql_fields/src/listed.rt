@@ -1,3 +1,5 @@
+//! The places of a whole document that matter to the uses of variables (GraphQL, October 2021,
+//! sections 5.8.3 and 5.8.5).
 use crate::use_place::UsePlace;
 use gql_base::Items;
 use gql_doc::{OperationDefinition, Positioned};

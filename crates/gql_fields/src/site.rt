@@ -1,3 +1,4 @@
+//! What a schema says of the requests that it admits (GraphQL, October 2021, section 6.1).
 use gql_schema::Types;
 
 /// What a request is admitted by: the types, the names of their roots, and the limits.

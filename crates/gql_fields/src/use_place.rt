@@ -1,3 +1,5 @@
+//! The places of a document that matter to the uses of variables (GraphQL, October 2021, sections
+//! 5.8.3 and 5.8.5).
 use gql_doc::{Directive, Field, FragmentSpread, Positioned};
 use gql_schema::SchemaType;
 

@@ -1,3 +1,5 @@
+//! The objects whose fields are asked: the object values of ExecuteSelectionSet (GraphQL, October
+//! 2021, section 6.3), each with its fields and the way to it.
 ghost use Rattle.std.specs.Prelude.{◌<◌, length};
 
 use crate::step::Step;

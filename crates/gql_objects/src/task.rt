@@ -1,3 +1,4 @@
+//! The task of a field: one ExecuteField of an object (GraphQL, October 2021, section 6.4).
 ghost use Rattle.std.specs.Prelude.{◌≡◌, true};
 ghost use Rattle.gql_collect.specs.Asks.{is_call};
 

@@ -1,3 +1,5 @@
+//! What is wrong in the definition of a variable (GraphQL, October 2021, section 5.8).
+
 /// What is wrong in the definition of a variable. The first of these is told that holds.
 #[derive(Clone, Copy)]
 pub enum DefinitionFault {

@@ -1,3 +1,5 @@
+//! The fragments of a document, as the rule on uses of variables meets them (GraphQL, October 2021,
+//! section 5.8.3).
 use gql_base::Items;
 use gql_fields::UsePlace;
 

@@ -1,3 +1,5 @@
+//! The plan that the scheduler runs: the fields of an execution that ask an answer, as tasks, each
+//! of which is one ExecuteField (GraphQL, October 2021, section 6.4).
 ghost use Rattle.std.specs.Prelude.{ℕ, ◌≡◌, ◌≤◌, Some, length, slice_get};
 ghost use Rattle.std.specs.Option.{option_copied};
 ghost use Rattle.gql_tasks.specs.Plan.{alias_in};

@@ -1,3 +1,5 @@
+//! What is kept of tasks until the places under them are there (GraphQL, October 2021, section
+//! 6.4.3).
 use crate::assembly::bare::Bare;
 use crate::parent::Parent;
 use gql_base::{Error, Items, Pos};
