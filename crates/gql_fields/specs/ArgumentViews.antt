@@ -1,7 +1,7 @@
 -- What has arguments, and where.
 use Rattle.gql_schema.specs.TableReading.{TypeTable}
 use Rattle.gql_fields.specs.Arguments.{Bearing, DirectiveOf, FieldOf, Owner}
-use Rattle.gql_fields.specs.Walking.{terms_in}
+use Rattle.gql_fields.specs.Walk.{terms_in}
 use Rattle.gql_fields.specs.declared.arguments.Bearing as bearing
 use Rattle.gql_fields.specs.declared.arguments.Owner as owner
 use Rattle.gql_fields.specs.declared.arguments.Owner.TheVariants as owners

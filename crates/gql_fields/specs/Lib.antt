@@ -13,4 +13,4 @@ pub mod Places
 pub mod Terms
 pub mod UsePlaceViews
 pub mod UsePlaces
-pub mod Walking
+pub mod Walk

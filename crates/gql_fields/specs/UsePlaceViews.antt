@@ -5,7 +5,7 @@ use Rattle.gql_doc.specs.declared.document.Positioned.{Positioned}
 use Rattle.gql_fields.specs.Places.{OnDirective, OnField, OnSpread, Place, operation_places}
 use Rattle.gql_fields.specs.Terms.{Terms}
 use Rattle.gql_fields.specs.UsePlaces.{kept}
-use Rattle.gql_fields.specs.Walking.{field_place}
+use Rattle.gql_fields.specs.Walk.{field_place}
 use Rattle.gql_fields.specs.declared.listed.OperationPlaces.{OperationPlaces}
 use Rattle.gql_fields.specs.declared.use_place.UsePlace.{UsePlace}
 use Rattle.gql_fields.specs.declared.use_place.UsePlace.TheVariants as places

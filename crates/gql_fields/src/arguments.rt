@@ -3,7 +3,7 @@ ghost use Rattle.std.specs.Prelude.{◌≡◌, ◌++◌, [], ◌∷◌, ℕ, Lis
 ghost use Rattle.std.specs.List.{flat_map};
 ghost use Rattle.gql_base.specs.Pairs.{under};
 ghost use Rattle.gql_schema.specs.NameSet.{is_among, with_name};
-ghost use Rattle.gql_fields.specs.Walking.{terms_in};
+ghost use Rattle.gql_fields.specs.Walk.{terms_in};
 ghost use Rattle.gql_fields.specs.ArgumentViews.{bearing_behind, owner_behind, table_behind};
 ghost use Rattle.gql_fields.specs.Arguments.{argument_name, is_optional, misfit as misfit_of};
 ghost use Rattle.gql_fields.specs.Arguments.{told_of_argument, told_of_arguments};

@@ -3,7 +3,7 @@ ghost use Rattle.std.specs.Prelude.{◌≡◌, ◌++◌, ◌∷◌, [], OnOk, tr
 ghost use Rattle.gql_fields.specs.Places.{OnDirective, OnField, directive_places};
 ghost use Rattle.gql_fields.specs.UsePlaceViews.{place_behind, shown};
 ghost use Rattle.gql_fields.specs.UsePlaces.{kept, kept_at};
-ghost use Rattle.gql_fields.specs.Walking.{field_place, spread_place};
+ghost use Rattle.gql_fields.specs.Walk.{field_place, spread_place};
 
 use crate::constants::are_constant;
 use crate::skip_include::is_condition;

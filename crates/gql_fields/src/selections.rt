@@ -9,7 +9,7 @@ ghost use Rattle.gql_fields.specs.Arguments.{told_of_arguments};
 ghost use Rattle.gql_fields.specs.Breaches.{told_of_set, told_of_spread};
 ghost use Rattle.gql_fields.specs.FieldTypeViews.{known_behind, type_behind};
 ghost use Rattle.gql_fields.specs.Places.{directive_places};
-ghost use Rattle.gql_fields.specs.Walking.{field_place, tells, tells_field, terms_in};
+ghost use Rattle.gql_fields.specs.Walk.{field_place, tells, tells_field, terms_in};
 
 use crate::against::Against;
 use crate::argument_texts::unknown_directive;

@@ -10,7 +10,7 @@ ghost use Rattle.gql_fields.specs.Places.{inline_places, on_named};
 ghost use Rattle.gql_fields.specs.Places.{selection_places, set_places, under_condition};
 ghost use Rattle.gql_fields.specs.UsePlaceViews.{shown};
 ghost use Rattle.gql_fields.specs.UsePlaces.{kept};
-ghost use Rattle.gql_fields.specs.Walking.{spread_places, tells, terms_in};
+ghost use Rattle.gql_fields.specs.Walk.{spread_places, tells, terms_in};
 ghost use Rattle.gql_doc.specs.declared.document.InlineFragment.{out-InlineFragment};
 
 use crate::against::Against;

@@ -7,7 +7,7 @@ ghost use Rattle.gql_fields.specs.Places.{document_places, fragment_places, oper
 ghost use Rattle.gql_fields.specs.Places.{rooted_places, variable_places};
 ghost use Rattle.gql_fields.specs.UsePlaceViews.{listed_behind, listed_of, shown};
 ghost use Rattle.gql_fields.specs.UsePlaces.{kept};
-ghost use Rattle.gql_fields.specs.Walking.{inner_places, tells, terms_in};
+ghost use Rattle.gql_fields.specs.Walk.{inner_places, tells, terms_in};
 
 use crate::against::Against;
 use crate::breach::Breach;

@@ -9,7 +9,7 @@ use Rattle.gql_fields.specs.Breaches.{told, told_at}
 use Rattle.gql_fields.specs.BuiltIn.{built_in}
 use Rattle.gql_fields.specs.Places.{Place, document_places}
 use Rattle.gql_fields.specs.Terms.{Terms}
-use Rattle.gql_fields.specs.Walking.{tells, terms_in}
+use Rattle.gql_fields.specs.Walk.{tells, terms_in}
 use Rattle.gql_fields.specs.declared.breach.Breach.{Breach}
 use Rattle.gql_fields.specs.declared.against.Against.{Against}
 use Rattle.gql_rules.specs.Asked.{Asked}

@@ -7,7 +7,7 @@ ghost use Rattle.gql_fields.specs.Places.{fragment_places};
 ghost use Rattle.gql_fields.specs.UsePlaceViews.{listed_behind, listed_of, operation_behind};
 ghost use Rattle.gql_fields.specs.UsePlaceViews.{place_behind, shown};
 ghost use Rattle.gql_fields.specs.UsePlaces.{kept};
-ghost use Rattle.gql_fields.specs.Walking.{terms_in};
+ghost use Rattle.gql_fields.specs.Walk.{terms_in};
 ghost use Rattle.gql_rules.specs.Adding.{Adds};
 ghost use Rattle.gql_rules.specs.Reaching.{AreBelow};
 ghost use Rattle.gql_rules.specs.PlaceViews.{IsSpread};

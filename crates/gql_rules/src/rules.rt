@@ -3,7 +3,7 @@ ghost use Rattle.std.specs.Prelude.{◌≡◌, IfOk, map};
 ghost use Rattle.std.specs.Option.{option_copied};
 ghost use Rattle.gql_fields.specs.BuiltIn.{built_in as the_built_in};
 ghost use Rattle.gql_fields.specs.Terms.{terms_of};
-ghost use Rattle.gql_fields.specs.Walking.{terms_in};
+ghost use Rattle.gql_fields.specs.Walk.{terms_in};
 ghost use Rattle.gql_rules.specs.Asked.{asking};
 ghost use Rattle.gql_fields.specs.BreachOrder.{Lists};
 ghost use Rattle.gql_rules.specs.Nesting.{IsWithinDepth};

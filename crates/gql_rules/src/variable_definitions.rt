@@ -6,7 +6,7 @@ ghost use Rattle.gql_base.specs.Pairs.{values_of};
 ghost use Rattle.gql_doc.specs.Depth.{operations_in};
 ghost use Rattle.gql_schema.specs.NameSet.{is_among, with_name};
 ghost use Rattle.gql_schema.specs.Table.{types_of};
-ghost use Rattle.gql_fields.specs.Walking.{terms_in};
+ghost use Rattle.gql_fields.specs.Walk.{terms_in};
 ghost use Rattle.gql_rules.specs.Asked.{asking};
 ghost use Rattle.gql_rules.specs.VariableDefinitions.{default_fits as is_fitting_default};
 ghost use Rattle.gql_rules.specs.VariableDefinitions.{definition_name, fault_of as fault_in};

@@ -5,7 +5,7 @@ ghost use Rattle.std.specs.Option.{option_copied, option_map};
 ghost use Rattle.gql_schema.specs.Table.{types_of};
 ghost use Rattle.gql_request.specs.Defined.{first_definition};
 ghost use Rattle.gql_fields.specs.FieldTypes.{known_field};
-ghost use Rattle.gql_fields.specs.Walking.{field_place, terms_in};
+ghost use Rattle.gql_fields.specs.Walk.{field_place, terms_in};
 ghost use Rattle.gql_fields.specs.UsePlaceViews.{place_behind, shown};
 ghost use Rattle.gql_rules.specs.PlaceViews.{value_place_behind};
 ghost use Rattle.gql_rules.specs.VariableUses.{declared_place as place_declared};

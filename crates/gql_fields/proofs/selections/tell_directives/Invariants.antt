@@ -1,6 +1,6 @@
 use Rattle.std.proofs.Common.{◌≡◌, ◌++◌, take}
 use Rattle.gql_fields.specs.Places.{directive_places}
-use Rattle.gql_fields.specs.Walking.{tells}
+use Rattle.gql_fields.specs.Walk.{tells}
 use Rattle.gql_fields.proofs.selections.tell_directives.Given as goal
 
 abbrev pub invariant-loop-directive : goal.invariant-loop-directive

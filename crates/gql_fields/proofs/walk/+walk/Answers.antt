@@ -4,7 +4,7 @@ use Rattle.gql_doc.specs.declared.document.SelectionSet.{out-SelectionSet}
 use Rattle.gql_fields.specs.Places.{selection_places}
 use Rattle.gql_fields.specs.UsePlaceViews.{shown}
 use Rattle.gql_fields.specs.UsePlaces.{kept}
-use Rattle.gql_fields.specs.Walking.{tells, terms_in}
+use Rattle.gql_fields.specs.Walk.{tells, terms_in}
 use Rattle.gql_fields.proofs.ToldLemmas.{places_in_set}
 use Rattle.gql_fields.proofs.walk.+walk.Goals as goal
 

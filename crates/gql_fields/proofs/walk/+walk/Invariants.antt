@@ -3,7 +3,7 @@ use Rattle.std.specs.List.{flat_map}
 use Rattle.gql_fields.specs.Places.{selection_places}
 use Rattle.gql_fields.specs.UsePlaceViews.{shown}
 use Rattle.gql_fields.specs.UsePlaces.{kept}
-use Rattle.gql_fields.specs.Walking.{tells, terms_in}
+use Rattle.gql_fields.specs.Walk.{tells, terms_in}
 use Rattle.gql_fields.proofs.walk.+walk.Given as goal
 
 abbrev pub invariant-walk_selections-loop-selection : goal.invariant-walk_selections-loop-selection

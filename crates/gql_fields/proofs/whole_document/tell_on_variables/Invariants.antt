@@ -1,6 +1,6 @@
 use Rattle.std.proofs.Common.{◌≡◌, ◌++◌, take}
 use Rattle.gql_fields.specs.Places.{variable_places}
-use Rattle.gql_fields.specs.Walking.{tells}
+use Rattle.gql_fields.specs.Walk.{tells}
 use Rattle.gql_fields.proofs.whole_document.tell_on_variables.Given as goal
 
 abbrev pub invariant-loop-variable : goal.invariant-loop-variable

@@ -4,7 +4,7 @@ use Rattle.gql_base.specs.Pairs.{values_of}
 use Rattle.gql_fields.specs.Places.{fragment_places}
 use Rattle.gql_fields.specs.UsePlaceViews.{shown}
 use Rattle.gql_fields.specs.UsePlaces.{kept}
-use Rattle.gql_fields.specs.Walking.{terms_in}
+use Rattle.gql_fields.specs.Walk.{terms_in}
 use Rattle.gql_fields.proofs.KeptLemmas.{map_step}
 use Rattle.gql_fields.proofs.PairLemmas.{value_at}
 use Rattle.gql_fields.proofs.ToldLemmas.{told_step}

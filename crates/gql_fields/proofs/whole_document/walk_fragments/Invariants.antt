@@ -4,7 +4,7 @@ use Rattle.gql_base.specs.Pairs.{values_of}
 use Rattle.gql_fields.specs.Places.{fragment_places}
 use Rattle.gql_fields.specs.UsePlaceViews.{shown}
 use Rattle.gql_fields.specs.UsePlaces.{kept}
-use Rattle.gql_fields.specs.Walking.{tells, terms_in}
+use Rattle.gql_fields.specs.Walk.{tells, terms_in}
 use Rattle.gql_fields.proofs.whole_document.walk_fragments.Given as goal
 
 abbrev pub invariant-loop-place : goal.invariant-loop-place

@@ -2,7 +2,7 @@ use Rattle.std.proofs.Common.{sym, ◌∙◌, ◌++◌}
 use Rattle.gql_fields.specs.Places.{on_named, set_places}
 use Rattle.gql_fields.specs.UsePlaceViews.{shown}
 use Rattle.gql_fields.specs.UsePlaces.{kept}
-use Rattle.gql_fields.specs.Walking.{terms_in}
+use Rattle.gql_fields.specs.Walk.{terms_in}
 use Rattle.gql_fields.proofs.KeptLemmas.{kept_fragment}
 use Rattle.gql_fields.proofs.whole_document.walk_inner.Goals as goal
 

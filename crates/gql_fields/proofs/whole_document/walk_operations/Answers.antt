@@ -3,7 +3,7 @@ use Rattle.std.proofs.lemmas.List.{map-append}
 use Rattle.gql_base.specs.Pairs.{values_of}
 use Rattle.gql_fields.specs.Places.{operation_places}
 use Rattle.gql_fields.specs.UsePlaceViews.{listed_behind, listed_of}
-use Rattle.gql_fields.specs.Walking.{terms_in}
+use Rattle.gql_fields.specs.Walk.{terms_in}
 use Rattle.gql_fields.proofs.KeptLemmas.{map_step}
 use Rattle.gql_fields.proofs.PairLemmas.{value_at}
 use Rattle.gql_fields.proofs.ToldLemmas.{told_step}

@@ -3,7 +3,7 @@ use Rattle.std.specs.List.{flat_map}
 use Rattle.gql_base.specs.Pairs.{values_of}
 use Rattle.gql_fields.specs.Places.{operation_places}
 use Rattle.gql_fields.specs.UsePlaceViews.{listed_behind, listed_of}
-use Rattle.gql_fields.specs.Walking.{tells, terms_in}
+use Rattle.gql_fields.specs.Walk.{tells, terms_in}
 use Rattle.gql_fields.proofs.whole_document.walk_operations.Given as goal
 
 abbrev pub invariant-loop-place : goal.invariant-loop-place

@@ -2,7 +2,7 @@ use Rattle.std.proofs.Common.{◌≡◌, ◌++◌, List, map, ap, sym, subst, �
 use Rattle.std.specs.List.{flat_map}
 use Rattle.gql_doc.specs.declared.document.Positioned.{Positioned}
 use Rattle.gql_doc.specs.declared.document.VariableDefinition.{VariableDefinition}
-use Rattle.gql_fields.specs.Walking.{terms_in}
+use Rattle.gql_fields.specs.Walk.{terms_in}
 use Rattle.gql_fields.proofs.ToldLemmas.{on_ok}
 use Rattle.gql_rules.specs.Reaching.{AreReached}
 use Rattle.gql_fields.specs.UsePlaceViews.{shown}

@@ -4,7 +4,7 @@ use Rattle.std.proofs.Math.ListN.{length-map}
 use Rattle.std.proofs.lemmas.List.{take_all}
 use Rattle.std.proofs.lemmas.Option.{slice_get-map, slice_get_read}
 use Rattle.gql_fields.specs.UsePlaceViews.{operation_behind}
-use Rattle.gql_fields.specs.Walking.{terms_in}
+use Rattle.gql_fields.specs.Walk.{terms_in}
 use Rattle.gql_rules.specs.Adding.{Adds}
 use Rattle.gql_rules.specs.ReachedUses.{WrongUseIn}
 use Rattle.gql_rules.proofs.ListedOperations.{listed_at}

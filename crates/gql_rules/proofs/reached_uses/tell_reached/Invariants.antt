@@ -1,6 +1,6 @@
 use Rattle.std.proofs.Common.{◌≡◌, ◌++◌, map, take}
 use Rattle.std.specs.List.{flat_map}
-use Rattle.gql_fields.specs.Walking.{terms_in}
+use Rattle.gql_fields.specs.Walk.{terms_in}
 use Rattle.gql_fields.specs.UsePlaceViews.{shown}
 use Rattle.gql_rules.specs.ReachedUses.{uses_told_in}
 use Rattle.gql_rules.proofs.reached_uses.tell_reached.Given as goal

@@ -1,6 +1,6 @@
 use Rattle.std.proofs.Common.{None}
 use Rattle.gql_base.specs.Pairs.{values_of}
-use Rattle.gql_fields.specs.Walking.{terms_in}
+use Rattle.gql_fields.specs.Walk.{terms_in}
 use Rattle.gql_fields.proofs.ToldLemmas.{flat_step}
 use Rattle.gql_fields.proofs.PairLemmas.{value_at}
 use Rattle.gql_rules.specs.VariableDefinitions.{told_of_operation}

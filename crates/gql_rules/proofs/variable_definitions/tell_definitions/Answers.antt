@@ -1,7 +1,7 @@
 use Rattle.std.proofs.Common.{arith, [], length, refl, subst, sym, append-nil}
 use Rattle.std.proofs.lemmas.Option.{slice_get_read}
 use Rattle.std.specs.Option.{option_copied}
-use Rattle.gql_fields.specs.Walking.{terms_in}
+use Rattle.gql_fields.specs.Walk.{terms_in}
 use Rattle.gql_fields.specs.GivenNames.{AreNames}
 use Rattle.gql_fields.proofs.AlongLemmas.{along_step, named_along, none_named}
 use Rattle.gql_rules.specs.VariableDefinitions.{definition_name, told_of_definition}

@@ -1,6 +1,6 @@
 use Rattle.std.proofs.Common.{◌≡◌, ◌++◌, map, take}
 use Rattle.std.specs.Option.{option_copied}
-use Rattle.gql_fields.specs.Walking.{terms_in}
+use Rattle.gql_fields.specs.Walk.{terms_in}
 use Rattle.gql_fields.specs.GivenNames.{AreNames}
 use Rattle.gql_rules.specs.VariableDefinitions.{definition_name, told_of_definitions}
 use Rattle.gql_rules.proofs.variable_definitions.tell_definitions.Given as goal

@@ -3,7 +3,7 @@ use Rattle.std.proofs.lemmas.List.{take_all}
 use Rattle.std.specs.List.{flat_map}
 use Rattle.std.specs.Option.{option_map}
 use Rattle.gql_doc.specs.declared.document.DocValue.{DocValue}
-use Rattle.gql_fields.specs.Walking.{terms_in}
+use Rattle.gql_fields.specs.Walk.{terms_in}
 use Rattle.gql_fields.specs.declared.breach.Breach.{Breach}
 use Rattle.gql_fields.proofs.ToldLemmas.{flat_of_map, flat_step}
 use Rattle.gql_rules.specs.PlaceViews.{value_place_behind}

@@ -1,5 +1,5 @@
 use Rattle.std.proofs.Common.{◌≡◌, ◌++◌, take}
-use Rattle.gql_fields.specs.Walking.{terms_in}
+use Rattle.gql_fields.specs.Walk.{terms_in}
 use Rattle.gql_rules.specs.VariableUses.{told_in_arguments}
 use Rattle.gql_rules.proofs.variable_uses.tell_in_arguments.Given as goal
 

@@ -1,7 +1,7 @@
 use Rattle.std.proofs.Common.{arith, ◌++◌, List, ap, sym, ◌∙◌}
 use Rattle.std.proofs.lemmas.List.{take_all}
 use Rattle.std.specs.List.{flat_map}
-use Rattle.gql_fields.specs.Walking.{terms_in}
+use Rattle.gql_fields.specs.Walk.{terms_in}
 use Rattle.gql_fields.specs.declared.breach.Breach.{Breach}
 use Rattle.gql_fields.proofs.ToldLemmas.{flat_of_map}
 use Rattle.gql_fields.specs.UsePlaceViews.{place_behind}

@@ -1,6 +1,6 @@
 use Rattle.std.proofs.Common.{◌≡◌, ◌++◌, take}
 use Rattle.std.specs.List.{flat_map}
-use Rattle.gql_fields.specs.Walking.{terms_in}
+use Rattle.gql_fields.specs.Walk.{terms_in}
 use Rattle.gql_fields.specs.UsePlaceViews.{place_behind}
 use Rattle.gql_rules.specs.VariableUses.{uses_told_at}
 use Rattle.gql_rules.proofs.variable_uses.tell_uses.Given as goal
