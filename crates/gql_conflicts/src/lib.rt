@@ -12,7 +12,7 @@ mod beneath;
 mod coarse;
 mod conflict;
 mod entry;
-mod exact;
+mod fields_in_set_can_merge;
 mod fitting;
 mod group;
 mod grouping;
@@ -32,5 +32,5 @@ mod walked;
 
 pub use coarse::is_clear;
 pub use conflict::Conflict;
-pub use exact::conflicts_in;
+pub use fields_in_set_can_merge::conflicts_in;
 pub use rooted_types::RootedTypes;

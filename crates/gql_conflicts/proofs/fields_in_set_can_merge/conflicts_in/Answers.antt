@@ -2,7 +2,7 @@ use Rattle.std.proofs.Common.{IsTrue, sym, subst}
 use Rattle.gql_conflicts.specs.DocumentConflicts.{Lists}
 use Rattle.gql_conflicts.specs.Rooted.{rooted_of}
 use Rattle.gql_conflicts.proofs.ListedLemmas.{none_listed}
-use Rattle.gql_conflicts.proofs.exact.conflicts_in.Goals as goal
+use Rattle.gql_conflicts.proofs.fields_in_set_can_merge.conflicts_in.Goals as goal
 
 pub returns-then-branch : goal.returns-then-branch
 returns-then-branch c =

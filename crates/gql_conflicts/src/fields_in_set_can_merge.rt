@@ -1,4 +1,5 @@
-//! All conflicts of a document.
+//! FieldsInSetCanMerge (GraphQL, October 2021, section 5.3.2) for each set of a document: all
+//! conflicts.
 ghost use Rattle.std.specs.Prelude.{◌≡◌, [], IfOk, OnOk};
 ghost use Rattle.std.specs.List.{flat_map};
 ghost use Rattle.gql_base.specs.Pairs.{values_of};

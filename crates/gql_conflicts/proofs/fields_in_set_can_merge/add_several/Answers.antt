@@ -2,7 +2,7 @@ use Rattle.gql_base.specs.Pairs.{values_of}
 use Rattle.gql_conflicts.specs.Walk.{operation_tells}
 use Rattle.gql_conflicts.proofs.BelowLemmas.{value_at}
 use Rattle.gql_conflicts.proofs.WalkedLemmas.{walks_step}
-use Rattle.gql_conflicts.proofs.exact.add_several.Goals as goal
+use Rattle.gql_conflicts.proofs.fields_in_set_can_merge.add_several.Goals as goal
 
 pub loop-place-preserved : goal.loop-place-preserved
 loop-place-preserved c =

@@ -1,5 +1,5 @@
 use Rattle.gql_conflicts.proofs.WalkedLemmas.{walked_out}
-use Rattle.gql_conflicts.proofs.exact.walk_document.Goals as goal
+use Rattle.gql_conflicts.proofs.fields_in_set_can_merge.walk_document.Goals as goal
 
 pub returns : goal.returns
 returns c = record {

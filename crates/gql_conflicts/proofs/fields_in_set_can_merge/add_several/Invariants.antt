@@ -3,7 +3,7 @@ use Rattle.std.specs.List.{flat_map}
 use Rattle.gql_base.specs.Pairs.{values_of}
 use Rattle.gql_conflicts.specs.Walk.{operation_tells}
 use Rattle.gql_conflicts.specs.Walked.{Walks}
-use Rattle.gql_conflicts.proofs.exact.add_several.Given as goal
+use Rattle.gql_conflicts.proofs.fields_in_set_can_merge.add_several.Given as goal
 
 abbrev pub invariant-loop-place : goal.invariant-loop-place
 invariant-loop-place l =
