@@ -3,7 +3,7 @@ use Rattle.std.proofs.Common.{◌≡◌, ◌⊎◌, inl, inr, List, ◌++◌, sy
 use Rattle.std.specs.List.{Contains}
 use Rattle.std.proofs.lemmas.List.Elements.{Contains-append_cases, Contains-append_left, Contains-append_right}
 use Rattle.gql_fields.specs.declared.breach.Breach.{Breach}
-use Rattle.gql_rules.specs.Adding.{Adds}
+use Rattle.gql_rules.specs.Adds.{Adds}
 
 -- what is put after others is added
 pub adds_told : (old told new : List Breach) → new ≡ old ++ told → Adds (Contains told) old new

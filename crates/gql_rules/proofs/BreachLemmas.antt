@@ -13,7 +13,7 @@ use Rattle.gql_fields.specs.Walk.{tells, terms_in}
 use Rattle.gql_fields.specs.declared.breach.Breach.{Breach}
 use Rattle.gql_fields.specs.declared.against.Against.{Against}
 use Rattle.gql_rules.specs.Asked.{Asked}
-use Rattle.gql_rules.specs.Adding.{Adds}
+use Rattle.gql_rules.specs.Adds.{Adds}
 use Rattle.gql_rules.specs.FragmentCycles.{IsCircular}
 use Rattle.gql_rules.specs.FieldMerging.{IsConflicting}
 use Rattle.gql_fields.specs.BreachOrder.{Lists}

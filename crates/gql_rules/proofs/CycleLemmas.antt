@@ -14,7 +14,7 @@ use Rattle.gql_fields.specs.Breach.{breach}
 use Rattle.gql_fields.specs.declared.breach.Breach.{Breach}
 use Rattle.gql_fields.specs.declared.breach.BreachKind.TheVariants as kinds
 use Rattle.gql_rules.specs.BreachTexts.{circular_text}
-use Rattle.gql_rules.specs.Adding.{Adds}
+use Rattle.gql_rules.specs.Adds.{Adds}
 use Rattle.gql_rules.specs.Reaching.{AreBelow, AreWithin, Reaches, is_in, led_to}
 use Rattle.gql_rules.specs.FragmentCycles.{CircularAt, IsCircular}
 use Rattle.gql_rules.specs.FragmentSpreads.{graph_of, spread_in}

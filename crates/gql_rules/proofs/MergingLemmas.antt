@@ -13,7 +13,7 @@ use Rattle.gql_conflicts.specs.Rooted.{Rooted, objects_beneath, root_of}
 use Rattle.gql_conflicts.specs.declared.conflict.Conflict.{Conflict}
 use Rattle.gql_fields.specs.Terms.{Terms}
 use Rattle.gql_fields.specs.declared.breach.Breach.{Breach}
-use Rattle.gql_rules.specs.Adding.{Adds}
+use Rattle.gql_rules.specs.Adds.{Adds}
 use Rattle.gql_rules.specs.FieldMerging.{IsConflicting, conflict_breach, rooted_in}
 use Rattle.gql_rules.specs.Nesting.{NestsWithin}
 use Rattle.gql_rules.proofs.AddingLemmas.{adds_same, adds_told}

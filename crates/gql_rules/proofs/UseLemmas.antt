@@ -18,10 +18,10 @@ use Rattle.gql_fields.specs.Places.{OnCondition, OnDirective, OnField, OnSpread,
 use Rattle.gql_fields.specs.Terms.{Terms}
 use Rattle.gql_fields.specs.declared.breach.Breach.{Breach}
 use Rattle.gql_fields.specs.declared.built_in_arguments.BuiltIn.{BuiltIn}
-use Rattle.gql_rules.specs.Adding.{Adds}
+use Rattle.gql_rules.specs.Adds.{Adds}
 use Rattle.gql_rules.specs.Reaching.{AreBelow, AreReached, AreWithin, is_in, led_to}
 use Rattle.gql_fields.specs.UsePlaceViews.{shown}
-use Rattle.gql_rules.specs.PlaceViews.{IsSpread}
+use Rattle.gql_rules.specs.Spread.{IsSpread}
 use Rattle.gql_fields.specs.UsePlaces.{kept}
 use Rattle.gql_rules.specs.ReachedUses.{IsReached, WrongUseIn, WrongUseOf, fragment_spreads, operation_spreads, own, place_graph, spread, spread_at, spreads_at, uses_told_in}
 use Rattle.gql_rules.specs.VariableUses.{uses_told, uses_told_at}

@@ -1,4 +1,4 @@
-pub mod Adding
+pub mod Adds
 pub mod Asked
 pub mod BreachTexts
 pub mod ChosenOperation
@@ -6,10 +6,11 @@ pub mod FieldMerging
 pub mod FragmentCycles
 pub mod FragmentSpreads
 pub mod Nesting
-pub mod PlaceViews
 pub mod ReachedUses
 pub mod Reaching
 pub mod Refusal
 pub mod RulesChecked
+pub mod Spread
+pub mod ValuePlace
 pub mod VariableDefinitions
 pub mod VariableUses

@@ -2,7 +2,7 @@
 ghost use Rattle.std.specs.Prelude.{◌≡◌, ◌++◌, IfOk, OnOk, map, string_bytes};
 ghost use Rattle.gql_fields.specs.Terms.{terms_of};
 ghost use Rattle.gql_rules.specs.BreachTexts.{conflict_text};
-ghost use Rattle.gql_rules.specs.Adding.{Adds};
+ghost use Rattle.gql_rules.specs.Adds.{Adds};
 ghost use Rattle.gql_rules.specs.FieldMerging.{IsConflicting, conflict_breach, rooted_in};
 ghost use Rattle.gql_rules.specs.Nesting.{IsWithinDepth, NestsWithin};
 ghost use Rattle.gql_conflicts.specs.Rooted.{rooted_of};

@@ -2,7 +2,7 @@
 ghost use Rattle.std.specs.Prelude.{◌≡◌, ◌<◌, length, string_bytes, IfOk, OnOk};
 ghost use Rattle.std.specs.Bool.{Decides};
 ghost use Rattle.gql_fields.specs.Breach.{breach};
-ghost use Rattle.gql_rules.specs.Adding.{Adds};
+ghost use Rattle.gql_rules.specs.Adds.{Adds};
 ghost use Rattle.gql_rules.specs.BreachTexts.{circular_text};
 ghost use Rattle.gql_rules.specs.Reaching.{AreWithin, Reaches};
 ghost use Rattle.gql_rules.specs.FragmentCycles.{CircularAt, IsCircular};

@@ -8,9 +8,9 @@ ghost use Rattle.gql_fields.specs.UsePlaceViews.{listed_behind, listed_of, opera
 ghost use Rattle.gql_fields.specs.UsePlaceViews.{place_behind, shown};
 ghost use Rattle.gql_fields.specs.UsePlaces.{kept};
 ghost use Rattle.gql_fields.specs.Walk.{terms_in};
-ghost use Rattle.gql_rules.specs.Adding.{Adds};
+ghost use Rattle.gql_rules.specs.Adds.{Adds};
 ghost use Rattle.gql_rules.specs.Reaching.{AreBelow};
-ghost use Rattle.gql_rules.specs.PlaceViews.{IsSpread};
+ghost use Rattle.gql_rules.specs.Spread.{IsSpread};
 ghost use Rattle.gql_rules.specs.ReachedUses.{WrongUseIn, WrongUseOf, spread_at, spreads_at};
 ghost use Rattle.gql_rules.specs.ReachedUses.{uses_told_in};
 

@@ -2,7 +2,7 @@
 ghost use Rattle.std.specs.Prelude.{◌≡◌};
 ghost use Rattle.std.specs.Option.{option_map};
 ghost use Rattle.gql_schema.specs.Table.{types_of};
-ghost use Rattle.gql_rules.specs.PlaceViews.{value_place_behind};
+ghost use Rattle.gql_rules.specs.ValuePlace.{value_place_behind};
 ghost use Rattle.gql_rules.specs.VariableUses.{compatible, eases as does_ease, fits_place as fits};
 ghost use Rattle.gql_rules.specs.VariableUses.{has_value_default as has_default};
 

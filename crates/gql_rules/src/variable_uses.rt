@@ -7,7 +7,7 @@ ghost use Rattle.gql_request.specs.Defined.{first_definition};
 ghost use Rattle.gql_fields.specs.FieldTypes.{known_field};
 ghost use Rattle.gql_fields.specs.Walk.{field_place, terms_in};
 ghost use Rattle.gql_fields.specs.UsePlaceViews.{place_behind, shown};
-ghost use Rattle.gql_rules.specs.PlaceViews.{value_place_behind};
+ghost use Rattle.gql_rules.specs.ValuePlace.{value_place_behind};
 ghost use Rattle.gql_rules.specs.VariableUses.{declared_place as place_declared};
 ghost use Rattle.gql_rules.specs.VariableUses.{items_place as place_of_items};
 ghost use Rattle.gql_rules.specs.VariableUses.{member_place as place_of_member};

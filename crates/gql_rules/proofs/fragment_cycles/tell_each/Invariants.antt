@@ -1,4 +1,4 @@
-use Rattle.gql_rules.specs.Adding.{Adds}
+use Rattle.gql_rules.specs.Adds.{Adds}
 use Rattle.gql_rules.proofs.CycleLemmas.{IsBefore}
 use Rattle.gql_rules.proofs.fragment_cycles.tell_each.Given as goal
 

@@ -1,6 +1,6 @@
 use Rattle.std.proofs.Common.{◌≡◌, ◌++◌, [], ◌∷◌}
 use Rattle.gql_fields.proofs.ToldLemmas.{on_ok}
-use Rattle.gql_rules.specs.Adding.{Adds}
+use Rattle.gql_rules.specs.Adds.{Adds}
 use Rattle.gql_rules.specs.FragmentCycles.{CircularAt}
 use Rattle.gql_rules.proofs.CycleLemmas.{one_told}
 use Rattle.gql_rules.proofs.fragment_cycles.tell_one.Goals as goal

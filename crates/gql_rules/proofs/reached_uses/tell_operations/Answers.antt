@@ -5,7 +5,7 @@ use Rattle.std.proofs.lemmas.List.{take_all}
 use Rattle.std.proofs.lemmas.Option.{slice_get-map, slice_get_read}
 use Rattle.gql_fields.specs.UsePlaceViews.{operation_behind}
 use Rattle.gql_fields.specs.Walk.{terms_in}
-use Rattle.gql_rules.specs.Adding.{Adds}
+use Rattle.gql_rules.specs.Adds.{Adds}
 use Rattle.gql_rules.specs.ReachedUses.{WrongUseIn}
 use Rattle.gql_rules.proofs.ListedOperations.{listed_at}
 use Rattle.gql_rules.proofs.UseLemmas.{none_wrong, wrong_more}

@@ -1,7 +1,7 @@
 use Rattle.std.proofs.Common.{map, take}
 use Rattle.gql_fields.specs.UsePlaceViews.{operation_behind}
 use Rattle.gql_fields.specs.Walk.{terms_in}
-use Rattle.gql_rules.specs.Adding.{Adds}
+use Rattle.gql_rules.specs.Adds.{Adds}
 use Rattle.gql_rules.specs.ReachedUses.{WrongUseIn}
 use Rattle.gql_rules.proofs.reached_uses.tell_operations.Given as goal
 

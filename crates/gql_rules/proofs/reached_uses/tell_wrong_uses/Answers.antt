@@ -1,7 +1,7 @@
 use Rattle.std.proofs.Common.{◌≡◌, OnOk, map, refl, ap, sym, subst, ◌∙◌}
 use Rattle.gql_fields.specs.UsePlaceViews.{listed_behind, listed_of, operation_behind, shown}
 use Rattle.gql_fields.specs.Walk.{terms_in}
-use Rattle.gql_rules.specs.Adding.{Adds}
+use Rattle.gql_rules.specs.Adds.{Adds}
 use Rattle.gql_rules.specs.ReachedUses.{WrongUseIn}
 use Rattle.gql_rules.proofs.UseLemmas.{spread_made}
 use Rattle.gql_rules.proofs.reached_uses.tell_wrong_uses.Goals as goal

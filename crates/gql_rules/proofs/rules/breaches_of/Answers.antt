@@ -6,7 +6,7 @@ use Rattle.gql_fields.specs.Places.{document_places, fragment_places}
 use Rattle.gql_fields.specs.UsePlaceViews.{shown}
 use Rattle.gql_fields.specs.UsePlaces.{kept}
 use Rattle.gql_fields.specs.Walk.{tells, terms_in}
-use Rattle.gql_rules.specs.Adding.{Adds}
+use Rattle.gql_rules.specs.Adds.{Adds}
 use Rattle.gql_rules.specs.Asked.{asking}
 use Rattle.gql_rules.specs.ReachedUses.{WrongUseIn}
 use Rattle.gql_rules.proofs.BreachLemmas.{all_listed}

@@ -6,7 +6,7 @@ use Rattle.gql_doc.specs.declared.document.DocValue.{DocValue}
 use Rattle.gql_fields.specs.Walk.{terms_in}
 use Rattle.gql_fields.specs.declared.breach.Breach.{Breach}
 use Rattle.gql_fields.proofs.ToldLemmas.{flat_of_map, flat_step}
-use Rattle.gql_rules.specs.PlaceViews.{value_place_behind}
+use Rattle.gql_rules.specs.ValuePlace.{value_place_behind}
 use Rattle.gql_rules.specs.VariableUses.{TellsIn, member_place, told_in_member, told_in_value}
 use Rattle.gql_rules.proofs.variable_uses.+uses.Goals as goal
 

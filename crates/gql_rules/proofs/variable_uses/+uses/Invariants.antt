@@ -2,7 +2,7 @@ use Rattle.std.proofs.Common.{◌≡◌, ◌++◌, take}
 use Rattle.std.specs.List.{flat_map}
 use Rattle.std.specs.Option.{option_map}
 use Rattle.gql_fields.specs.Walk.{terms_in}
-use Rattle.gql_rules.specs.PlaceViews.{value_place_behind}
+use Rattle.gql_rules.specs.ValuePlace.{value_place_behind}
 use Rattle.gql_rules.specs.VariableUses.{member_place, told_in_value}
 use Rattle.gql_rules.proofs.variable_uses.+uses.Given as goal
 
