@@ -15,7 +15,7 @@ use Rattle.gql_doc.specs.declared.document.SelectionSet.{SelectionSet}
 use Rattle.gql_select.specs.Crowded.{crowded, crowded_from, crowded_here}
 use Rattle.gql_rules.specs.Nesting.{NestsWithin}
 use Rattle.gql_admit.specs.Limits.{crowded_error, directives_checked, refused_by}
-use Rattle.gql_admit.specs.Walked.{IsClean}
+use Rattle.gql_admit.specs.WalkedFragments.{IsClean}
 use Rattle.gql_lists.proofs.FirstLemmas.{first_same}
 use Rattle.gql_admit.proofs.WalkLemmas.{written_at}
 

@@ -16,7 +16,7 @@ use Rattle.gql_fields.proofs.PairLemmas.{value_at}
 use Rattle.gql_rules.specs.Nesting.{IsWithinDepth}
 use Rattle.gql_admit.specs.Limits.{depth_checked, refused_by}
 use Rattle.gql_admit.specs.Refusal.{depth_error}
-use Rattle.gql_admit.specs.Walked.{IsFine}
+use Rattle.gql_admit.specs.WalkedFragments.{IsFine}
 use Rattle.gql_admit.proofs.WalkLemmas.{written_at}
 
 -- the check of a document, by what the walk finds in so many levels

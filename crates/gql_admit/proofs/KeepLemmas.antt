@@ -12,7 +12,7 @@ use Rattle.gql_doc.specs.declared.document.Selection.{Selection, the_lemmas}
 use Rattle.gql_doc.specs.declared.document.Selection.TheVariants as selection
 use Rattle.gql_doc.specs.declared.document.SelectionSet.{SelectionSet, out-SelectionSet, roll-SelectionSet}
 use Rattle.gql_select.specs.Kept.{if_kept, is_kept, kept, kept_field, kept_if, kept_inline, kept_selection, kept_set, other_field, other_inline, others}
-use Rattle.gql_admit.specs.Left.{left_field, left_inline, left_selection, left_set, left_spread}
+use Rattle.gql_admit.specs.KeptParts.{left_field, left_inline, left_selection, left_set, left_spread}
 
 abbrev Selections : Type 0
 Selections = List (Positioned Selection)

@@ -33,7 +33,7 @@ use Rattle.gql_select.specs.Kept.{kept_inline, kept_selection}
 use Rattle.gql_rules.specs.ChosenOperation.{Operation, chosen, named, only}
 use Rattle.gql_admit.specs.Choice.{choice, choice_of}
 use Rattle.gql_admit.specs.Choice.{with_fragments}
-use Rattle.gql_admit.specs.Left.{left_field, left_inline, left_set, left_spread}
+use Rattle.gql_admit.specs.KeptParts.{left_field, left_inline, left_set, left_spread}
 use Rattle.gql_admit.specs.Prepared.{kept_operation}
 use Rattle.gql_admit.specs.declared.chosen.Chosen.{Chosen}
 use Rattle.gql_lists.proofs.FirstLemmas.{both_none, none_behind, none_here}

@@ -1,7 +1,7 @@
 pub mod Choice
-pub mod Known
-pub mod Left
+pub mod KeptParts
+pub mod KnownVariables
 pub mod Limits
 pub mod Prepared
 pub mod Refusal
-pub mod Walked
+pub mod WalkedFragments

@@ -20,7 +20,7 @@ use Rattle.gql_rules.specs.Asked.{Asked, asking}
 use Rattle.gql_rules.specs.Refusal.{refusal}
 use Rattle.gql_rules.specs.RulesChecked.{IsChecked}
 use Rattle.gql_admit.specs.Choice.{choice}
-use Rattle.gql_admit.specs.Left.{left_set}
+use Rattle.gql_admit.specs.KeptParts.{left_set}
 use Rattle.gql_admit.specs.Limits.{depth_checked, directives_checked}
 use Rattle.gql_admit.specs.declared.chosen.Chosen.{Chosen}
 

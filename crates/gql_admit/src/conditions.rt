@@ -4,7 +4,7 @@ ghost use Rattle.std.specs.Option.{option_copied};
 ghost use Rattle.gql_request.specs.Defined.{definition_places};
 ghost use Rattle.gql_select.specs.Constants.{default_of, resolved, variable_value};
 ghost use Rattle.gql_select.specs.Kept.{allows, condition, is_kept, is_truth, others};
-ghost use Rattle.gql_admit.specs.Known.{known_by};
+ghost use Rattle.gql_admit.specs.KnownVariables.{known_by};
 
 use gql_base::{Items, Name, Pairs, Value, Variables};
 use gql_doc::{Directive, DocValue, Positioned, VariableDefinition};

@@ -10,7 +10,7 @@ ghost use Rattle.gql_doc.specs.Depth.{set_beneath, set_under};
 ghost use Rattle.gql_doc.specs.First.{first_in};
 ghost use Rattle.gql_rules.specs.Nesting.{IsWithinDepth};
 ghost use Rattle.gql_admit.specs.Limits.{depth_checked};
-ghost use Rattle.gql_admit.specs.Walked.{IsFine};
+ghost use Rattle.gql_admit.specs.WalkedFragments.{IsFine};
 
 use crate::beneath::set_beneath_field;
 use crate::refusals::depth_error;

@@ -9,7 +9,7 @@ ghost use Rattle.gql_doc.specs.First.{first_in};
 ghost use Rattle.gql_select.specs.Crowded.{crowded, crowded_from, crowded_here};
 ghost use Rattle.gql_rules.specs.Nesting.{IsWithinDepth, NestsWithin};
 ghost use Rattle.gql_admit.specs.Limits.{directives_checked};
-ghost use Rattle.gql_admit.specs.Walked.{IsClean};
+ghost use Rattle.gql_admit.specs.WalkedFragments.{IsClean};
 
 use crate::beneath::set_beneath_field;
 use crate::refusals::directives_error;

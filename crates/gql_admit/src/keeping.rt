@@ -3,9 +3,9 @@ ghost use Rattle.std.specs.Prelude.{◌≡◌, ◌++◌, IfOk, OnOk};
 ghost use Rattle.std.specs.Option.{option_to_list};
 ghost use Rattle.gql_select.specs.Constants.{variable_value};
 ghost use Rattle.gql_select.specs.Kept.{kept, kept_set};
-ghost use Rattle.gql_admit.specs.Known.{known_by};
-ghost use Rattle.gql_admit.specs.Left.{left_field, left_inline, left_selection, left_set};
-ghost use Rattle.gql_admit.specs.Left.{left_spread};
+ghost use Rattle.gql_admit.specs.KnownVariables.{known_by};
+ghost use Rattle.gql_admit.specs.KeptParts.{left_field, left_inline, left_selection, left_set};
+ghost use Rattle.gql_admit.specs.KeptParts.{left_spread};
 
 use crate::conditions::{Known, other_directives};
 use gql_base::{Items, Made, Pos, Variables};

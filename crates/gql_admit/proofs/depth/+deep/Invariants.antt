@@ -2,7 +2,7 @@ use Rattle.std.proofs.Common.{◌≡◌, ◌*◌, ◌+◌, None, take}
 use Rattle.std.specs.Prelude.{option_and_then}
 use Rattle.gql_doc.specs.Depth.{deep_from, set_beneath}
 use Rattle.gql_doc.specs.First.{first_in}
-use Rattle.gql_admit.specs.Walked.{IsFine}
+use Rattle.gql_admit.specs.WalkedFragments.{IsFine}
 use Rattle.gql_admit.proofs.depth.+deep.Given as goal
 
 abbrev pub invariant-deep_selections-loop-selection : goal.invariant-deep_selections-loop-selection

@@ -2,7 +2,7 @@ use Rattle.std.proofs.Common.{◌≡◌, None, take}
 use Rattle.gql_base.specs.Pairs.{values_of}
 use Rattle.gql_doc.specs.Depth.{deep_from, operation_set}
 use Rattle.gql_doc.specs.First.{first_in}
-use Rattle.gql_admit.specs.Walked.{IsFine}
+use Rattle.gql_admit.specs.WalkedFragments.{IsFine}
 use Rattle.gql_admit.proofs.depth.deep_operations.Given as goal
 
 abbrev pub invariant-loop-place : goal.invariant-loop-place

@@ -5,7 +5,7 @@ use Rattle.gql_doc.specs.declared.document.Selection.{out-Selection}
 use Rattle.gql_doc.specs.Depth.{set_beneath}
 use Rattle.gql_doc.specs.First.{first_in}
 use Rattle.gql_select.specs.Crowded.{crowded_from, crowded_here}
-use Rattle.gql_admit.specs.Walked.{IsClean}
+use Rattle.gql_admit.specs.WalkedFragments.{IsClean}
 use Rattle.gql_admit.proofs.directives.+crowded.Given as goal
 
 abbrev pub invariant-crowded_selections-loop-selection : goal.invariant-crowded_selections-loop-selection

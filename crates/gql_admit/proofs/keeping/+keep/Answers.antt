@@ -1,4 +1,4 @@
-use Rattle.gql_admit.specs.Known.{known_by}
+use Rattle.gql_admit.specs.KnownVariables.{known_by}
 use Rattle.gql_admit.proofs.KeepLemmas.{set_left}
 use Rattle.gql_admit.proofs.keeping.+keep.Goals as goal
 

@@ -1,5 +1,5 @@
 use Rattle.std.specs.Vec.Iter.{into_iter_items}
-use Rattle.gql_admit.specs.Known.{known_by}
+use Rattle.gql_admit.specs.KnownVariables.{known_by}
 use Rattle.gql_admit.proofs.KeepLemmas.{IsKeeping}
 use Rattle.gql_admit.proofs.keeping.+keep.Given as goal
 

@@ -1,7 +1,7 @@
 use Rattle.std.proofs.Common.{◌≡◌, ◌++◌, map}
 use Rattle.std.specs.Vec.Iter.{into_iter_items}
 use Rattle.gql_select.specs.Kept.{kept_fragment}
-use Rattle.gql_admit.specs.Known.{known_by}
+use Rattle.gql_admit.specs.KnownVariables.{known_by}
 use Rattle.gql_admit.proofs.preparing.keep_each.Given as goal
 
 abbrev pub invariant-loop-fragment : goal.invariant-loop-fragment

@@ -1,5 +1,5 @@
 -- What is no truth value comes to no truth.
-use Rattle.gql_admit.specs.Known.{known_by}
+use Rattle.gql_admit.specs.KnownVariables.{known_by}
 use Rattle.gql_admit.proofs.TruthLemmas.{boolean_truth, enum_truth, list_truth, null_truth, number_truth, object_truth, string_truth}
 use Rattle.gql_admit.proofs.conditions.Known.is_true.Goals as goal
 

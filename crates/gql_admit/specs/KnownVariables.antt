@@ -1,4 +1,4 @@
--- What the variables of an operation stand for.
+-- The variables of an operation, as conditions know them: what each stands for.
 use Rattle.std.specs.Prelude.{ℕ, List}
 use Rattle.gql_base.specs.declared.value.Value.{Value}
 use Rattle.gql_select.specs.Constants.{variable_value}
