@@ -30,13 +30,16 @@ kept-directives (d ∷ ds) = kept-directives ds
 kept-variables : (vs : List (Positioned VariableDefinition)) → kept (variable_places vs) ≡ []
 kept-variables [] = refl
 kept-variables (v ∷ vs) =
-    kept_both (directive_places false v.node.directives) (variable_places vs) ∙ (λ i. kept-directives v.node.directives i ++ kept-variables vs i)
+    kept_both (directive_places false v.node.directives) (variable_places vs)
+    ∙ (λ i. kept-directives v.node.directives i ++ kept-variables vs i)
 
 pub kept_fragment : (terms : Terms) (fragment : Positioned FragmentDefinition)
-    → kept (fragment_places terms fragment) ≡ kept (on_named terms fragment.node.type_condition.node (set_places terms (fragment_set fragment).node))
+    → kept (fragment_places terms fragment)
+    ≡ kept (on_named terms fragment.node.type_condition.node (set_places terms (fragment_set fragment).node))
 kept_fragment terms fragment =
     let inner : List Place = on_named terms fragment.node.type_condition.node (set_places terms (fragment_set fragment).node) in
-    kept_both (directive_places false fragment.node.directives) inner ∙ (λ i. kept-directives fragment.node.directives i ++ kept inner)
+    kept_both (directive_places false fragment.node.directives) inner
+    ∙ (λ i. kept-directives fragment.node.directives i ++ kept inner)
 
 pub kept_rooted : (terms : Terms) (operation : Positioned OperationDefinition) (ty : SchemaType)
     → kept (rooted_places terms operation ty) ≡ kept (set_places terms (operation_set operation).node ty)
@@ -46,7 +49,8 @@ kept_rooted terms operation ty =
     ∙ (λ i. kept-variables operation.node.variable_definitions i ++ kept_both (directive_places false operation.node.directives) inner i)
     ∙ (λ i. kept-directives operation.node.directives i ++ kept inner)
 
-map_more : {A B : Type 0} (f : A → B) (xs : List A) (i : ℕ) (x : A) → slice_get xs i ≡ Some x → map f (take (suc i) xs) ≡ map f (take i xs) ++ f x ∷ []
+map_more : {A B : Type 0} (f : A → B) (xs : List A) (i : ℕ) (x : A) → slice_get xs i ≡ Some x
+    → map f (take (suc i) xs) ≡ map f (take i xs) ++ f x ∷ []
 map_more f [] i x at = cc
 map_more f (y ∷ ys) zero x at =
     let same : y ≡ x = cc in
@@ -54,7 +58,7 @@ map_more f (y ∷ ys) zero x at =
 map_more f (y ∷ ys) (suc i) x at = ap (λ bs. f y ∷ bs) (map_more f ys i x at)
 
 -- one more of a list that is changed item by item
-pub map_step : {A B : Type 0} (f : A → B) (xs : List A) (i : ℕ) (x : A) (now more : List B) (b : B) → slice_get xs i ≡ Some x → now ≡ map f (take i xs) → b ≡ f x
-    → more ≡ now ++ b ∷ [] → more ≡ map f (take (i + 1) xs)
+pub map_step : {A B : Type 0} (f : A → B) (xs : List A) (i : ℕ) (x : A) (now more : List B) (b : B)
+    → slice_get xs i ≡ Some x → now ≡ map f (take i xs) → b ≡ f x → more ≡ now ++ b ∷ [] → more ≡ map f (take (i + 1) xs)
 map_step f xs i x now more b at before told added =
     added ∙ (λ j. before j ++ told j ∷ []) ∙ sym (map_more f xs i x at) ∙ ap (λ n. map f (take n xs)) (sym (add-one i))

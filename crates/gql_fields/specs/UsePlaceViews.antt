@@ -10,6 +10,7 @@ use Rattle.gql_fields.specs.declared.listed.OperationPlaces.{OperationPlaces}
 use Rattle.gql_fields.specs.declared.use_place.UsePlace.{UsePlace}
 use Rattle.gql_fields.specs.declared.use_place.UsePlace.TheVariants as places
 
+-- a place that is listed, in the document
 abbrev pub place_behind : UsePlace → Place
 place_behind (places.Field ty field) = OnField (field_place ty.now field.now)
 place_behind (places.Directive directive) = OnDirective true directive.now
@@ -20,13 +21,15 @@ place_behind (places.Spread spread) =
 abbrev pub shown : List UsePlace → List Place
 shown places = map place_behind places
 
--- an operation that is listed, and with its places
+-- an operation that is listed
 abbrev pub operation_behind : OperationPlaces → Positioned OperationDefinition
 operation_behind listed = listed.operation.now
 
+-- the same with its places
 abbrev pub listed_behind : OperationPlaces → Positioned OperationDefinition × List Place
 listed_behind listed = (listed.operation.now, shown listed.places)
 
 -- what is listed of an operation: its places that matter
-abbrev pub listed_of : Terms → Positioned OperationDefinition → Positioned OperationDefinition × List Place
+abbrev pub listed_of : Terms → Positioned OperationDefinition
+    → Positioned OperationDefinition × List Place
 listed_of terms operation = (operation, kept (operation_places terms operation))

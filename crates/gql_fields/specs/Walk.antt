@@ -37,10 +37,11 @@ abbrev pub tells_field : Against → SchemaType → Positioned Field → Option 
 tells_field against ty field known =
     told_of_field against.built.now (terms_in against) (field_place ty field) known
 
--- the place of a spread, and with it those of its directives
+-- the place of a spread
 abbrev pub spread_place : Positioned FragmentSpread → Place
 spread_place spread = OnSpread spread.pos spread.node.fragment_name.node
 
+-- the same, and those of its directives
 abbrev pub spread_places : Positioned FragmentSpread → List Place
 spread_places spread =
     spread_place spread ∷ directive_places true spread.node.directives

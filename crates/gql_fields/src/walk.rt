@@ -162,10 +162,12 @@ fn walk_under<'a>(
 ) -> Made<()>
     ensures found { OnOk result (found.new ≡ found.old ++ tells against.now
         (under_condition (terms_in against.now) (out-InlineFragment inline.now).type_condition
-        (set_places (terms_in against.now) (out-InlineFragment inline.now).selection_set.node) ty.now)) }
+        (set_places (terms_in against.now) (out-InlineFragment inline.now).selection_set.node)
+        ty.now)) }
     ensures places { OnOk result (shown places.new ≡ shown places.old ++ kept
         (under_condition (terms_in against.now) (out-InlineFragment inline.now).type_condition
-        (set_places (terms_in against.now) (out-InlineFragment inline.now).selection_set.node) ty.now)) }
+        (set_places (terms_in against.now) (out-InlineFragment inline.now).selection_set.node)
+        ty.now)) }
 {
     let set = &inline.selection_set.node;
     match &inline.type_condition {

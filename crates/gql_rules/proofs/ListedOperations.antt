@@ -15,7 +15,8 @@ firsts [] = refl
 firsts (x ∷ xs) = ap (λ os. operation_behind x ∷ os) (firsts xs)
 
 module _ (terms : Terms) where
-  firsts_of : (operations : List (Positioned OperationDefinition)) → map (λ (p : Entry). p.0) (map (listed_of terms) operations) ≡ operations
+  firsts_of : (operations : List (Positioned OperationDefinition))
+      → map (λ (p : Entry). p.0) (map (listed_of terms) operations) ≡ operations
   firsts_of [] = refl
   firsts_of (o ∷ os) = ap (λ rest. o ∷ rest) (firsts_of os)
 
@@ -27,7 +28,8 @@ module _ (terms : Terms) where
 
   -- and with each stand its places
   pub each_listed : (listed : List OperationPlaces) (operations : List (Positioned OperationDefinition))
-      → map listed_behind listed ≡ map (listed_of terms) operations → map listed_behind listed ≡ map (listed_of terms) (map operation_behind listed)
+      → map listed_behind listed ≡ map (listed_of terms) operations
+      → map listed_behind listed ≡ map (listed_of terms) (map operation_behind listed)
   each_listed listed operations same = same ∙ ap (map (listed_of terms)) (sym (operations_listed listed operations same))
 
   pub listed_at : (listed : List OperationPlaces) (i : ℕ) (one : OperationPlaces)

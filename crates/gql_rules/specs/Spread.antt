@@ -1,4 +1,5 @@
--- The places of fragments that matter to the uses of variables, and which fragments are spread there.
+-- The places of fragments that matter to the uses of variables, and which fragments are spread
+-- there.
 use Rattle.std.specs.Prelude.{◌≡◌, map}
 use Rattle.gql_base.specs.Pairs.{values_of}
 use Rattle.gql_doc.specs.Depth.{Fragments}

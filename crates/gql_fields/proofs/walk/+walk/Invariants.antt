@@ -11,7 +11,8 @@ invariant-walk_selections-loop-selection l = record {
   found :
       l.found
       ≡ l.initial.found
-      ++ tells l.against (flat_map (λ selection. selection_places (terms_in l.against) selection.node l.ty) (take l.selection-index l.selections));
+      ++ tells l.against
+      (flat_map (λ selection. selection_places (terms_in l.against) selection.node l.ty) (take l.selection-index l.selections));
   places :
       shown l.places
       ≡ shown l.initial.places

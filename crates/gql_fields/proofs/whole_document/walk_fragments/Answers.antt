@@ -16,11 +16,14 @@ loop-place-preserved c =
     let listed = c.in_ok-walk_fragment.field-0 in
     record {
       found =
-          told_step against.built.now (terms_in against) against.fragments.now (fragment_places (terms_in against)) (values_of c.args.fragments.now) c.loop-place.place c.at.result.1.now
-          c.args.found.now c.loop-place.found c.walk_fragment.new.found (value_at c.args.fragments.now c.loop-place.place _ _ c.at.ensures)
+          told_step against.built.now (terms_in against) against.fragments.now (fragment_places (terms_in against))
+          (values_of c.args.fragments.now) c.loop-place.place c.at.result.1.now c.args.found.now c.loop-place.found
+          c.walk_fragment.new.found (value_at c.args.fragments.now c.loop-place.place _ _ c.at.ensures)
           c.loop-place.invariant.found c.in_ok-walk_fragment.ensures.found;
       lists =
-          map_step (λ fragment. kept (fragment_places (terms_in against) fragment)) (values_of c.args.fragments.now) c.loop-place.place c.at.result.1.now (map shown c.loop-place.lists)
-          (map shown c.push.new.self) (shown listed) (value_at c.args.fragments.now c.loop-place.place _ _ c.at.ensures) c.loop-place.invariant.lists
-          c.in_ok-walk_fragment.ensures.listed (ap (map shown) c.in_ok-push.ensures.ok ∙ map-append shown c.loop-place.lists (listed ∷ []));
+          map_step (λ fragment. kept (fragment_places (terms_in against) fragment)) (values_of c.args.fragments.now)
+          c.loop-place.place c.at.result.1.now (map shown c.loop-place.lists) (map shown c.push.new.self) (shown listed)
+          (value_at c.args.fragments.now c.loop-place.place _ _ c.at.ensures) c.loop-place.invariant.lists
+          c.in_ok-walk_fragment.ensures.listed
+          (ap (map shown) c.in_ok-push.ensures.ok ∙ map-append shown c.loop-place.lists (listed ∷ []));
     }

@@ -9,6 +9,9 @@ use Rattle.gql_fields.proofs.whole_document.walk_fragments.Given as goal
 
 abbrev pub invariant-loop-place : goal.invariant-loop-place
 invariant-loop-place l = record {
-  found : l.found ≡ l.initial.found ++ tells l.against (flat_map (fragment_places (terms_in l.against)) (take l.place (values_of l.fragments)));
+  found :
+      l.found
+      ≡ l.initial.found
+      ++ tells l.against (flat_map (fragment_places (terms_in l.against)) (take l.place (values_of l.fragments)));
   lists : map shown l.lists ≡ map (λ fragment. kept (fragment_places (terms_in l.against) fragment)) (take l.place (values_of l.fragments));
 }

@@ -8,6 +8,9 @@ use Rattle.gql_fields.proofs.whole_document.walk_operations.Given as goal
 
 abbrev pub invariant-loop-place : goal.invariant-loop-place
 invariant-loop-place l = record {
-  found : l.found ≡ l.initial.found ++ tells l.against (flat_map (operation_places (terms_in l.against)) (take l.place (values_of l.operations)));
+  found :
+      l.found
+      ≡ l.initial.found
+      ++ tells l.against (flat_map (operation_places (terms_in l.against)) (take l.place (values_of l.operations)));
   listed : map listed_behind l.listed ≡ map (listed_of (terms_in l.against)) (take l.place (values_of l.operations));
 }

@@ -29,9 +29,10 @@ loop-listed-preserved c =
     let listed = c.listed-item.result in
     let at : slice_get operations index ≡ Some listed
     = slice_get_read operations (length operations) index listed refl (omega arith) c.listed-item.is in
-    wrong_more (terms_in c.args.against.now) c.args.against.now.fragments.now (map operation_behind operations) index (operation_behind listed)
-    c.args.found.now c.loop-listed.found c.tell_operation.new.found
-    (slice_get-map operation_behind operations index ∙ ap (option_map operation_behind) at) c.loop-listed.invariant c.in_ok-tell_operation.ensures
+    wrong_more (terms_in c.args.against.now) c.args.against.now.fragments.now (map operation_behind operations) index
+    (operation_behind listed) c.args.found.now c.loop-listed.found c.tell_operation.new.found
+    (slice_get-map operation_behind operations index ∙ ap (option_map operation_behind) at) c.loop-listed.invariant
+    c.in_ok-tell_operation.ensures
 
 pub returns : goal.returns
 returns c =

@@ -7,4 +7,6 @@ use Rattle.gql_rules.proofs.reached_uses.tell_operations.Given as goal
 
 abbrev pub invariant-loop-listed : goal.invariant-loop-listed
 invariant-loop-listed l =
-    Adds (WrongUseIn (terms_in l.against) l.against.fragments.now (take l.listed-index (map operation_behind l.operations))) l.initial.found l.found
+    Adds
+    (WrongUseIn (terms_in l.against) l.against.fragments.now (take l.listed-index (map operation_behind l.operations)))
+    l.initial.found l.found
