@@ -48,7 +48,8 @@ module _ {V : Type 0} (roots : ℕ) (all : List (Kept V)) (first : List (Option 
     below = omega arith;
     stands = λ base jobs answer early same held.
         stands_first (IsFilledDue answer) (beneath_due answer) (IsRight answer) jobs base IsMadeAlone (store_in all first) held
-        (λ job x piece fits none made. made_right answer job x [] piece fits made (subst (λ js. Paired (IsRight answer) js []) (sym none) tt));
+        (λ job x piece fits none made. made_right answer job x [] piece fits made
+        (subst (λ js. Paired (IsRight answer) js []) (sym none) tt));
   }
 
   part_laid : (kept front : List (Kept V)) (last : Kept V) (places : List (Option Piece)) → kept ≡ front ++ last ∷ [] → IsPart kept places
@@ -57,10 +58,12 @@ module _ {V : Type 0} (roots : ℕ) (all : List (Kept V)) (first : List (Option 
       laid_less roots (length places) (entries_in front) (entry_of last)
       (ap (laid roots) (sym (ap entries_in is ∙ map-append entry_of front (last ∷ []))) ∙ part.laid_is)
 
-  pub part_number : (kept front : List (Kept V)) (last : Kept V) (places : List (Option Piece)) → kept ≡ front ++ last ∷ [] → IsPart kept places → last.number < last.first
+  pub part_number : (kept front : List (Kept V)) (last : Kept V) (places : List (Option Piece)) → kept ≡ front ++ last ∷ []
+      → IsPart kept places → last.number < last.first
   part_number kept front last places is part = (part_laid kept front last places is part).number_is
 
-  pub part_within : (kept front : List (Kept V)) (last : Kept V) (places : List (Option Piece)) → kept ≡ front ++ last ∷ [] → IsPart kept places → last.first ≤ length places
+  pub part_within : (kept front : List (Kept V)) (last : Kept V) (places : List (Option Piece)) → kept ≡ front ++ last ∷ []
+      → IsPart kept places → last.first ≤ length places
   part_within kept front last places is part = (let e = (part_laid kept front last places is part).end_is in omega arith)
 
   -- one place more
@@ -72,25 +75,30 @@ module _ {V : Type 0} (roots : ℕ) (all : List (Kept V)) (first : List (Option 
       let within : last.first ≤ length places = omega arith in
       let place = last_put.piece in
       let put = last_put.puts in
-      let long : length places' ≡ last.first = ap length put ∙ put_long place (take last.first places) last.number ∙ take_long last.first places within in
+      let long : length places' ≡ last.first = ap length put ∙ put_long place (take last.first places) last.number
+      ∙ take_long last.first places within in
       let low = part.below in
       record {
         laid_is = lies.front_is ∙ ap Some (sym long);
         below = omega arith;
         stands = λ base jobs answer early same held.
             subst (Stands (IsFilledDue answer) (beneath_due answer) (IsRight answer) jobs base (entries_in front)) (sym put)
-            (stands_less (IsFilledDue answer) (beneath_due answer) (IsRight answer) jobs base roots (entries_in front) (entry_of last) places place early
+            (stands_less (IsFilledDue answer) (beneath_due answer) (IsRight answer) jobs base roots (entries_in front) (entry_of last)
+            places place early
             (ap (laid roots) (sym (ap entries_in is ∙ map-append entry_of front (last ∷ []))) ∙ part.laid_is) (omega arith)
-            (subst (λ es. Stands (IsFilledDue answer) (beneath_due answer) (IsRight answer) jobs base es places) (ap entries_in is ∙ map-append entry_of front (last ∷ []))
+            (subst (λ es. Stands (IsFilledDue answer) (beneath_due answer) (IsRight answer) jobs base es places)
+            (ap entries_in is ∙ map-append entry_of front (last ∷ []))
             (part.stands base jobs answer early same held))
             (λ job fits right. made_right answer job last.filled (present (drop last.first places)) place fits last_put.made right));
       }
 
   -- nothing is left
   pub part_length : (kept : List (Kept V)) (places : List (Option Piece)) → kept ≡ [] → IsPart kept places → length places ≡ roots
-  part_length kept places none part = (let e : Some roots ≡ Some (length places) = ap (λ ks. laid roots (entries_in ks)) (sym none) ∙ part.laid_is in cc)
+  part_length kept places none part = (let e : Some roots ≡ Some (length places) = ap (λ ks. laid roots (entries_in ks)) (sym none)
+      ∙ part.laid_is in cc)
 
-  pub part_last : (kept : List (Kept V)) (places : List (Option Piece)) → kept ≡ [] → IsPart kept places → (base : ℕ) (jobs : List (Job V)) (answer : Call V → Answer V) → base ≤ roots
+  pub part_last : (kept : List (Kept V)) (places : List (Option Piece)) → kept ≡ [] → IsPart kept places
+      → (base : ℕ) (jobs : List (Job V)) (answer : Call V → Answer V) → base ≤ roots
       → length jobs ≡ length first → AllHeldSince answer base jobs (store_in all first) → ArePlaced answer base jobs places
   part_last kept places none part base jobs answer early same held = record {
     each = stands_last (IsFilledDue answer) (beneath_due answer) (IsRight answer) jobs base places
@@ -99,7 +107,8 @@ module _ {V : Type 0} (roots : ℕ) (all : List (Kept V)) (first : List (Option 
   }
 
 -- where all are placed, the places that are there are those of the first tasks
-pub placed_paired : {V : Type 0} (answer : Call V → Answer V) (roots : ℕ) (jobs : List (Job V)) (places : List (Option Piece)) → length places ≡ roots → roots ≤ length jobs
+pub placed_paired : {V : Type 0} (answer : Call V → Answer V) (roots : ℕ) (jobs : List (Job V)) (places : List (Option Piece))
+    → length places ≡ roots → roots ≤ length jobs
     → ArePlaced answer 0 jobs places → Paired (IsRight answer) (take roots jobs) (present places)
 placed_paired answer roots jobs places long within placed =
     all_right (IsRight answer) places jobs roots (sym long) within (λ j job o at stands. placed.each j job o (omega arith) at stands)
@@ -108,7 +117,10 @@ pub zero_low : (n : ℕ) → 0 ≤ n
 zero_low n = omega arith
 
 -- what is stored stays so where no place changes
-pub held_over : {V : Type 0} (answer : Call V → Answer V) (base : ℕ) (jobs : List (Job V)) (kept : List (Kept V)) (places places' : List (Option Piece))
-    → ((k : ℕ) → stands_for places' k ≡ stands_for places k) → AllHeldSince answer base jobs (store_in kept places) → AllHeldSince answer base jobs (store_in kept places')
+pub held_over : {V : Type 0} (answer : Call V → Answer V) (base : ℕ) (jobs : List (Job V)) (kept : List (Kept V))
+    (places places' : List (Option Piece))
+    → ((k : ℕ) → stands_for places' k ≡ stands_for places k) → AllHeldSince answer base jobs (store_in kept places)
+    → AllHeldSince answer base jobs (store_in kept places')
 held_over answer base jobs kept places places' same held k job above there =
-    stored_beside (IsFilledDue answer) (beneath_due answer) IsMadeAlone jobs (store_in kept places) (store_in kept places') k refl (same k) (held k job above there)
+    stored_beside (IsFilledDue answer) (beneath_due answer) IsMadeAlone jobs (store_in kept places) (store_in kept places') k refl (same k)
+    (held k job above there)

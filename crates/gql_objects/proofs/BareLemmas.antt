@@ -46,7 +46,8 @@ module _ {V : Type 0} (pos : Pos) (non_null whole : Bool) where
   }
 
   -- one more has its own
-  pub going_on : (left : ℕ) (places places' all : List Place) (standings standings' : List (Standing V)) (own own' : List Place) (made : Tree) (place : Place)
+  pub going_on : (left : ℕ) (places places' all : List Place) (standings standings' : List (Standing V)) (own own' : List Place)
+      (made : Tree) (place : Place)
       → (AreApart whole standings → SameTree whole made (tree.Object (first_members (members_each standings own))))
       → members_each standings' own' ≡ other_members (members_each standings own) → (AreApart whole standings → AreApart whole standings')
       → Same whole place (item_of pos non_null made) → places' ≡ places ++ place ∷ []
@@ -57,7 +58,8 @@ module _ {V : Type 0} (pos : Pos) (non_null whole : Bool) where
       let others : Made → List Members = λ m. m.left in record {
         apart = apart_is before.apart;
         places_are =
-            filled_more pos non_null whole places places' all (some_objects (suc left)) (some_objects left) an_object members (members_each standings' own') made place refl
+            filled_more pos non_null whole places places' all (some_objects (suc left)) (some_objects left) an_object members
+            (members_each standings' own') made place refl
             (subst (SameTree whole made) (sym (ap object (made-Object pos members))) (made_is before.apart))
             (left_is ∙ sym (ap others (made-Object pos members))) place_is added before.places_are;
       }

@@ -11,7 +11,8 @@ use Rattle.gql_objects.specs.declared.parent.Found.{Found}
 use Rattle.gql_objects.proofs.ObjectLevelLemmas.{found_below}
 
 -- objects that were found in a completed answer
-module _ {V : Type 0} (made whole : Completed V) (path : List PathSegment) (start found : List (Found V)) (whole_is : made ≡ whole) (none : start ≡ [])
+module _ {V : Type 0} (made whole : Completed V) (path : List PathSegment) (start found : List (Found V)) (whole_is : made ≡ whole)
+    (none : start ≡ [])
     (found_is : map spot_found found ≡ map spot_found start ++ spots made path) where
   found_spots : map spot_found found ≡ spots whole path
   found_spots = found_is ∙ ap (λ fs. map spot_found fs ++ spots made path) none ∙ ap (λ w. spots w path) whole_is
@@ -19,9 +20,11 @@ module _ {V : Type 0} (made whole : Completed V) (path : List PathSegment) (star
   pub completed_below : AreBelow (spots whole path)
   completed_below = subst AreBelow found_spots (found_below found)
 
-  pub completed_parents : (at : Spot V → Standing V) (parents : List (Standing V)) → parents ≡ map at (map spot_found found) → parents ≡ map at (spots whole path)
+  pub completed_parents : (at : Spot V → Standing V) (parents : List (Standing V)) → parents ≡ map at (map spot_found found)
+      → parents ≡ map at (spots whole path)
   completed_parents at parents is = is ∙ ap (map at) found_spots
 
-  pub completed_tasks : (at : Spot V → Standing V) (old new : List (Job V)) → new ≡ old ++ flat_map jobs_of_standing (map at (map spot_found found))
+  pub completed_tasks : (at : Spot V → Standing V) (old new : List (Job V))
+      → new ≡ old ++ flat_map jobs_of_standing (map at (map spot_found found))
       → new ≡ old ++ flat_map jobs_of_standing (map at (spots whole path))
   completed_tasks at old new is = is ∙ ap (λ ss. old ++ flat_map jobs_of_standing (map at ss)) found_spots

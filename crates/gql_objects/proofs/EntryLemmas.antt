@@ -27,10 +27,12 @@ module _ {V : Type 0} where
   laid_more n [] last is within =
       let e : n ≡ last.first = cc in
       subst (λ m. cond (ltb last.number m && eqb last.first m) (Some (m + last.count)) None ≡ Some (last.first + last.count)) (sym e)
-      (untested (ltb last.number last.first) (eqb last.first last.first) (Some (last.first + last.count)) (lt-ltb last.number last.first within) (eq-eqb last.first last.first refl))
+      (untested (ltb last.number last.first) (eqb last.first last.first) (Some (last.first + last.count))
+      (lt-ltb last.number last.first within) (eq-eqb last.first last.first refl))
   laid_more n (k ∷ front) last is within =
       let h = tested (ltb k.number n) (eqb k.first n) (laid (n + k.count) front) last.first is in
-      untested (ltb k.number n) (eqb k.first n) (laid (n + k.count) (front ++ last ∷ [])) h.0 h.1 ∙ laid_more (n + k.count) front last h.2 within
+      untested (ltb k.number n) (eqb k.first n) (laid (n + k.count) (front ++ last ∷ [])) h.0 h.1
+      ∙ laid_more (n + k.count) front last h.2 within
 
   -- the last one is taken off
   pub laid_less : (n e : ℕ) (front : List (Entry V)) (last : Entry V) → laid n (front ++ last ∷ []) ≡ Some e → Laid n e front last
@@ -56,20 +58,23 @@ module _ {V : Type 0} where
       let rest = laid_grows (n + k.count) e ks h.2 in
       omega arith
 
-  number_of : (number : ℕ) (b : Bool) (k l : Entry V) → b ≡ eqb k.number number → cond b (Some k) None ≡ Some l → (k ≡ l) × (k.number ≡ number)
+  number_of : (number : ℕ) (b : Bool) (k l : Entry V) → b ≡ eqb k.number number → cond b (Some k) None ≡ Some l
+      → (k ≡ l) × (k.number ≡ number)
   number_of number true k l test is = (cc, eqb-true k.number number (sym test))
   number_of number false k l test is = absurd (cc)
 
   -- what is kept of a task has its number, which is below that of all tasks
   later_or : (n e number : ℕ) (k l : Entry V) (o : Option (Entry V)) → k.number < n → n ≤ e
-      → ((m : Entry V) → o ≡ Some m → (m.number ≡ number) × (number < e)) → option_or o (if_number number k) ≡ Some l → (l.number ≡ number) × (number < e)
+      → ((m : Entry V) → o ≡ Some m → (m.number ≡ number) × (number < e)) → option_or o (if_number number k) ≡ Some l
+      → (l.number ≡ number) × (number < e)
   later_or n e number k l None under grows rest is =
       let own = number_of number (eqb k.number number) k l refl is in
       let same = own.1 in
       (ap (λ (x : Entry V). x.number) (sym own.0) ∙ own.1, omega arith)
   later_or n e number k l (Some m) under grows rest is = rest l is
 
-  pub latest_within : (n e number : ℕ) (ks : List (Entry V)) (l : Entry V) → laid n ks ≡ Some e → latest ks number ≡ Some l → (l.number ≡ number) × (number < e)
+  pub latest_within : (n e number : ℕ) (ks : List (Entry V)) (l : Entry V) → laid n ks ≡ Some e → latest ks number ≡ Some l
+      → (l.number ≡ number) × (number < e)
   latest_within n e number [] l is found = absurd (cc)
   latest_within n e number (k ∷ ks) l is found =
       let h = tested (ltb k.number n) (eqb k.first n) (laid (n + k.count) ks) e is in
@@ -88,6 +93,7 @@ module _ {V : Type 0} where
   latest_same [] k = if_same k
   latest_same (x ∷ ks) k = ap (λ o. option_or o (if_number k.number x)) (latest_same ks k)
 
-  pub latest_other : (ks : List (Entry V)) (k : Entry V) (number : ℕ) → (number ≡ k.number → ⊥) → latest (ks ++ k ∷ []) number ≡ latest ks number
+  pub latest_other : (ks : List (Entry V)) (k : Entry V) (number : ℕ) → (number ≡ k.number → ⊥)
+      → latest (ks ++ k ∷ []) number ≡ latest ks number
   latest_other [] k number differs = if_other k number differs
   latest_other (x ∷ ks) k number differs = ap (λ o. option_or o (if_number number x)) (latest_other ks k number differs)

@@ -44,7 +44,8 @@ module _ (V : Type 0) where
 
   -- an object is found
   pub found_object : (found found' : List (Spot V)) (object : List ℕ) (parent : FieldValue V) (path : List PathSegment)
-      → found' ≡ found ++ record { object = object; parent = parent; path = path } ∷ [] → found' ≡ found ++ spots (shape.Object object parent) path
+      → found' ≡ found ++ record { object = object; parent = parent; path = path } ∷ []
+      → found' ≡ found ++ spots (shape.Object object parent) path
   found_object found found' object parent path added = added ∙ ap (λ ss. found ++ ss) (sym (spots-Object object parent path))
 
   pub found_list : (found found' : List (Spot V)) (non_null : Bool) (items : List (Completed V)) (path : List PathSegment)
@@ -52,13 +53,15 @@ module _ (V : Type 0) where
   found_list found found' non_null items path added = added ∙ ap (λ ss. found ++ ss) (sym (spots-List non_null items path))
 
   -- one more item is stored
-  pub found_more : (found found' all : List (Spot V)) (its rest : List (Completed V)) (item : Completed V) (left left' : List Bare) (b : Bare) (steps path : List Step) (own : List PathSegment)
+  pub found_more : (found found' all : List (Spot V)) (its rest : List (Completed V)) (item : Completed V) (left left' : List Bare)
+      (b : Bare) (steps path : List Step) (own : List PathSegment)
       → its ≡ item ∷ rest → left' ≡ left ++ b ∷ [] → path ≡ steps ++ step.Index (length left) ∷ [] → own ≡ path_of path
       → found' ≡ found ++ spots item own
       → found ++ numbered (length left) (map spots its) (path_of steps) ≡ all
       → found' ++ numbered (length left') (map spots rest) (path_of steps) ≡ all
   found_more found found' all its rest item left left' b steps path own is left_is path_is own_is added before =
-      let long : length left' ≡ suc (length left) = ap length left_is ∙ length-append left (b ∷ []) ∙ (let e : length left + 1 ≡ suc (length left) = omega arith in e) in
+      let long : length left' ≡ suc (length left) = ap length left_is ∙ length-append left (b ∷ [])
+      ∙ (let e : length left + 1 ≡ suc (length left) = omega arith in e) in
       let at : own ≡ path_of steps ++ segment.Index (length left) ∷ []
       = own_is ∙ ap path_of path_is ∙ map-append segment_of steps (step.Index (length left) ∷ []) in
       let others = numbered (suc (length left)) (map spots rest) (path_of steps) in
@@ -69,7 +72,8 @@ module _ (V : Type 0) where
       ∙ before
 
   -- one more item is bare
-  pub bare_more : (left left' all : List Bare) (its rest : List (Completed V)) (item : Completed V) (b : Bare) → its ≡ item ∷ rest → left' ≡ left ++ b ∷ [] → b ≡ bare item
+  pub bare_more : (left left' all : List Bare) (its rest : List (Completed V)) (item : Completed V) (b : Bare) → its ≡ item ∷ rest
+      → left' ≡ left ++ b ∷ [] → b ≡ bare item
       → left ++ map bare its ≡ all → left' ++ map bare rest ≡ all
   bare_more left left' all its rest item b is left_is bare_is before =
       ap (λ bs. bs ++ map bare rest) left_is
@@ -83,6 +87,7 @@ take_front [] ys = refl
 take_front (x ∷ xs) ys = ap (λ zs. x ∷ zs) (take_front xs ys)
 
 -- a step that was added is taken off
-pub steps_kept : (steps pushed stored new : List Step) (step : Step) (n : ℕ) → pushed ≡ steps ++ step ∷ [] → stored ≡ pushed → n ≡ length steps → new ≡ take n stored → new ≡ steps
+pub steps_kept : (steps pushed stored new : List Step) (step : Step) (n : ℕ) → pushed ≡ steps ++ step ∷ [] → stored ≡ pushed
+    → n ≡ length steps → new ≡ take n stored → new ≡ steps
 steps_kept steps pushed stored new step n added same long cut =
     cut ∙ (λ i. take (long i) ((same ∙ added) i)) ∙ take_front steps (step ∷ [])

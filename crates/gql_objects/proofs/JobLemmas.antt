@@ -18,16 +18,21 @@ abbrev pub at_root : Asked → Bool
 at_root asked = is_mutation asked.basis.env.now.operation.node.ty
 
 module _ {V : Type 0} (basis : Basis) (spot : Spot V) where
-  pub jobs_by_is : (members : List (List ℕ × Positioned Field)) → jobs_by spot (values_of (asked_on basis spot.object members)) ≡ jobs_of basis spot members
+  pub jobs_by_is : (members : List (List ℕ × Positioned Field))
+      → jobs_by spot (values_of (asked_on basis spot.object members)) ≡ jobs_of basis spot members
   jobs_by_is [] = refl
   jobs_by_is (member ∷ members) =
-      λ i. job_of basis spot member.1 (sym (asking_is false (execution_of basis) spot.parent spot.object member.1) i) ++ jobs_by_is members i
+      λ i. job_of basis spot member.1 (sym (asking_is false (execution_of basis) spot.parent spot.object member.1) i) ++ jobs_by_is members
+      i
 
   -- the tasks of the root: they are roots of a mutation where the operation is one
-  root_jobs_by : (members : List (List ℕ × Positioned Field)) → jobs_by_as at_root spot (values_of (asked_on basis spot.object members)) ≡ jobs_of_as (is_mutation basis.env.now.operation.node.ty) basis spot members
+  root_jobs_by : (members : List (List ℕ × Positioned Field))
+      → jobs_by_as at_root spot (values_of (asked_on basis spot.object members)) ≡ jobs_of_as (is_mutation basis.env.now.operation.node.ty)
+      basis spot members
   root_jobs_by [] = refl
   root_jobs_by (member ∷ members) =
-      λ i. job_of basis spot member.1 (sym (asking_is (is_mutation basis.env.now.operation.node.ty) (execution_of basis) spot.parent spot.object member.1) i) ++ root_jobs_by members i
+      λ i. job_of basis spot member.1 (sym (asking_is (is_mutation basis.env.now.operation.node.ty) (execution_of basis) spot.parent
+      spot.object member.1) i) ++ root_jobs_by members i
 
 -- the tasks that a level makes for a value are those of its object by the definition
 pub level_jobs : {V : Type 0} (basis : Basis) (spot : Spot V) (selections : List (Positioned Selection))

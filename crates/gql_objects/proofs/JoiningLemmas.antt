@@ -53,7 +53,8 @@ pub once_united : (keys : List (List ℕ × Unit {0})) (own : List Place) (made 
 once_united keys own made distinct is = is ∙ sym (united_distinct join (zip (names_of keys) own) (distinct_zip keys own distinct))
 
 -- one more place comes under its key
-pub joined_more : (names : List (List ℕ)) (i : ℕ) (name : List ℕ) (own rest : List Place) (place : Place) (members members' all : List (List ℕ × Place))
+pub joined_more : (names : List (List ℕ)) (i : ℕ) (name : List ℕ) (own rest : List Place) (place : Place)
+    (members members' all : List (List ℕ × Place))
     → i < length names → name ≡ get_or names i name → own ≡ place ∷ rest → members' ≡ unite join members name place
     → unite_all join members (zip (drop i names) own) ≡ all
     → unite_all join members' (zip (drop (i + 1) names) rest) ≡ all

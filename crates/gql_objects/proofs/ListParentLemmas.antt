@@ -42,7 +42,8 @@ module _ {V : Type 0} where
   bare-Object : (name : List ℕ) (item : FieldValue V) → bare (shape.Object name item) ≡ shape.Object tt tt
   bare-Object name item = search (rules, the_lemmas)
 
-  bare_each : (name : List ℕ) (items : List (FieldValue V)) → map bare (map (shape.Object name) items) ≡ replicate {A = Bare} (length items) (shape.Object tt tt)
+  bare_each : (name : List ℕ) (items : List (FieldValue V))
+      → map bare (map (shape.Object name) items) ≡ replicate {A = Bare} (length items) (shape.Object tt tt)
   bare_each name [] = refl
   bare_each name (item ∷ items) = λ i. bare-Object name item i ∷ bare_each name items i
 
@@ -53,7 +54,8 @@ module _ {V : Type 0} where
 
   items_below : (name : List ℕ) (path : List PathSegment) (n : ℕ) (items : List (FieldValue V)) → AreBelow (item_spots name path n items)
   items_below name path n [] = tt
-  items_below name path n (item ∷ items) = ((let e = length-append path (segment.Index n ∷ []) in omega arith), items_below name path (suc n) items)
+  items_below name path n (item ∷ items) =
+      ((let e = length-append path (segment.Index n ∷ []) in omega arith), items_below name path (suc n) items)
 
   items_long : (shared : Shared) (n : ℕ) (items : List (FieldValue V)) → length (items_standing shared n items) ≡ length items
   items_long shared n [] = refl
@@ -61,12 +63,14 @@ module _ {V : Type 0} where
 
   module _ (shared : Shared) where
     -- one more item stands as an object
-    pub items_more : (parents parents' : List (Rc (Parent V) Global)) (parent : Rc (Parent V) Global) (its rest : List (FieldValue V)) (item : FieldValue V) (all : List (Standing V))
+    pub items_more : (parents parents' : List (Rc (Parent V) Global)) (parent : Rc (Parent V) Global) (its rest : List (FieldValue V))
+        (item : FieldValue V) (all : List (Standing V))
         → its ≡ item ∷ rest → parents' ≡ parents ++ parent ∷ [] → standing_behind parent ≡ item_standing shared (length parents) item
         → map standing_behind parents ++ items_standing shared (length parents) its ≡ all
         → map standing_behind parents' ++ items_standing shared (length parents') rest ≡ all
     items_more parents parents' parent its rest item all is added stands before =
-        let long : length parents' ≡ suc (length parents) = (let e = length-append parents (parent ∷ []) in let f = ap length added in omega arith) in
+        let long : length parents' ≡ suc (length parents) =
+        (let e = length-append parents (parent ∷ []) in let f = ap length added in omega arith) in
         let others = items_standing shared (suc (length parents)) rest in
         (λ i. map standing_behind (added i) ++ items_standing shared (long i) rest)
         ∙ ap (λ ss. ss ++ others) (map-append standing_behind parents (parent ∷ []))
@@ -76,13 +80,15 @@ module _ {V : Type 0} where
         ∙ before
 
     -- and has its tasks
-    pub item_tasks_more : (parents parents' : List (Rc (Parent V) Global)) (parent : Rc (Parent V) Global) (its rest : List (FieldValue V)) (item : FieldValue V) (jobs jobs' all : List (Job V))
+    pub item_tasks_more : (parents parents' : List (Rc (Parent V) Global)) (parent : Rc (Parent V) Global) (its rest : List (FieldValue V))
+        (item : FieldValue V) (jobs jobs' all : List (Job V))
         → its ≡ item ∷ rest → parents' ≡ parents ++ parent ∷ [] → standing_behind parent ≡ item_standing shared (length parents) item
         → jobs' ≡ jobs ++ jobs_here parent.value → jobs_here parent.value ≡ jobs_of_standing (standing_behind parent)
         → jobs ++ flat_map jobs_of_standing (items_standing shared (length parents) its) ≡ all
         → jobs' ++ flat_map jobs_of_standing (items_standing shared (length parents') rest) ≡ all
     item_tasks_more parents parents' parent its rest item jobs jobs' all is pushed stands added own before =
-        let long : length parents' ≡ suc (length parents) = (let e = length-append parents (parent ∷ []) in let f = ap length pushed in omega arith) in
+        let long : length parents' ≡ suc (length parents) =
+        (let e = length-append parents (parent ∷ []) in let f = ap length pushed in omega arith) in
         let others = flat_map jobs_of_standing (items_standing shared (suc (length parents)) rest) in
         (λ i. (added ∙ ap (λ js. jobs ++ js) own) i ++ flat_map jobs_of_standing (items_standing shared (long i) rest))
         ∙ append_assoc jobs (jobs_of_standing (standing_behind parent)) others
@@ -90,39 +96,52 @@ module _ {V : Type 0} where
         ∙ ap (λ xs. jobs ++ flat_map jobs_of_standing (items_standing shared (length parents) xs)) (sym is)
         ∙ before
 
-    module _ (node : Node) (object : List ℕ) (beneath : IsBeneath node object shared.level.value) (path : List PathSegment) (path_is : path_of shared.steps.value.items ≡ path) where
+    module _ (node : Node) (object : List ℕ) (beneath : IsBeneath node object shared.level.value) (path : List PathSegment)
+        (path_is : path_of shared.steps.value.items ≡ path) where
       item_stands : (n : ℕ) (item : FieldValue V)
           → item_standing shared n item
-          ≡ standing_at node.basis (own_selections (united node.group)) (record { object = object; parent = item; path = path ++ segment.Index n ∷ [] })
+          ≡ standing_at node.basis (own_selections (united node.group))
+          (record { object = object; parent = item; path = path ++ segment.Index n ∷ [] })
       item_stands n item =
-          λ i. record { spot = record { object = beneath.object_is i; parent = item; path = path_is i ++ segment.Index n ∷ [] }; members = beneath.members_are i }
+          λ i. record {
+            spot = record { object = beneath.object_is i; parent = item; path = path_is i ++ segment.Index n ∷ [] };
+            members =
+                beneath.members_are i;
+          }
 
       items_stand : (n : ℕ) (items : List (FieldValue V))
-          → items_standing shared n items ≡ map (standing_at node.basis (own_selections (united node.group))) (item_spots object path n items)
+          → items_standing shared n items ≡ map (standing_at node.basis (own_selections (united node.group)))
+          (item_spots object path n items)
       items_stand n [] = refl
       items_stand n (item ∷ items) = λ i. item_stands n item i ∷ items_stand (suc n) items i
 
       module _ (non_null : Bool) (items : List (FieldValue V)) where
-        all_stand : items_standing shared 0 items ≡ map (standing_at node.basis (own_selections (united node.group))) (spots (objects_in object non_null items) path)
-        all_stand = items_stand 0 items ∙ ap (map (standing_at node.basis (own_selections (united node.group)))) (sym (spots_objects object path non_null items))
+        all_stand : items_standing shared 0 items ≡ map (standing_at node.basis (own_selections (united node.group)))
+            (spots (objects_in object non_null items) path)
+        all_stand = items_stand 0 items ∙ ap (map (standing_at node.basis (own_selections (united node.group))))
+            (sym (spots_objects object path non_null items))
 
         -- the objects of a list with their fields
         pub list_parents : (parents : List (Rc (Parent V) Global)) → map standing_behind parents ≡ items_standing shared 0 items
-            → map standing_behind parents ≡ map (standing_at node.basis (own_selections (united node.group))) (spots (objects_in object non_null items) path)
+            → map standing_behind parents ≡ map (standing_at node.basis (own_selections (united node.group)))
+            (spots (objects_in object non_null items) path)
         list_parents parents is = is ∙ all_stand
 
         -- with their tasks
         pub list_tasks : (old new : List (Job V)) → new ≡ old ++ flat_map jobs_of_standing (items_standing shared 0 items)
-            → new ≡ old ++ flat_map jobs_of_standing (map (standing_at node.basis (own_selections (united node.group))) (spots (objects_in object non_null items) path))
+            → new ≡ old ++ flat_map jobs_of_standing
+            (map (standing_at node.basis (own_selections (united node.group))) (spots (objects_in object non_null items) path))
         list_tasks old new is = is ∙ ap (λ ss. old ++ flat_map jobs_of_standing ss) all_stand
 
         -- what is left without them
-        pub list_shape : (parents : List (Rc (Parent V) Global)) (count : ℕ) (shapes : List Bare) → map standing_behind parents ≡ items_standing shared 0 items → count ≡ length parents
+        pub list_shape : (parents : List (Rc (Parent V) Global)) (count : ℕ) (shapes : List Bare)
+            → map standing_behind parents ≡ items_standing shared 0 items → count ≡ length parents
             → shapes ≡ replicate count (shape.Object tt tt) → shape.List non_null shapes ≡ bare (objects_in object non_null items)
         list_shape parents count shapes is count_is shapes_are =
             let long : count ≡ length items
             = count_is ∙ sym (length-map parents standing_behind) ∙ ap length is ∙ items_long shared 0 items in
-            ap (shape.List non_null) (shapes_are ∙ ap (λ n. replicate {A = Bare} n (shape.Object tt tt)) long) ∙ sym (bare_objects object non_null items)
+            ap (shape.List non_null) (shapes_are ∙ ap (λ n. replicate {A = Bare} n (shape.Object tt tt)) long)
+            ∙ sym (bare_objects object non_null items)
 
         -- none of them is at the root
         pub list_below : AreBelow (spots (objects_in object non_null items) path)

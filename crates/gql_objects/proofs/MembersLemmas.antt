@@ -63,47 +63,82 @@ module _ {V : Type 0} where
     abbrev own_jobs : Positioned Field → Asks → List (Job V)
     own_jobs field a = job_of basis spot field (asking_by false (layers_of basis.layers) spot.parent a)
 
-    one_more : (key : List ℕ) (field : Positioned Field) (a : Asks) (members : List (List ℕ × Asked)) (jobs : List (Job V)) (rest : List Place) (all : Members)
+    one_more : (key : List ℕ) (field : Positioned Field) (a : Asks) (members : List (List ℕ × Asked)) (jobs : List (Job V))
+        (rest : List Place) (all : Members)
         → places_under spot.object members (map placed jobs ++ rest) ≡ all
-        → places_under spot.object ((key, record { basis = basis; field = field; asks = a }) ∷ members) (map placed (own_jobs field a ++ jobs) ++ rest)
+        → places_under spot.object ((key, record { basis = basis; field = field; asks = a }) ∷ members)
+        (map placed (own_jobs field a ++ jobs) ++ rest)
         ≡ (key, by_asks field a) ∷ all
     one_more key field asks.Typename members jobs rest all is =
-        λ i. (key, record { pos = field.pos; non_null = true; added = []; headers = []; tree = sym (fill-Leaf field.pos (below field) (value.String spot.object)) i }) ∷ is i
+        λ i. (
+          key,
+          record {
+            pos = field.pos;
+            non_null = true;
+            added = [];
+            headers = [];
+            tree = sym
+                (fill-Leaf field.pos (below field) (value.String spot.object)) i;
+          },
+        ) ∷ is i
     one_more key field asks.Nothing members jobs rest all is =
-        λ i. (key, record { pos = field.pos; non_null = false; added = []; headers = []; tree = sym (fill-Absent field.pos (below field)) i }) ∷ is i
+        λ i. (
+          key,
+          record {
+            pos = field.pos;
+            non_null = false;
+            added = [];
+            headers = [];
+            tree = sym (fill-Absent field.pos (below field))
+                i;
+          },
+        ) ∷ is i
     one_more key field (asks.Call resolver ty arguments) members jobs rest all is =
-        λ i. (key, place_with field.pos (outcome_by false (execution_of basis) answer spot.object spot.parent (asks.Call resolver ty arguments)) (below field)) ∷ is i
+        λ i. (
+          key,
+          place_with field.pos (outcome_by false (execution_of basis) answer spot.object spot.parent
+              (asks.Call resolver ty arguments)) (below field),
+        ) ∷ is i
 
     -- the places of an object's fields under their keys, with those of its tasks
     places_are : (fields : List (List ℕ × Positioned Field)) (rest : List Place)
-        → places_under spot.object (asked_on basis spot.object fields) (map placed (jobs_by spot (values_of (asked_on basis spot.object fields))) ++ rest)
+        → places_under spot.object (asked_on basis spot.object fields)
+        (map placed (jobs_by spot (values_of (asked_on basis spot.object fields))) ++ rest)
         ≡ over comes fields
     places_are [] rest = refl
     places_are (field ∷ fields) rest =
         one_more field.0 field.1 (asks_of (execution_of basis) spot.object field.1) (asked_on basis spot.object fields)
         (jobs_by spot (values_of (asked_on basis spot.object fields))) rest (over comes fields) (places_are fields rest)
-        ∙ (λ i. (field.0, place_with field.1.pos (sym (outcome_is false (execution_of basis) spot.parent answer spot.object field.1) i) (below field.1)) ∷ over comes fields)
+        ∙ (λ i. (
+          field.0,
+          place_with field.1.pos (sym (outcome_is false (execution_of basis) spot.parent answer spot.object field.1) i)
+              (below field.1),
+        ) ∷ over comes fields)
 
     -- the members of an object, with the places of its tasks
     pub members_are : (fields : List (List ℕ × Positioned Field)) (rest : List Place)
-        → members_with spot.object (asked_on basis spot.object fields) (map placed (jobs_by spot (values_of (asked_on basis spot.object fields))) ++ rest)
+        → members_with spot.object (asked_on basis spot.object fields)
+        (map placed (jobs_by spot (values_of (asked_on basis spot.object fields))) ++ rest)
         ≡ unite_all join [] (over comes fields)
     members_are fields rest = ap (unite_all join []) (places_are fields rest)
 
 module _ {V : Type 0} (basis : Basis) (spot : Spot V) (place : Job V → Place) where
   left_one : (field : Positioned Field) (a : Asks) (jobs : List (Job V)) (rest : List Place)
-      → places_behind a (map place (job_of basis spot field (asking_by false (layers_of basis.layers) spot.parent a) ++ jobs) ++ rest) ≡ map place jobs ++ rest
+      → places_behind a (map place (job_of basis spot field (asking_by false (layers_of basis.layers) spot.parent a) ++ jobs) ++ rest)
+      ≡ map place jobs ++ rest
   left_one field asks.Typename jobs rest = refl
   left_one field asks.Nothing jobs rest = refl
   left_one field (asks.Call resolver ty arguments) jobs rest = refl
 
   -- the places after those of the tasks of an object are left
   pub places_left : (fields : List (List ℕ × Positioned Field)) (rest : List Place)
-      → places_behind_all (values_of (asked_on basis spot.object fields)) (map place (jobs_by spot (values_of (asked_on basis spot.object fields))) ++ rest) ≡ rest
+      → places_behind_all (values_of (asked_on basis spot.object fields))
+      (map place (jobs_by spot (values_of (asked_on basis spot.object fields))) ++ rest) ≡ rest
   places_left [] rest = refl
   places_left (field ∷ fields) rest =
       ap (places_behind_all (values_of (asked_on basis spot.object fields)))
-      (left_one field.1 (asks_of (execution_of basis) spot.object field.1) (jobs_by spot (values_of (asked_on basis spot.object fields))) rest)
+      (left_one field.1 (asks_of (execution_of basis) spot.object field.1) (jobs_by spot (values_of (asked_on basis spot.object fields)))
+      rest)
       ∙ places_left fields rest
 
 -- each field has a place

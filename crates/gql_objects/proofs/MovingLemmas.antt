@@ -13,7 +13,8 @@ module _ {X : Type 0} where
   moved_first all before behind none is = record { joined = ap (λ xs. xs ++ behind) none ∙ is; counted = ap length none }
 
   -- one more is moved
-  pub moved_more : (all : List X) (count : ℕ) (before before' behind behind' : List X) (x : X) → behind ≡ x ∷ behind' → before' ≡ before ++ x ∷ []
+  pub moved_more : (all : List X) (count : ℕ) (before before' behind behind' : List X) (x : X) → behind ≡ x ∷ behind'
+      → before' ≡ before ++ x ∷ []
       → IsMoved all count before behind → IsMoved all (count + 1) before' behind'
   moved_more all count before before' behind behind' x taken added moved = record {
     joined = ap (λ xs. xs ++ behind') added ∙ append_assoc before (x ∷ []) behind' ∙ ap (λ xs. before ++ xs) (sym taken) ∙ moved.joined;
@@ -29,7 +30,8 @@ module _ {X : Type 0} where
   moved_behind all count before behind moved = sym (drop_at before behind count moved.counted) ∙ ap (drop count) moved.joined
 
   -- something is left before all that are wanted are moved
-  pub moved_some : (all : List X) (count : ℕ) (before behind : List X) → IsMoved all count before behind → count < length all → length behind ≡ 0 → ⊥
+  pub moved_some : (all : List X) (count : ℕ) (before behind : List X) → IsMoved all count before behind → count < length all
+      → length behind ≡ 0 → ⊥
   moved_some all count before behind moved within none =
       let long = ap length moved.joined in
       let counted = moved.counted in

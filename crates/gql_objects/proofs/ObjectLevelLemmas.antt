@@ -47,7 +47,8 @@ every_at P [] k x h is = absurd (cc)
 every_at P (y ∷ xs) zero x h is = subst P (let e : y ≡ x = cc in e) h.0
 every_at P (y ∷ xs) (suc k) x h is = every_at P xs k x h.1 is
 
-pub every_flat : {X Y : Type 0} (P : Y → Type 0) (Q : X → Type 0) (f : X → List Y) → ((x : X) → Q x → AllByRecursion P (f x)) → (xs : List X) → AllByRecursion Q xs
+pub every_flat : {X Y : Type 0} (P : Y → Type 0) (Q : X → Type 0) (f : X → List Y) → ((x : X) → Q x → AllByRecursion P (f x))
+    → (xs : List X) → AllByRecursion Q xs
     → AllByRecursion P (flat_map f xs)
 every_flat P Q f each [] h = tt
 every_flat P Q f each (x ∷ xs) h = every_both P (f x) (flat_map f xs) (each x h.0) (every_flat P Q f each xs h.1)
@@ -60,13 +61,21 @@ module _ {V : Type 0} where
   -- what is known of fields holds of the tasks that they make
   module _ (P : Job V → Type 0) (Q : Positioned Field → Type 0) (basis : Basis) (spot : Spot V)
       (makes : (field : Positioned Field) (asking : Asking V) → Q field
-      → P (record { basis = basis; object = spot.object; field = field; asking = asking; path = spot.path ++ segment.Field (key_text field) ∷ [] })) where
+      → P (record {
+        basis = basis;
+        object = spot.object;
+        field = field;
+        asking = asking;
+        path = spot.path ++ segment.Field
+            (key_text field) ∷ [];
+      })) where
     job_one : (field : Positioned Field) (asking : Option (Asking V)) → Q field
         → AllByRecursion P (job_at basis spot.object (spot.path ++ segment.Field (key_text field) ∷ []) field asking)
     job_one field None q = tt
     job_one field (Some asking) q = (makes field asking q, tt)
 
-    jobs_each : (root : Bool) (members : List (List ℕ × Positioned Field)) → AllByRecursion Q (values_of members) → AllByRecursion P (jobs_of_as root basis spot members)
+    jobs_each : (root : Bool) (members : List (List ℕ × Positioned Field)) → AllByRecursion Q (values_of members)
+        → AllByRecursion P (jobs_of_as root basis spot members)
     jobs_each root [] h = tt
     jobs_each root (m ∷ members) h =
         every_both P _ _ (job_one m.1 (field_asking root (execution_of basis) spot.object spot.parent m.1) h.0) (jobs_each root members h.1)
@@ -83,7 +92,8 @@ module _ {V : Type 0} where
     jobs_all selections h = jobs_all_as false selections h
 
   -- tasks of an object that isn't the root are deep
-  pub deep_at : (basis : Basis) (selections : List (Positioned Selection)) (spot : Spot V) → 0 < length spot.path → AllByRecursion IsDeep (jobs_at basis selections spot)
+  pub deep_at : (basis : Basis) (selections : List (Positioned Selection)) (spot : Spot V) → 0 < length spot.path
+      → AllByRecursion IsDeep (jobs_at basis selections spot)
   deep_at basis selections spot some =
       jobs_all IsDeep (λ field. Unit {0}) basis spot
       (λ field asking q. (let e = length-append spot.path (segment.Field (key_text field) ∷ []) in omega arith)) selections
@@ -99,7 +109,8 @@ module _ {V : Type 0} where
       long (s ∷ steps) = ap suc (long steps)
 
   -- the tasks under an answer are deep, where its objects aren't at the root
-  pub deep_spots : (job : Job V) (answer : Answer V) → AreBelow (spots (completed_by job answer) job.path) → AllByRecursion IsDeep (jobs_beneath job answer)
+  pub deep_spots : (job : Job V) (answer : Answer V) → AreBelow (spots (completed_by job answer) job.path)
+      → AllByRecursion IsDeep (jobs_beneath job answer)
   deep_spots job answer below =
       every_flat IsDeep (λ (spot : Spot V). 0 < length spot.path) (jobs_at job.basis (own_selections job.field))
       (λ spot some. deep_at job.basis (own_selections job.field) spot some) (spots (completed_by job answer) job.path) below
@@ -109,7 +120,8 @@ module _ {V : Type 0} where
     pub basis_is : job.basis ≡ basis
     pub within : IsWithin (setting_by basis) n (own_selections job.field)
 
-  pub below_at : (basis : Basis) (n : ℕ) (selections : List (Positioned Selection)) (spot : Spot V) → IsWithin (setting_by basis) (suc n) selections
+  pub below_at : (basis : Basis) (n : ℕ) (selections : List (Positioned Selection)) (spot : Spot V)
+      → IsWithin (setting_by basis) (suc n) selections
       → AllByRecursion (IsBelow basis n) (jobs_at basis selections spot)
   below_at basis n selections spot within =
       jobs_all (IsBelow basis n) (λ field. IsWithin (setting_by basis) n (own_selections field)) basis spot
@@ -117,15 +129,19 @@ module _ {V : Type 0} where
       (groups_all (λ field. IsWithin (setting_by basis) n (own_selections field)) (λ f g h k. both_within (setting_by basis) n f g h k)
       basis.grouping (setting_by basis) (collected basis spot.object selections) (within spot.object))
 
-  pub below_all : (basis : Basis) (n : ℕ) (selections : List (Positioned Selection)) (ss : List (Spot V)) → IsWithin (setting_by basis) (suc n) selections
+  pub below_all : (basis : Basis) (n : ℕ) (selections : List (Positioned Selection)) (ss : List (Spot V))
+      → IsWithin (setting_by basis) (suc n) selections
       → AllByRecursion (IsBelow basis n) (flat_map (jobs_at basis selections) ss)
   below_all basis n selections ss within =
-      every_flat (IsBelow basis n) (λ spot. Unit {0}) (jobs_at basis selections) (λ spot h. below_at basis n selections spot within) ss (every_of (λ spot. Unit {0}) (λ spot. tt) ss)
+      every_flat (IsBelow basis n) (λ spot. Unit {0}) (jobs_at basis selections) (λ spot h. below_at basis n selections spot within) ss
+      (every_of (λ spot. Unit {0}) (λ spot. tt) ss)
 
 -- the fields of an object under a field nest
-pub fields_nest : (node : Node) (object : List ℕ) → AllNest node.basis.env.now (collected node.basis object (own_selections (united node.group)))
+pub fields_nest : (node : Node) (object : List ℕ)
+    → AllNest node.basis.env.now (collected node.basis object (own_selections (united node.group)))
 fields_nest node object =
-    collected_nest (setting_by node.basis) object (levels_of node.basis.env.now) (setting_by node.basis).levels (field_set (united node.group)) node.nests
+    collected_nest (setting_by node.basis) object (levels_of node.basis.env.now) (setting_by node.basis).levels
+    (field_set (united node.group)) node.nests
 
 -- no level is kept at first
 pub none_beneath : (node : Node) → AreBeneath node []
@@ -134,29 +150,34 @@ none_beneath node = record { each = λ object level is. absurd (cc) }
 module _ {T : Type 0} (name sought : List ℕ) (x : T) (P : Option T → Type 0) (now : bytes_eq sought name ≡ true → P (Some x)) where
   put_here : (p : List ℕ × T) (ps : List (List ℕ × T)) → name ≡ p.0 → P (under sought (p ∷ ps)) → P (under sought ((p.0, x) ∷ ps))
   put_here p ps same before =
-      (elim (bytes_eq sought p.0) as (λ c. (c ≡ true → P (Some x)) → P (cond c (Some p.1) (under sought ps)) → P (cond c (Some x) (under sought ps))) [
+      (elim (bytes_eq sought p.0) as (λ c. (c ≡ true → P (Some x)) → P (cond c (Some p.1) (under sought ps))
+      → P (cond c (Some x) (under sought ps))) [
         | true ↦ λ h k. h refl
         | false ↦ λ h k. k
       ]) (λ t. now (ap (bytes_eq sought) same ∙ t)) before
 
-  put_later : (p : List ℕ × T) (ps qs : List (List ℕ × T)) → (P (under sought ps) → P (under sought qs)) → P (under sought (p ∷ ps)) → P (under sought (p ∷ qs))
+  put_later : (p : List ℕ × T) (ps qs : List (List ℕ × T)) → (P (under sought ps) → P (under sought qs)) → P (under sought (p ∷ ps))
+      → P (under sought (p ∷ qs))
   put_later p ps qs rest before =
       (elim (bytes_eq sought p.0) as (λ c. P (cond c (Some p.1) (under sought ps)) → P (cond c (Some p.1) (under sought qs))) [
         | true ↦ λ k. k
         | false ↦ λ k. rest k
       ]) before
 
-  put_one : (b : Bool) (p : List ℕ × T) (ps qs : List (List ℕ × T)) → bytes_eq name p.0 ≡ b → (P (under sought ps) → P (under sought qs)) → P (under sought (p ∷ ps))
+  put_one : (b : Bool) (p : List ℕ × T) (ps qs : List (List ℕ × T)) → bytes_eq name p.0 ≡ b → (P (under sought ps) → P (under sought qs))
+      → P (under sought (p ∷ ps))
       → P (under sought (cond b ((p.0, x) ∷ ps) (p ∷ qs)))
   put_one true p ps qs is rest before = put_here p ps ((bytes_decides name p.0).0 is) before
   put_one false p ps qs is rest before = put_later p ps qs rest before
 
   under_put : (ps : List (List ℕ × T)) → P (under sought ps) → P (under sought (put ps name x))
-  under_put [] before = (elim (bytes_eq sought name) as (λ b. (b ≡ true → P (Some x)) → P (cond b (Some x) None)) [ true ↦ λ h. h refl | false ↦ λ h. before ]) now
+  under_put [] before = (elim (bytes_eq sought name) as (λ b. (b ≡ true → P (Some x)) → P (cond b (Some x) None))
+      [ true ↦ λ h. h refl | false ↦ λ h. before ]) now
   under_put (p ∷ ps) before = put_one (bytes_eq name p.0) p ps (put ps name x) refl (under_put ps) before
 
 -- one more level is kept
-pub more_beneath : (node : Node) (levels : List (List ℕ × Rc Level Global)) (object : List ℕ) (level : Rc Level Global) → AreBeneath node levels → IsBeneath node object level.value
+pub more_beneath : (node : Node) (levels : List (List ℕ × Rc Level Global)) (object : List ℕ) (level : Rc Level Global)
+    → AreBeneath node levels → IsBeneath node object level.value
     → AreBeneath node (put levels object level)
 more_beneath node levels object level before here = record {
   each = λ sought found is.
@@ -167,14 +188,17 @@ more_beneath node levels object level before here = record {
 }
 
 -- the level that is kept under a name
-pub known_beneath : (node : Node) (levels : List (List ℕ × Rc Level Global)) (object : List ℕ) (known : Option (Rc Level Global)) (level : Rc Level Global)
-    → AreBeneath node levels → option_map level_behind known ≡ option_map level_behind (under object levels) → known ≡ Some level → IsBeneath node object level.value
+pub known_beneath : (node : Node) (levels : List (List ℕ × Rc Level Global)) (object : List ℕ) (known : Option (Rc Level Global))
+    (level : Rc Level Global)
+    → AreBeneath node levels → option_map level_behind known ≡ option_map level_behind (under object levels) → known ≡ Some level
+    → IsBeneath node object level.value
 known_beneath node levels object known level are same is =
     are.each object level.value (sym same ∙ ap (option_map level_behind) is)
 
 module _ {V : Type 0} (at : Spot V → Standing V) where
   -- one more object has its fields
-  pub parents_more : (parents parents' : List (Rc (Parent V) Global)) (parent : Rc (Parent V) Global) (its rest : List (Found V)) (found : Found V) (all : List (Standing V))
+  pub parents_more : (parents parents' : List (Rc (Parent V) Global)) (parent : Rc (Parent V) Global) (its rest : List (Found V))
+      (found : Found V) (all : List (Standing V))
       → its ≡ found ∷ rest → parents' ≡ parents ++ parent ∷ [] → standing_behind parent ≡ at (spot_found found)
       → map standing_behind parents ++ map at (map spot_found its) ≡ all
       → map standing_behind parents' ++ map at (map spot_found rest) ≡ all

@@ -43,7 +43,8 @@ module _ {V : Type 0} (is_root : Bool) (execution : Execution) (parent : FieldVa
 
   -- a field comes to what comes of what it asks
   pub outcome_is : (field : Positioned Field)
-      → field_outcome is_root execution answer object parent field ≡ outcome_by is_root execution answer object parent (asks_of execution object field)
+      → field_outcome is_root execution answer object parent field ≡ outcome_by is_root execution answer object parent
+      (asks_of execution object field)
   outcome_is field =
       let found = field_in execution.schema object (name_of field) in
       let arguments = constants execution.known (arguments_in found) (arguments_of field) in

@@ -10,7 +10,8 @@ use Rattle.gql_objects.specs.declared.parent.Trail.{Trail}
 use Rattle.gql_objects.specs.declared.step.Step.{Step}
 
 -- a segment is written over another
-pub written_over : {E : Type 0} (result : Result (Unit {0}) E) (old : List PathSegment) (place : ℕ) (new segment : PathSegment) → place < length old
+pub written_over : {E : Type 0} (result : Result (Unit {0}) E) (old : List PathSegment) (place : ℕ) (new segment : PathSegment)
+    → place < length old
     → OnOk result (new ≡ segment) → OnOk result (slice_set old place new ≡ written place segment old)
 written_over (Err e) old place new segment within is = tt
 written_over (Ok u) old place new segment within is = set_split old place new within ∙ ap (λ s. written place s old) is
@@ -51,7 +52,8 @@ written_more steps place d start old new inside is before =
     }
 
 -- all steps are written
-pub written_front : (steps : List Step) (place : ℕ) (start path : List PathSegment) → length steps ≤ place → IsWritten steps place start path
+pub written_front : (steps : List Step) (place : ℕ) (start path : List PathSegment) → length steps ≤ place
+    → IsWritten steps place start path
     → path ≡ path_of steps ++ drop (length steps) start
 written_front steps place start path past before =
     let same : place ≡ length steps = (let inside = before.inside in omega arith) in
@@ -64,19 +66,25 @@ pub ruleset front_ends = (written_first, written_front)
 written_cut : (old : List PathSegment) (place : ℕ) (segment : PathSegment) → place ≤ length old
     → written place segment (take (place + 1) old) ≡ take place old ++ segment ∷ []
 written_cut old place segment within =
-    (λ i. take-take place (place + 1) old (omega arith) i ++ segment ∷ drop_all (suc place) (take (place + 1) old) (omega (arith, length-take (place + 1) old)) i)
+    (λ i. take-take place (place + 1) old (omega arith) i ++ segment ∷ drop_all (suc place) (take (place + 1) old)
+    (omega (arith, length-take (place + 1) old)) i)
 
 -- the last segment is written, where memory doesn't want
-pub written_last : {E : Type 0} (result : Result (Unit {0}) E) (old cut new : List PathSegment) (place : ℕ) (segment : PathSegment) → place ≤ length old
+pub written_last : {E : Type 0} (result : Result (Unit {0}) E) (old cut new : List PathSegment) (place : ℕ) (segment : PathSegment)
+    → place ≤ length old
     → cut ≡ take (place + 1) old → OnOk result (new ≡ written place segment cut) → OnOk result (new ≡ take place old ++ segment ∷ [])
 written_last (Err e) old cut new place segment within cut_is is = tt
-written_last (Ok u) old cut new place segment within cut_is is = is ∙ ap (written place segment) cut_is ∙ written_cut old place segment within
+written_last (Ok u) old cut new place segment within cut_is is = is ∙ ap (written place segment) cut_is
+    ∙ written_cut old place segment within
 
 -- how long a path is with steps at its front
-steps_long : (steps : List Step) (behind path : List PathSegment) → path ≡ path_of steps ++ behind → length path ≡ length steps + length behind
-steps_long steps behind path is = ap length is ∙ length-append (path_of steps) behind ∙ ap (λ n. n + length behind) (length-map steps segment_of)
+steps_long : (steps : List Step) (behind path : List PathSegment) → path ≡ path_of steps ++ behind
+    → length path ≡ length steps + length behind
+steps_long steps behind path is = ap length is ∙ length-append (path_of steps) behind
+    ∙ ap (λ n. n + length behind) (length-map steps segment_of)
 
-module _ {E : Type 0} (result : Result (Unit {0}) E) (steps steps' : List Step) (o o' : Option ℕ) (behind path new : List PathSegment) (key key' : PathSegment)
+module _ {E : Type 0} (result : Result (Unit {0}) E) (steps steps' : List Step) (o o' : Option ℕ) (behind path new : List PathSegment)
+    (key key' : PathSegment)
     (steps_are : steps ≡ steps') (same : o ≡ o') (key_is : key ≡ key') (is : path ≡ path_of steps ++ behind) where
   long : length (path_of steps) ≡ length steps
   long = length-map steps segment_of
@@ -85,14 +93,16 @@ module _ {E : Type 0} (result : Result (Unit {0}) E) (steps steps' : List Step) 
   all_is = λ i. path_of (steps_are i ++ index_step (same i)) ++ key_is i ∷ []
 
   -- a key is written after steps
-  pub key_behind : o ≡ None → OnOk result (new ≡ take (length steps) path ++ key ∷ []) → OnOk result (new ≡ path_of (steps' ++ index_step o') ++ key' ∷ [])
+  pub key_behind : o ≡ None → OnOk result (new ≡ take (length steps) path ++ key ∷ [])
+      → OnOk result (new ≡ path_of (steps' ++ index_step o') ++ key' ∷ [])
   key_behind none last = done result last
     where
       front : take (length steps) path ≡ path_of (steps ++ index_step o)
       front = ap (take (length steps)) is ∙ take_at (path_of steps) behind (length steps) long ∙ ap path_of (sym (append-nil steps))
           ∙ ap (λ x. path_of (steps ++ index_step x)) (sym none)
 
-      done : (r : Result (Unit {0}) E) → OnOk r (new ≡ take (length steps) path ++ key ∷ []) → OnOk r (new ≡ path_of (steps' ++ index_step o') ++ key' ∷ [])
+      done : (r : Result (Unit {0}) E) → OnOk r (new ≡ take (length steps) path ++ key ∷ [])
+          → OnOk r (new ≡ path_of (steps' ++ index_step o') ++ key' ∷ [])
       done (Err e) written_is = tt
       done (Ok u) written_is = written_is ∙ ap (λ ps. ps ++ key ∷ []) front ∙ all_is
 
@@ -103,7 +113,8 @@ module _ {E : Type 0} (result : Result (Unit {0}) E) (steps steps' : List Step) 
     where
       whole : path' ≡ (path_of steps ++ segment.Index index ∷ []) ++ drop (suc (length steps)) path
       whole = more
-          ∙ ap (λ ps. ps ++ segment.Index index ∷ drop (suc (length steps)) path) (ap (take (length steps)) is ∙ take_at (path_of steps) behind (length steps) long)
+          ∙ ap (λ ps. ps ++ segment.Index index ∷ drop (suc (length steps)) path)
+          (ap (take (length steps)) is ∙ take_at (path_of steps) behind (length steps) long)
           ∙ sym (append_assoc (path_of steps) (segment.Index index ∷ []) (drop (suc (length steps)) path))
 
       front : take (length steps + 1) path' ≡ path_of (steps ++ index_step o)
@@ -113,7 +124,8 @@ module _ {E : Type 0} (result : Result (Unit {0}) E) (steps steps' : List Step) 
           ∙ sym (map-append segment_of steps (index_step (Some index)))
           ∙ ap (λ x. path_of (steps ++ index_step x)) (sym some)
 
-      done : (r : Result (Unit {0}) E) → OnOk r (new ≡ take (length steps + 1) path' ++ key ∷ []) → OnOk r (new ≡ path_of (steps' ++ index_step o') ++ key' ∷ [])
+      done : (r : Result (Unit {0}) E) → OnOk r (new ≡ take (length steps + 1) path' ++ key ∷ [])
+          → OnOk r (new ≡ path_of (steps' ++ index_step o') ++ key' ∷ [])
       done (Err e) written_is = tt
       done (Ok u) written_is = written_is ∙ ap (λ ps. ps ++ key ∷ []) front ∙ all_is
 

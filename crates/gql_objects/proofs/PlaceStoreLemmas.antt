@@ -76,39 +76,68 @@ module _ {J X : Type 0} {Fits : J → X → Type 0} {beneath : J → List J} whe
 
 module _ {J X P : Type 0} (Fits : J → X → Type 0) (beneath : J → List J) (Made : X → P → Type 0) (jobs : List J) where
   -- the place of a task with none under it is put
-  pub stored_put : (store : Store X P) (number : ℕ) (job : J) (x : X) (place : P) → slice_get jobs number ≡ Some job → Fits job x → beneath job ≡ []
+  pub stored_put : (store : Store X P) (number : ℕ) (job : J) (x : X) (place : P) → slice_get jobs number ≡ Some job → Fits job x
+      → beneath job ≡ []
       → stands_for store.places number ≡ Some place → Made x place → IsStored Fits beneath Made jobs store number
   stored_put store number job x place there fits none put made =
       inl (record { job = job; there = there; filled = x; fits = fits; none = none; place = place; put = put; made = made })
 
   -- what is stored of a task stays where its own place does
-  pub stored_beside : (store store' : Store X P) (number : ℕ) → store'.entries ≡ store.entries → stands_for store'.places number ≡ stands_for store.places number
+  pub stored_beside : (store store' : Store X P) (number : ℕ) → store'.entries ≡ store.entries
+      → stands_for store'.places number ≡ stands_for store.places number
       → IsStored Fits beneath Made jobs store number → IsStored Fits beneath Made jobs store' number
-  stored_beside store store' number kept same (inl p) = inl (record { job = p.job; there = p.there; filled = p.filled; fits = p.fits; none = p.none; place = p.place; put = same ∙ p.put; made = p.made })
-  stored_beside store store' number kept same (inr l) = inr (record { held = subst (λ es. IsHeld Fits beneath jobs es number) (sym kept) l.held; stays = same ∙ l.stays })
+  stored_beside store store' number kept same (inl p) = inl
+      (record {
+        job = p.job;
+        there = p.there;
+        filled = p.filled;
+        fits = p.fits;
+        none = p.none;
+        place = p.place;
+        put = same
+            ∙ p.put;
+        made = p.made;
+      })
+  stored_beside store store' number kept same (inr l) = inr
+      (record { held = subst (λ es. IsHeld Fits beneath jobs es number) (sym kept) l.held; stays = same ∙ l.stays })
 
   -- also where tasks are added, and one more is kept
-  pub stored_more : (more : List J) (store store' : Store X P) (k : Entry X) (number : ℕ) → (number ≡ k.number → ⊥) → store'.entries ≡ store.entries ++ k ∷ []
-      → stands_for store'.places number ≡ stands_for store.places number → IsStored Fits beneath Made jobs store number → IsStored Fits beneath Made (jobs ++ more) store' number
+  pub stored_more : (more : List J) (store store' : Store X P) (k : Entry X) (number : ℕ) → (number ≡ k.number → ⊥)
+      → store'.entries ≡ store.entries ++ k ∷ []
+      → stands_for store'.places number ≡ stands_for store.places number → IsStored Fits beneath Made jobs store number
+      → IsStored Fits beneath Made (jobs ++ more) store' number
   stored_more more store store' k number differs kept same (inl p) =
-      inl (record { job = p.job; there = get_append_left jobs more number p.job p.there; filled = p.filled; fits = p.fits; none = p.none; place = p.place; put = same ∙ p.put; made = p.made })
+      inl (record {
+        job = p.job;
+        there = get_append_left jobs more number p.job p.there;
+        filled = p.filled;
+        fits = p.fits;
+        none = p.none;
+        place = p.place;
+        put = same ∙ p.put;
+        made = p.made;
+      })
   stored_more more store store' k number differs kept same (inr l) =
       inr (record {
-        held = subst (λ es. IsHeld Fits beneath (jobs ++ more) es number) (sym kept) (held_more jobs more store.entries k number differs l.held);
+        held = subst (λ es. IsHeld Fits beneath (jobs ++ more) es number) (sym kept)
+            (held_more jobs more store.entries k number differs l.held);
         stays = same ∙ l.stays;
       })
 
   -- what a task was given last is kept, and its place is open
-  pub stored_now : (more : List J) (store store' : Store X P) (k : Entry X) (job : J) → slice_get jobs k.number ≡ Some job → Fits job k.filled → k.first ≡ length jobs
+  pub stored_now : (more : List J) (store store' : Store X P) (k : Entry X) (job : J) → slice_get jobs k.number ≡ Some job
+      → Fits job k.filled → k.first ≡ length jobs
       → k.count ≡ length more → more ≡ beneath job → store'.entries ≡ store.entries ++ k ∷ [] → stands_for store'.places k.number ≡ None
       → IsStored Fits beneath Made (jobs ++ more) store' k.number
   stored_now more store store' k job there fits first count is kept stays =
       inr (record {
-        held = subst (λ es. IsHeld Fits beneath (jobs ++ more) es k.number) (sym kept) (held_now jobs more store.entries k job there fits first count is);
+        held = subst (λ es. IsHeld Fits beneath (jobs ++ more) es k.number) (sym kept)
+            (held_now jobs more store.entries k job there fits first count is);
         stays = stays;
       })
 
-below_first : {X : Type 0} (n m : ℕ) (ks : List (Entry X)) (k l : Entry X) → laid n ks ≡ Some k.first → k.number < k.first → latest (ks ++ k ∷ []) m ≡ Some l → m < k.first
+below_first : {X : Type 0} (n m : ℕ) (ks : List (Entry X)) (k l : Entry X) → laid n ks ≡ Some k.first → k.number < k.first
+    → latest (ks ++ k ∷ []) m ≡ Some l → m < k.first
 below_first n m ks k l is under found = by (eqb m k.number) refl
   where
     by : (b : Bool) → eqb m k.number ≡ b → m < k.first
@@ -128,7 +157,8 @@ all_right Right (o ∷ os) js zero long within each = absurd (omega arith)
 all_right Right (o ∷ os) [] (suc c) long within each = absurd (omega arith)
 all_right Right (o ∷ os) (j ∷ js) (suc c) long within each =
     let here = each 0 j o refl refl in
-    let rest : Paired Right (take c js) (present os) = all_right Right os js c (omega arith) (omega arith) (λ k job p at is. each (suc k) job p at is) in
+    let rest : Paired Right (take c js) (present os) = all_right Right os js c (omega arith) (omega arith)
+    (λ k job p at is. each (suc k) job p at is) in
     subst (λ q. Paired Right (j ∷ take c js) (present (q ∷ os))) (sym here.1) (here.2, rest)
 
 -- what stands at a place once another was put, if none was there: elsewhere what stood there; what was there; or the new one
@@ -137,12 +167,14 @@ pub data PutAt {P : Type 0} (place : P) (os : List (Option P)) (n k : ℕ) (o : 
   stood : (p : P) → o ≡ Some p → slice_get os k ≡ Some o → PutAt place os n k o
   put : k ≡ n → slice_get os k ≡ Some None → o ≡ Some place → PutAt place os n k o
 
-deeper : {P : Type 0} (place : P) (q : Option P) (os : List (Option P)) (n k : ℕ) (o : Option P) → PutAt place os n k o → PutAt place (q ∷ os) (suc n) (suc k) o
+deeper : {P : Type 0} (place : P) (q : Option P) (os : List (Option P)) (n k : ℕ) (o : Option P) → PutAt place os n k o
+    → PutAt place (q ∷ os) (suc n) (suc k) o
 deeper place q os n k o (elsewhere differs is) = elsewhere (λ e. differs (let s : k ≡ n = omega (arith, e) in s)) is
 deeper place q os n k o (stood p is at) = stood p is at
 deeper place q os n k o (put same at is) = put (ap suc same) at is
 
-put_at : {P : Type 0} (place : P) (os : List (Option P)) (n k : ℕ) (o : Option P) → slice_get (put_open place os n) k ≡ Some o → PutAt place os n k o
+put_at : {P : Type 0} (place : P) (os : List (Option P)) (n k : ℕ) (o : Option P) → slice_get (put_open place os n) k ≡ Some o
+    → PutAt place os n k o
 put_at place [] n k o is = absurd (cc)
 put_at place (None ∷ os) zero zero o is = put refl refl (sym (let e : Some place ≡ o = cc in e))
 put_at place (None ∷ os) zero (suc k) o is = elsewhere (λ e. (let b : ⊥ = omega (arith, e) in b)) is
@@ -176,7 +208,8 @@ module _ {J X P : Type 0} (Fits : J → X → Type 0) (beneath : J → List J) (
     block = h.block;
   }
 
-  due_less : (ks : List (Entry X)) (k : Entry X) (number : ℕ) (job : J) (o : Option P) → (number ≡ k.number → ⊥) → IsDue (ks ++ k ∷ []) number job o → IsDue ks number job o
+  due_less : (ks : List (Entry X)) (k : Entry X) (number : ℕ) (job : J) (o : Option P) → (number ≡ k.number → ⊥)
+      → IsDue (ks ++ k ∷ []) number job o → IsDue ks number job o
   due_less ks k number job None differs h = held_less ks k number differs h
   due_less ks k number job (Some place) differs h = h
 
@@ -186,7 +219,8 @@ module _ {J X P : Type 0} (Fits : J → X → Type 0) (beneath : J → List J) (
   right_at : (ks : List (Entry X)) (number : ℕ) (job : J) (o : Option P) (p : P) → o ≡ Some p → IsDue ks number job o → Right job p
   right_at ks number job o p is due = subst (IsDue ks number job) is due
 
-  not_open : (n m : ℕ) (ks : List (Entry X)) (k : Entry X) (job : J) (o : Option P) → laid n ks ≡ Some k.first → k.number < k.first → k.first ≤ m
+  not_open : (n m : ℕ) (ks : List (Entry X)) (k : Entry X) (job : J) (o : Option P) → laid n ks ≡ Some k.first → k.number < k.first
+      → k.first ≤ m
       → IsDue (ks ++ k ∷ []) m job o → (p : P) × (o ≡ Some p) × Right job p
   not_open n m ks k job None is under above due =
       let less = below_first n m ks k due.kept is under due.last in
@@ -211,33 +245,42 @@ module _ {J X P : Type 0} (Fits : J → X → Type 0) (beneath : J → List J) (
         each = λ m job o above there stands.
             elim (put_at place (take k.first places) k.number m o stands) [
               | elsewhere differs at ↦ due_less ks k m job o differs (old.each m job o above there (get_take k.first places m o at))
-              | stood p at_is at ↦ placed ks m job o p at_is (right_at (ks ++ k ∷ []) m job o p at_is (old.each m job o above there (get_take k.first places m o at)))
+              | stood p at_is at ↦ placed ks m job o p at_is
+                  (right_at (ks ++ k ∷ []) m job o p at_is (old.each m job o above there (get_take k.first places m o at)))
               | put same at at_is ↦
-                  let due : IsHeld Fits beneath jobs (ks ++ k ∷ []) m = old.each m job None above there (get_take k.first places m None at) in
-                  let kept_is : due.kept ≡ k = (let e : Some due.kept ≡ Some k = sym due.last ∙ ap (latest (ks ++ k ∷ [])) same ∙ latest_same ks k in cc) in
+                  let due : IsHeld Fits beneath jobs (ks ++ k ∷ []) m = old.each m job None above there (get_take k.first places m None at)
+                  in
+                  let kept_is : due.kept ≡ k = (let e : Some due.kept ≡ Some k = sym due.last ∙ ap (latest (ks ++ k ∷ [])) same
+                  ∙ latest_same ks k in cc) in
                   let job_is : due.job ≡ job = (let e : Some due.job ≡ Some job = sym due.there ∙ there in cc) in
                   let block : take k.count (drop k.first jobs) ≡ beneath job =
                   ap (λ (x : Entry X). take x.count (drop x.first jobs)) (sym kept_is) ∙ due.block ∙ ap beneath job_is in
-                  let fits : Fits job k.filled = subst (λ (x : Entry X). Fits job x.filled) kept_is (subst (λ j. Fits j due.kept.filled) job_is due.fits) in
-                  placed ks m job o place at_is (finishes job fits (subst (λ js. Paired Right js (present (drop k.first places))) block own))
+                  let fits : Fits job k.filled = subst (λ (x : Entry X). Fits job x.filled) kept_is
+                  (subst (λ j. Fits j due.kept.filled) job_is due.fits) in
+                  placed ks m job o place at_is (finishes job fits
+                  (subst (λ js. Paired Right js (present (drop k.first places))) block own))
             ];
       }
 
   -- before any place is put together
-  pub stands_first : (Made : X → P → Type 0) (store : Store X P) → ((k : ℕ) (job : J) → base ≤ k → slice_get jobs k ≡ Some job → IsStored Fits beneath Made jobs store k)
+  pub stands_first : (Made : X → P → Type 0) (store : Store X P)
+      → ((k : ℕ) (job : J) → base ≤ k → slice_get jobs k ≡ Some job → IsStored Fits beneath Made jobs store k)
       → ((job : J) (x : X) (place : P) → Fits job x → beneath job ≡ [] → Made x place → Right job place) → Stands store.entries store.places
   stands_first Made store stored finishes = record {
     each = λ k job o above there stands. due k job o there (put_get store.places k o stands) (stored k job above there);
   }
     where
-      due : (k : ℕ) (job : J) (o : Option P) → slice_get jobs k ≡ Some job → stands_for store.places k ≡ o → IsStored Fits beneath Made jobs store k → IsDue store.entries k job o
+      due : (k : ℕ) (job : J) (o : Option P) → slice_get jobs k ≡ Some job → stands_for store.places k ≡ o
+          → IsStored Fits beneath Made jobs store k → IsDue store.entries k job o
       due k job o there at (inl p) =
           let same : p.job ≡ job = (let e : Some p.job ≡ Some job = sym p.there ∙ there in cc) in
-          placed store.entries k job o p.place (sym at ∙ p.put) (subst (λ j. Right j p.place) same (finishes p.job p.filled p.place p.fits p.none p.made))
+          placed store.entries k job o p.place (sym at ∙ p.put)
+          (subst (λ j. Right j p.place) same (finishes p.job p.filled p.place p.fits p.none p.made))
       due k job o there at (inr l) = subst (IsDue store.entries k job) (sym (sym at ∙ l.stays)) l.held
 
   -- all places are put together
-  pub stands_last : (places : List (Option P)) → Stands [] places → (j : ℕ) (job : J) (o : Option P) → base ≤ j → slice_get jobs j ≡ Some job → slice_get places j ≡ Some o
+  pub stands_last : (places : List (Option P)) → Stands [] places → (j : ℕ) (job : J) (o : Option P) → base ≤ j
+      → slice_get jobs j ≡ Some job → slice_get places j ≡ Some o
       → (p : P) × (o ≡ Some p) × Right job p
   stands_last places old = λ j job o above at stands. none_due j job o (old.each j job o above at stands)
     where

@@ -16,7 +16,8 @@ put_end (o ∷ os) zero = refl
 put_end (o ∷ os) (suc k) = put_end os k
 
 -- one more open place
-pub put_more : {P : Type 0} (first os os' : List (Option P)) → os' ≡ os ++ None ∷ [] → ((k : ℕ) → stands_for os k ≡ stands_for first k) → (k : ℕ) → stands_for os' k ≡ stands_for first k
+pub put_more : {P : Type 0} (first os os' : List (Option P)) → os' ≡ os ++ None ∷ [] → ((k : ℕ) → stands_for os k ≡ stands_for first k)
+    → (k : ℕ) → stands_for os' k ≡ stands_for first k
 put_more first os os' added same k = ap (λ ps. stands_for ps k) added ∙ put_end os k ∙ same k
 
 -- there is none past the end
@@ -50,7 +51,8 @@ end_here o [] (suc n) is = absurd (omega arith)
 end_here o (p ∷ os) zero is = absurd (omega arith)
 end_here o (p ∷ os) (suc n) is = end_here o os n (omega arith)
 
-end_others : {P : Type 0} (o : Option P) (os : List (Option P)) (n k : ℕ) → length os ≡ n → (k ≡ n → ⊥) → stands_for (os ++ o ∷ []) k ≡ stands_for os k
+end_others : {P : Type 0} (o : Option P) (os : List (Option P)) (n k : ℕ) → length os ≡ n → (k ≡ n → ⊥)
+    → stands_for (os ++ o ∷ []) k ≡ stands_for os k
 end_others o [] zero zero is differs = absurd (differs refl)
 end_others o [] zero (suc k) is differs = refl
 end_others o [] (suc n) k is differs = absurd (omega arith)
@@ -59,7 +61,8 @@ end_others o (p ∷ os) (suc n) zero is differs = refl
 end_others o (p ∷ os) (suc n) (suc k) is differs = end_others o os n k (omega arith) (λ e. differs (ap suc e))
 
 -- a place after all others, which are open as far as they weren't there
-pub puts_behind : {P : Type 0} (o : Option P) (first os os' : List (Option P)) (n : ℕ) → ((k : ℕ) → stands_for os k ≡ stands_for first k) → length os ≡ n → os' ≡ os ++ o ∷ []
+pub puts_behind : {P : Type 0} (o : Option P) (first os os' : List (Option P)) (n : ℕ) → ((k : ℕ) → stands_for os k ≡ stands_for first k)
+    → length os ≡ n → os' ≡ os ++ o ∷ []
     → PutsAt o n first os'
 puts_behind o first os os' n same long is = record {
   here = ap (λ ps. stands_for ps n) is ∙ end_here o os n long;

@@ -28,7 +28,8 @@ use Rattle.gql_objects.proofs.JobLemmas.{jobs_by_is}
 module _ {V : Type 0} (basis : Basis) (answer : Call V → Answer V) (n : ℕ) where
   -- the members of an object, of the places of its tasks with one level of sets less
   pub members_merged : (spot : Spot V) (selections : List (Positioned Selection)) (rest : List Place)
-      → members_with spot.object (asked_in basis spot.object selections) (map (place_by basis answer n) (jobs_at basis selections spot) ++ rest)
+      → members_with spot.object (asked_in basis spot.object selections)
+      (map (place_by basis answer n) (jobs_at basis selections spot) ++ rest)
       ≡ members_by basis answer (suc n) spot.object spot.parent selections
   members_merged spot selections rest =
       let fields : List (List ℕ × Positioned Field) = groups_in false basis spot.object selections in
@@ -39,7 +40,8 @@ module _ {V : Type 0} (basis : Basis) (answer : Call V → Answer V) (n : ℕ) w
   pub members_alone : (spot : Spot V) (selections : List (Positioned Selection))
       → members_of_tasks basis answer n selections spot ≡ members_by basis answer (suc n) spot.object spot.parent selections
   members_alone spot selections =
-      ap (λ ps. members_with spot.object (asked_in basis spot.object selections) ps) (sym (append-nil (map (place_by basis answer n) (jobs_at basis selections spot))))
+      ap (λ ps. members_with spot.object (asked_in basis spot.object selections) ps)
+      (sym (append-nil (map (place_by basis answer n) (jobs_at basis selections spot))))
       ∙ members_merged spot selections []
 
   all_merged : (selections : List (Positioned Selection)) (ss : List (Spot V))
@@ -54,5 +56,6 @@ module _ {V : Type 0} (basis : Basis) (answer : Call V → Answer V) (n : ℕ) w
       ≡ fill pos (beneath_by basis answer (suc n) field) c
   tree_merged pos field c path =
       ap (λ ms. tree_with pos (bare c) ms) (all_merged (own_selections field) (spots c path))
-      ∙ ap (λ ms. tree_with pos (bare c) ms) (sym (append-nil (map (λ (spot : Spot V). beneath_by basis answer (suc n) field spot.object spot.parent) (spots c path))))
+      ∙ ap (λ ms. tree_with pos (bare c) ms) (sym
+      (append-nil (map (λ (spot : Spot V). beneath_by basis answer (suc n) field spot.object spot.parent) (spots c path))))
       ∙ ap (λ (m : Made). m.tree) (filled_is pos (beneath_by basis answer (suc n) field) c path [])

@@ -52,24 +52,28 @@ module _ {V : Type 0} where
       ap jobs_in added
       ∙ map-append job_of_task tasks (task ∷ [])
       ∙ (λ i. jobs_in tasks ++ job_with (parent_is i) (node_is i) ∷ [])
-      ∙ ap (λ js. jobs_in tasks ++ js) (sym (called (rooted parent.held) node.basis (standing_of parent).spot (united node.group) node.asks calls))
+      ∙ ap (λ js. jobs_in tasks ++ js) (sym (called (rooted parent.held) node.basis (standing_of parent).spot (united node.group) node.asks
+      calls))
 
   -- another one is none
   pub no_task : (tasks : List (Task V)) (parent : Parent V) (node : Node) → is_call node.asks ≡ false
       → jobs_in tasks ≡ jobs_in tasks ++ job_by (rooted parent.held) (standing_of parent).spot (asked_by node)
   no_task tasks parent node calls =
       sym (append-nil (jobs_in tasks))
-      ∙ ap (λ js. jobs_in tasks ++ js) (sym (uncalled (rooted parent.held) node.basis (standing_of parent).spot (united node.group) node.asks calls))
+      ∙ ap (λ js. jobs_in tasks ++ js) (sym (uncalled (rooted parent.held) node.basis (standing_of parent).spot (united node.group)
+      node.asks calls))
 
   -- one more field is looked at
-  pub tasks_more : (root : Asked → Bool) (spot : Spot V) (nodes : List (Rc Node Global)) (i : ℕ) (node : Rc Node Global) (first tasks tasks' : List (Job V))
+  pub tasks_more : (root : Asked → Bool) (spot : Spot V) (nodes : List (Rc Node Global)) (i : ℕ) (node : Rc Node Global)
+      (first tasks tasks' : List (Job V))
       → i < length nodes → node ≡ get_or nodes i node → tasks ≡ first ++ jobs_by_as root spot (map asked_behind (take i nodes))
       → tasks' ≡ tasks ++ job_by root spot (asked_behind node)
       → tasks' ≡ first ++ jobs_by_as root spot (map asked_behind (take (i + 1) nodes))
   tasks_more root spot nodes i node first tasks tasks' within read before added =
       let front = map asked_behind (take i nodes) in
       let next : map asked_behind (take (i + 1) nodes) ≡ front ++ asked_behind node ∷ []
-      = ap (map asked_behind) (take_more nodes i node within ∙ ap (λ n. take i nodes ++ n ∷ []) (sym read)) ∙ map-append asked_behind (take i nodes) (node ∷ []) in
+      = ap (map asked_behind) (take_more nodes i node within ∙ ap (λ n. take i nodes ++ n ∷ []) (sym read))
+      ∙ map-append asked_behind (take i nodes) (node ∷ []) in
       added
       ∙ ap (λ ts. ts ++ job_by root spot (asked_behind node)) before
       ∙ append_assoc first (jobs_by_as root spot front) (job_by root spot (asked_behind node))
@@ -84,8 +88,10 @@ take_past (suc n) [] past = refl
 take_past (suc n) (x ∷ xs) past = ap (λ ys. x ∷ ys) (take_past n xs (omega arith))
 
 -- all fields were looked at
-pub tasks_end : {V : Type 0} (parent : Parent V) (nodes : List (Rc Node Global)) (i : ℕ) (first tasks : List (Job V)) → nodes ≡ parent.level.value.nodes.items → length nodes ≤ i
-    → tasks ≡ first ++ jobs_by_as (rooted parent.held) (standing_of parent).spot (map asked_behind (take i nodes)) → tasks ≡ first ++ jobs_here parent
+pub tasks_end : {V : Type 0} (parent : Parent V) (nodes : List (Rc Node Global)) (i : ℕ) (first tasks : List (Job V))
+    → nodes ≡ parent.level.value.nodes.items → length nodes ≤ i
+    → tasks ≡ first ++ jobs_by_as (rooted parent.held) (standing_of parent).spot (map asked_behind (take i nodes))
+    → tasks ≡ first ++ jobs_here parent
 tasks_end parent nodes i first tasks same past is =
     is
     ∙ ap (λ ns. first ++ jobs_by_as (rooted parent.held) (standing_of parent).spot (map asked_behind ns)) (take_past i nodes past ∙ same)

@@ -17,7 +17,8 @@ returns g c =
     let found = c.take_apart.new.found.items in
     let at = standing_at c.args.node.now.basis (own_selections (united c.args.node.now.group)) in record {
       shape_is = c.of.ensures ∙ c.in_ok-shape.ensures.bare ∙ ap bare c.in_ok-whole.ensures;
-      parents_are = completed_parents whole due path start found c.in_ok-whole.ensures c.new-found.ensures.items c.in_ok-shape.ensures.found at _ c.in_ok-parents.ensures.parents;
+      parents_are = completed_parents whole due path start found c.in_ok-whole.ensures c.new-found.ensures.items
+          c.in_ok-shape.ensures.found at _ c.in_ok-parents.ensures.parents;
       tasks_are =
           completed_tasks whole due path start found c.in_ok-whole.ensures c.new-found.ensures.items c.in_ok-shape.ensures.found at
           (jobs_in c.args.tasks.now.items) (jobs_in c.place_found.new.tasks.items) c.in_ok-parents.ensures.tasks;

@@ -10,6 +10,7 @@ abbrev pub invariant-loop-item : goal.invariant-loop-item
 invariant-loop-item g l = record {
   parents : map standing_behind l.parents.items ++ items_standing l.shared (length l.parents.items) (into_iter_items l.item-iterator)
       ≡ items_standing l.shared 0 l.fn.items;
-  tasks : jobs_in l.tasks.items ++ flat_map jobs_of_standing (items_standing l.shared (length l.parents.items) (into_iter_items l.item-iterator))
+  tasks : jobs_in l.tasks.items ++ flat_map jobs_of_standing
+      (items_standing l.shared (length l.parents.items) (into_iter_items l.item-iterator))
       ≡ jobs_in l.initial.tasks.items ++ flat_map jobs_of_standing (items_standing l.shared 0 l.fn.items);
 }

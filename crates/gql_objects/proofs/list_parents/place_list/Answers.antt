@@ -19,11 +19,13 @@ returns g c =
     let parents = c.in_ok-parents.parents.items in record {
       shape_is =
           c.objects.ensures
-          ∙ list_shape shared node object level path steps c.args.non_null items parents c.len.result (some_objects c.len.result) c.in_ok-parents.ensures.parents
+          ∙ list_shape shared node object level path steps c.args.non_null items parents c.len.result (some_objects c.len.result)
+          c.in_ok-parents.ensures.parents
           (c.len.ensures ∙ c.in_ok-parents.parents.ok.0) refl;
       parents_are = list_parents shared node object level path steps c.args.non_null items parents c.in_ok-parents.ensures.parents;
       tasks_are =
-          list_tasks shared node object level path steps c.args.non_null items (jobs_in c.args.tasks.now.items) (jobs_in c.place_objects.new.tasks.items)
+          list_tasks shared node object level path steps c.args.non_null items (jobs_in c.args.tasks.now.items)
+          (jobs_in c.place_objects.new.tasks.items)
           c.in_ok-parents.ensures.tasks;
       below = list_below shared node object level path steps c.args.non_null items;
     }

@@ -10,14 +10,18 @@ use Rattle.gql_objects.proofs.list_parents.place_value.Goals as goal
 
 pub returns-clause-parents : goal.returns-clause-parents
 returns-clause-parents g c =
-    subst (λ (items : List (FieldValue g.row.V.Denot)). IfOk c.place_values.result (λ parents. map standing_behind parents.items ≡ items_standing c.args.shared.now 0 items))
+    subst (λ (items : List (FieldValue g.row.V.Denot)). IfOk c.place_values.result
+    (λ parents. map standing_behind parents.items ≡ items_standing c.args.shared.now 0 items))
     (values_behind g.row.V.Denot c.args.value c.in_ok-values.values c.in_ok-values.ensures) c.place_values.ensures.parents
 
 pub returns-clause-tasks : goal.returns-clause-tasks
 returns-clause-tasks g c =
     subst (λ (old : List (Task g.row.V.Denot)). OnOk c.place_values.result (jobs_in c.place_values.new.tasks.items ≡ jobs_in old
-    ++ flat_map jobs_of_standing (items_standing c.args.shared.now 0 (Rattle.gql_complete.specs.ObjectLists.items_behind (Rattle.std.specs.Prelude.Some (Rattle.gql_resolve.specs.declared.field_value.FieldValue.TheVariants.Value c.args.value))))))
+    ++ flat_map jobs_of_standing (items_standing c.args.shared.now 0
+    (Rattle.gql_complete.specs.ObjectLists.items_behind
+    (Rattle.std.specs.Prelude.Some (Rattle.gql_resolve.specs.declared.field_value.FieldValue.TheVariants.Value c.args.value))))))
     c.in_ok-reserve_tasks.ensures
-    (subst (λ (items : List (FieldValue g.row.V.Denot)). OnOk c.place_values.result (jobs_in c.place_values.new.tasks.items ≡ jobs_in c.reserve_tasks.new.tasks.items
+    (subst (λ (items : List (FieldValue g.row.V.Denot)). OnOk c.place_values.result
+    (jobs_in c.place_values.new.tasks.items ≡ jobs_in c.reserve_tasks.new.tasks.items
     ++ flat_map jobs_of_standing (items_standing c.args.shared.now 0 items)))
     (values_behind g.row.V.Denot c.args.value c.in_ok-values.values c.in_ok-values.ensures) c.place_values.ensures.tasks)

@@ -15,7 +15,9 @@ invariant-loop-one g l = record {
       ++ map (standing_at l.node.basis (own_selections (united l.node.group))) (map spot_found (into_iter_items l.one-iterator))
       ≡ map (standing_at l.node.basis (own_selections (united l.node.group))) (map spot_found l.fn.found.items);
   tasks : jobs_in l.tasks.items
-      ++ flat_map jobs_of_standing (map (standing_at l.node.basis (own_selections (united l.node.group))) (map spot_found (into_iter_items l.one-iterator)))
+      ++ flat_map jobs_of_standing (map (standing_at l.node.basis (own_selections (united l.node.group)))
+      (map spot_found (into_iter_items l.one-iterator)))
       ≡ jobs_in l.initial.tasks.items
-      ++ flat_map jobs_of_standing (map (standing_at l.node.basis (own_selections (united l.node.group))) (map spot_found l.fn.found.items));
+      ++ flat_map jobs_of_standing (map (standing_at l.node.basis (own_selections (united l.node.group)))
+      (map spot_found l.fn.found.items));
 }

@@ -7,6 +7,8 @@ use Rattle.gql_objects.proofs.task_making.make_tasks.Goals as goal
 
 pub returns : goal.returns
 returns g c =
-    tasks_end c.args.parent.now.value c.as_slice-node-items.result.now c.loop-node.node-index (jobs_in c.args.tasks.now.items) (jobs_in c.loop-node.tasks.items)
-    (c.as_slice-node-items.ensures.value ∙ ap (λ (l : Level). l.nodes.items) (c.deref-2.ensures ∙ ap (λ (p : Parent g.row.V.Denot). p.level.value) c.deref.ensures))
+    tasks_end c.args.parent.now.value c.as_slice-node-items.result.now c.loop-node.node-index (jobs_in c.args.tasks.now.items)
+    (jobs_in c.loop-node.tasks.items)
+    (c.as_slice-node-items.ensures.value ∙ ap (λ (l : Level). l.nodes.items)
+    (c.deref-2.ensures ∙ ap (λ (p : Parent g.row.V.Denot). p.level.value) c.deref.ensures))
     c.loop-node-test.false c.loop-node.invariant

@@ -7,4 +7,5 @@ use Rattle.gql_objects.proofs.task_making.make_tasks.Given as goal
 
 abbrev pub invariant-loop-node : goal.invariant-loop-node
 invariant-loop-node g l =
-    jobs_in l.tasks.items ≡ jobs_in l.initial.tasks.items ++ jobs_by_as (rooted l.parent.value.held) (standing_behind l.parent).spot (map asked_behind (take l.node-index l.node-items))
+    jobs_in l.tasks.items ≡ jobs_in l.initial.tasks.items ++ jobs_by_as (rooted l.parent.value.held) (standing_behind l.parent).spot
+    (map asked_behind (take l.node-index l.node-items))

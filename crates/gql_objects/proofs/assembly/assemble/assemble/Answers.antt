@@ -7,18 +7,22 @@ kept-init g c = part_first c.args.roots c.args.kept.items c.args.places.now.item
 
 pub put_place-requires-clause-number : goal.put_place-requires-clause-number
 put_place-requires-clause-number g c =
-    part_number c.args.roots c.args.kept.items c.args.places.now.items c.kept.kept.items c.pop.new.self.items c.in-Some.last c.kept.places.items
+    part_number c.args.roots c.args.kept.items c.args.places.now.items c.kept.kept.items c.pop.new.self.items c.in-Some.last
+    c.kept.places.items
     c.in-Some.ensures.items c.kept.invariant
 
 pub put_place-requires-clause-first : goal.put_place-requires-clause-first
 put_place-requires-clause-first g c =
-    part_within c.args.roots c.args.kept.items c.args.places.now.items c.kept.kept.items c.pop.new.self.items c.in-Some.last c.kept.places.items
+    part_within c.args.roots c.args.kept.items c.args.places.now.items c.kept.kept.items c.pop.new.self.items c.in-Some.last
+    c.kept.places.items
     c.in-Some.ensures.items c.kept.invariant
 
 pub kept-preserved : goal.kept-preserved
 kept-preserved g c =
-    subst (λ left. IsPart c.args.roots c.args.kept.items c.args.places.now.items left c.put_place.new.places.items) (sym c.give_back.ensures)
-    (part_less c.args.roots c.args.kept.items c.args.places.now.items c.kept.kept.items c.pop.new.self.items c.in-Some.last c.kept.places.items
+    subst (λ left. IsPart c.args.roots c.args.kept.items c.args.places.now.items left c.put_place.new.places.items)
+    (sym c.give_back.ensures)
+    (part_less c.args.roots c.args.kept.items c.args.places.now.items c.kept.kept.items c.pop.new.self.items c.in-Some.last
+    c.kept.places.items
     c.put_place.new.places.items c.in-Some.ensures.items c.in_ok-put_place.ensures c.kept.invariant)
 
 pub returns-clause-length : goal.returns-clause-length
@@ -29,4 +33,5 @@ returns-clause-length g c =
 pub returns-clause-placed : goal.returns-clause-placed
 returns-clause-placed g c = λ base jobs answer early same held.
     let none = no_length c.kept.kept.items (sym c.kept.kept.ok.0 ∙ c.in_default.ensures.cases.0) in
-    part_last c.args.roots c.args.kept.items c.args.places.now.items c.kept.kept.items c.kept.places.items none c.kept.invariant base jobs answer early same held
+    part_last c.args.roots c.args.kept.items c.args.places.now.items c.kept.kept.items c.kept.places.items none c.kept.invariant base jobs
+    answer early same held

@@ -6,10 +6,12 @@ use Rattle.gql_objects.proofs.assembly.assemble.put_if_open.Goals as goal
 
 pub returns-then-is_none : goal.returns-then-is_none
 returns-then-is_none c =
-    let read = slice_get_read c.args.places.now.items (length c.args.places.now.items) c.args.number c.index.result.now refl c.requires c.index.ensures in
+    let read = slice_get_read c.args.places.now.items (length c.args.places.now.items) c.args.number c.index.result.now refl c.requires
+    c.index.ensures in
     put_if_none c.args.place c.args.places.now.items c.args.number c.index.result.now read (c.is_none.ensures ∙ ap not c.if-is_none.true)
 
 pub returns-else-is_none : goal.returns-else-is_none
 returns-else-is_none c =
-    let read = slice_get_read c.args.places.now.items (length c.args.places.now.items) c.args.number c.index.result.now refl c.requires c.index.ensures in
+    let read = slice_get_read c.args.places.now.items (length c.args.places.now.items) c.args.number c.index.result.now refl c.requires
+    c.index.ensures in
     put_if_some c.args.place c.args.places.now.items c.args.number c.index.result.now read (c.is_none.ensures ∙ ap not c.if-is_none.false)

@@ -25,16 +25,20 @@ loop-parent-preserved g c =
     let own = map place_in (present c.loop-parent.own.items) in
     let own' = map place_in (present c.members_at.new.places.items) in
     let m = members_in c.in_ok-members_at.field-0 in
-    members_more c.args.whole c.args.parents.now c.loop-parent.parent-index c.parent-item.result (map members_in c.loop-parent.members.items) (map members_in c.push_back.new.self.items) _
+    members_more c.args.whole c.args.parents.now c.loop-parent.parent-index c.parent-item.result
+    (map members_in c.loop-parent.members.items) (map members_in c.push_back.new.self.items) _
     m own own' c.loop-parent-test.true c.parent-item.is
     (added_members c.loop-parent.members.items c.push_back.new.self.items c.in_ok-members_at.field-0 c.in_ok-push_back.ensures.items)
-    (subst (λ (l : Level). (c.args.whole ≡ false → HasDistinctNames (members_of l)) → SameMembers c.args.whole m (members_with l.object (members_of l) own)) level
+    (subst (λ (l : Level). (c.args.whole ≡ false → HasDistinctNames (members_of l))
+    → SameMembers c.args.whole m (members_with l.object (members_of l) own)) level
     c.in_ok-members_at.ensures.members)
     (subst (λ (l : Level). own' ≡ places_behind_all (map asked_behind l.nodes.items) own) level c.in_ok-members_at.ensures.left)
     c.loop-parent.invariant
 
 pub returns : goal.returns
 returns g c = λ apart.
-    members_whole c.args.whole (map standing_behind (drop c.loop-parent.parent-index c.args.parents.now)) (map members_in c.loop-parent.members.items) _
+    members_whole c.args.whole (map standing_behind (drop c.loop-parent.parent-index c.args.parents.now))
+    (map members_in c.loop-parent.members.items) _
     (map place_in (present c.loop-parent.own.items))
-    (ap (map standing_behind) (drop_all c.loop-parent.parent-index c.args.parents.now (let t = c.loop-parent-test.false in omega arith))) (c.loop-parent.invariant apart)
+    (ap (map standing_behind) (drop_all c.loop-parent.parent-index c.args.parents.now (let t = c.loop-parent-test.false in omega arith)))
+    (c.loop-parent.invariant apart)

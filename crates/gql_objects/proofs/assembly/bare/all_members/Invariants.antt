@@ -10,5 +10,6 @@ abbrev pub invariant-loop-parent : goal.invariant-loop-parent
 invariant-loop-parent g l =
     AreApart l.whole (map standing_behind l.parents)
     → Paired (SameMembers l.whole)
-    (map members_in l.members.items ++ members_each (map standing_behind (drop l.parent-index l.parents)) (map place_in (present l.own.items)))
+    (map members_in l.members.items ++ members_each (map standing_behind (drop l.parent-index l.parents))
+    (map place_in (present l.own.items)))
     (members_each (map standing_behind l.parents) (map place_in (present l.initial.own.items)))

@@ -16,9 +16,11 @@ returns g c = λ apart.
     let own = map place_in (present c.args.own.now.items) in
     let places = places_in c.in_ok-pieces.pieces in
     let filled = subst (λ ps. AreApart whole (map standing_behind ps)
-    → SameItems whole places (all_trees c.args.list.pos c.args.list.non_null (some_objects c.args.list.count) (members_each (map standing_behind ps) own)))
+    → SameItems whole places (all_trees c.args.list.pos c.args.list.non_null (some_objects c.args.list.count)
+    (members_each (map standing_behind ps) own)))
     c.from_vec-parents.ensures.items c.in_ok-pieces.ensures apart in
     IfOk-weaker c.into_list.result _ _
-    (λ made listed. list_made c.args.list.pos c.args.list.non_null whole (some_objects c.args.list.count) (members_each (map standing_behind c.args.parents.items) own) places made listed
+    (λ made listed. list_made c.args.list.pos c.args.list.non_null whole (some_objects c.args.list.count)
+    (members_each (map standing_behind c.args.parents.items) own) places made listed
     filled)
     c.into_list.ensures

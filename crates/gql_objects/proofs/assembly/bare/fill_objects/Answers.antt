@@ -10,7 +10,8 @@ use Rattle.gql_objects.proofs.assembly.bare.fill_objects.Goals as goal
 pub loop-object-init : goal.loop-object-init
 loop-object-init g c = λ left is apart.
     let whole : left ≡ c.args.list.count = omega (arith, is) in
-    going_first c.args.list.pos c.args.list.non_null c.args.list.whole left c.args.list.count (places_in c.in_ok-pieces.pieces) (map standing_behind c.args.parents.now.items)
+    going_first c.args.list.pos c.args.list.non_null c.args.list.whole left c.args.list.count (places_in c.in_ok-pieces.pieces)
+    (map standing_behind c.args.parents.now.items)
     (map place_in (present c.args.own.now.items)) whole c.in_ok-pieces.ensures apart
 
 pub loop-object-preserved : goal.loop-object-preserved
@@ -25,5 +26,6 @@ loop-object-preserved g c = λ left is apart.
 pub returns : goal.returns
 returns g c = λ apart.
     let all : c.loop-object._object + 0 ≡ c.args.list.count = omega (arith, c.loop-object-test.false, c.loop-object.auto._object-end) in
-    filled_all c.args.list.pos c.args.list.non_null c.args.list.whole (places_in c.loop-object.pieces) _ [] (members_each (map standing_behind c.loop-object.parents.items) (map place_in (present c.loop-object.own.items)))
+    filled_all c.args.list.pos c.args.list.non_null c.args.list.whole (places_in c.loop-object.pieces) _ []
+    (members_each (map standing_behind c.loop-object.parents.items) (map place_in (present c.loop-object.own.items)))
     refl (c.loop-object.invariant 0 all apart).places_are

@@ -16,7 +16,8 @@ returns g c = λ apart.
     let own = map place_in (present c.args.own.now.items) in
     let made = map members_in c.in_ok-members.members.items in
     let due = members_each (map standing_behind c.args.parents.items) own in
-    let each = subst (λ ps. AreApart whole (map standing_behind ps) → Paired (SameMembers whole) made (members_each (map standing_behind ps) own))
+    let each = subst (λ ps. AreApart whole (map standing_behind ps)
+    → Paired (SameMembers whole) made (members_each (map standing_behind ps) own))
     c.as_slice.ensures.value c.in_ok-members.ensures apart in
     IfOk-weaker c.fill.result _ _
     (λ tree same. tree_trans whole tree (tree_with c.args.pos c.args.shape made) (tree_with c.args.pos c.args.shape due) same

@@ -22,9 +22,11 @@ returns-clause-tree g c = λ distinct.
     let made = members_in c.in_ok-members.field-0 in
     let here = c.args.parent.value.level.value in
     let due = members_with here.object (members_of here) own in
-    let same = subst (λ (l : Level). (c.args.whole ≡ false → HasDistinctNames (members_of l)) → SameMembers c.args.whole made (members_with l.object (members_of l) own)) level
+    let same = subst (λ (l : Level). (c.args.whole ≡ false → HasDistinctNames (members_of l))
+    → SameMembers c.args.whole made (members_with l.object (members_of l) own)) level
     c.in_ok-members.ensures.members distinct in
-    IfOk-weaker c.into_object.result _ _ (λ one is. tree_trans c.args.whole one (tree.Object made) (tree.Object due) is (object_same c.args.whole made due same)) c.into_object.ensures
+    IfOk-weaker c.into_object.result _ _ (λ one is. tree_trans c.args.whole one (tree.Object made) (tree.Object due) is
+    (object_same c.args.whole made due same)) c.into_object.ensures
 
 pub returns-clause-left : goal.returns-clause-left
 returns-clause-left g c =

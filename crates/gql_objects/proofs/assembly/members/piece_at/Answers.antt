@@ -30,4 +30,5 @@ returns-in-Call-clause-piece c =
     let pos = pos_with_others c.args.node.now.group.first.now (all_behind c.args.node.now.group.more.items) in
     let own = map place_in (present c.args.places.now.items) in
     IfOk-weaker c.next_piece.result _ _
-    (λ piece is. same_of c.args.whole (place_in piece) _ (is ∙ (λ i. place_of c.args.object.now (sym pos i) (sym c.in-Call.is i) own))) c.next_piece.ensures.first
+    (λ piece is. same_of c.args.whole (place_in piece) _ (is ∙ (λ i. place_of c.args.object.now (sym pos i) (sym c.in-Call.is i) own)))
+    c.next_piece.ensures.first

@@ -23,9 +23,11 @@ loop-node-preserved c =
     let own' = map place_in (present c.piece_at.new.places.items) in
     let node = c.node-item.result in
     let is : c.as_ref.result.now ≡ node.value = c.as_ref.ensures in record {
-      own = places_more c.args.whole c.args.object.now c.args.nodes.now c.loop-node.node-index node (places_in c.loop-node.own) (places_in c.push.new.self) _ own own'
+      own = places_more c.args.whole c.args.object.now c.args.nodes.now c.loop-node.node-index node (places_in c.loop-node.own)
+          (places_in c.push.new.self) _ own own'
           (place_in c.in_ok-piece.piece) c.loop-node-test.true c.node-item.is c.in_ok-push.ensures.ok
-          (subst (λ (n : Node). Same c.args.whole (place_in c.in_ok-piece.piece) (place_of c.args.object.now (united n.group).pos n.asks own)) is c.in_ok-piece.ensures.piece)
+          (subst (λ (n : Node). Same c.args.whole (place_in c.in_ok-piece.piece)
+          (place_of c.args.object.now (united n.group).pos n.asks own)) is c.in_ok-piece.ensures.piece)
           (subst (λ (n : Node). own' ≡ places_behind n.asks own) is c.in_ok-piece.ensures.left) c.loop-node.invariant.own;
       left = left_more c.args.nodes.now c.loop-node.node-index node _ own own' c.loop-node-test.true c.node-item.is
           (subst (λ (n : Node). own' ≡ places_behind n.asks own) is c.in_ok-piece.ensures.left) c.loop-node.invariant.left;
