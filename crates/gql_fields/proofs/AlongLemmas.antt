@@ -35,13 +35,15 @@ kept_more names kept m are = record { same = λ n. here n ∙ (λ i. are.same n 
   where
     here : (n : List ℕ) → is_among n (with_name kept m) ≡ (is_among n kept || bytes_eq n m)
     here n =
-        let P : Bool → Type 0 = λ b. (is_among m kept ≡ b) → is_among n (cond b kept (kept ++ m ∷ [])) ≡ (is_among n kept || bytes_eq n m) in
+        let P : Bool → Type 0 = λ b. (is_among m kept ≡ b)
+        → is_among n (cond b kept (kept ++ m ∷ [])) ≡ (is_among n kept || bytes_eq n m) in
         (elim (is_among m kept) as P [
           | true ↦ λ h. or-there (is_among n kept) (bytes_eq n m) (λ same. same_among n m kept same h)
           | false ↦ λ h. among-last n kept m
         ]) refl
 
-pub map_more : {A B : Type 0} (f : A → B) (xs : List A) (i : ℕ) (x : A) → slice_get xs i ≡ Some x → map f (take (suc i) xs) ≡ map f (take i xs) ++ f x ∷ []
+pub map_more : {A B : Type 0} (f : A → B) (xs : List A) (i : ℕ) (x : A) → slice_get xs i ≡ Some x
+    → map f (take (suc i) xs) ≡ map f (take i xs) ++ f x ∷ []
 map_more f [] i x at = cc
 map_more f (y ∷ ys) zero x at =
     let same : y ≡ x = cc in
@@ -50,7 +52,8 @@ map_more f (y ∷ ys) (suc i) x at = ap (λ bs. f y ∷ bs) (map_more f ys i x a
 
 module _ {A : Type 0} (name_of : A → List ℕ) where
   -- the names of one item more
-  pub named_along : (xs : List A) (i : ℕ) (x : A) (kept more : List (List ℕ)) → slice_get xs i ≡ Some x → AreNames (map name_of (take i xs)) kept
+  pub named_along : (xs : List A) (i : ℕ) (x : A) (kept more : List (List ℕ)) → slice_get xs i ≡ Some x
+      → AreNames (map name_of (take i xs)) kept
       → more ≡ with_name kept (name_of x) → AreNames (map name_of (take (i + 1) xs)) more
   named_along xs i x kept more at are is = record {
     same = λ n.

@@ -14,10 +14,12 @@ use Rattle.gql_schema.specs.declared.input_value.InputValue.{InputValue}
 use Rattle.gql_fields.specs.Literals.{fitting_member, fittings, is_single, literal_fitting}
 
 -- a name is there where it is among the members with what they fit
-pub under_fittings : (table : TypeTable) (n : List ℕ) (ms : List (List ℕ × DocValue)) → is_some (under n (fittings table ms)) ≡ is_some (under n ms)
+pub under_fittings : (table : TypeTable) (n : List ℕ) (ms : List (List ℕ × DocValue))
+    → is_some (under n (fittings table ms)) ≡ is_some (under n ms)
 under_fittings table n [] = refl
 under_fittings table n (m ∷ ms) =
-    let P : Bool → Type 0 = λ b. is_some (cond b (Some (fitting_member table m).1) (under n (fittings table ms))) ≡ is_some (cond b (Some m.1) (under n ms)) in
+    let P : Bool → Type 0 = λ b. is_some (cond b (Some (fitting_member table m).1) (under n (fittings table ms)))
+    ≡ is_some (cond b (Some m.1) (under n ms)) in
     elim (bytes_eq n m.0) as P [ true ↦ refl | false ↦ under_fittings table n ms ]
 
 module _ (table : TypeTable) (ms : List (List ℕ × DocValue)) where

@@ -53,7 +53,8 @@ same_ties one other tied =
     let behind_pos = second_ties (pos_order one.pos other.pos) _ tied in
     let behind_kind = second_ties (nat_cmp (kind_place one.kind) (kind_place other.kind)) _ behind_pos in
     let pos = pos_ties one.pos other.pos (first_ties (pos_order one.pos other.pos) _ tied) in
-    let kind = kind_ties one.kind other.kind (number_ties _ _ (first_ties (nat_cmp (kind_place one.kind) (kind_place other.kind)) _ behind_pos)) in
+    let kind = kind_ties one.kind other.kind
+    (number_ties _ _ (first_ties (nat_cmp (kind_place one.kind) (kind_place other.kind)) _ behind_pos)) in
     let name = text_ties one.name other.name (first_ties (text_order one.name other.name) (text_order one.text other.text) behind_kind) in
     let text = text_ties one.text other.text (second_ties (text_order one.name other.name) (text_order one.text other.text) behind_kind) in
     λ i. record { pos = pos i; kind = kind i; name = name i; text = text i }

@@ -32,12 +32,14 @@ flat_of_map f g [] = refl
 flat_of_map f g (x ∷ xs) = ap (λ cs. f (g x) ++ cs) (flat_of_map f g xs)
 
 module _ (built : BuiltIn) (terms : Terms) (fragments : Fragments) where
-  pub told_both : (one other : List Place) → told built terms fragments (one ++ other) ≡ told built terms fragments one ++ told built terms fragments other
+  pub told_both : (one other : List Place)
+      → told built terms fragments (one ++ other) ≡ told built terms fragments one ++ told built terms fragments other
   told_both one other = flat_map-append _ one other
 
   -- the places of one more
   pub told_more : {A : Type 0} (f : A → List Place) (xs : List A) (i : ℕ) (x : A) → slice_get xs i ≡ Some x
-      → told built terms fragments (flat_map f (take (suc i) xs)) ≡ told built terms fragments (flat_map f (take i xs)) ++ told built terms fragments (f x)
+      → told built terms fragments (flat_map f (take (suc i) xs)) ≡ told built terms fragments (flat_map f (take i xs))
+      ++ told built terms fragments (f x)
   told_more f xs i x at = ap (told built terms fragments) (flat_more f xs i x at) ∙ told_both (flat_map f (take i xs)) (f x)
 
   -- what was told, and what is told of one more
@@ -47,7 +49,8 @@ module _ (built : BuiltIn) (terms : Terms) (fragments : Fragments) where
   told_step f xs i x start now more at before added =
       added ∙ ap (λ bs. bs ++ told built terms fragments (f x)) before
       ∙ append_assoc start (told built terms fragments (flat_map f (take i xs))) (told built terms fragments (f x))
-      ∙ ap (λ bs. start ++ bs) (sym (told_more f xs i x at)) ∙ ap (λ n. start ++ told built terms fragments (flat_map f (take n xs))) (sym (add-one i))
+      ∙ ap (λ bs. start ++ bs) (sym (told_more f xs i x at))
+      ∙ ap (λ n. start ++ told built terms fragments (flat_map f (take n xs))) (sym (add-one i))
 
 -- a set's places are those of its selections
 pub places_in_set : (terms : Terms) (set : SelectionSet) (ty : SchemaType)

@@ -24,9 +24,11 @@ loop-argument-preserved c =
     record {
       found =
           along_step argument_name (told_of_argument table bearing) (told_kept table bearing) arguments index argument c.loop-argument.given
-          c.args.found.now c.loop-argument.found c.tell_argument.new.found at c.loop-argument.invariant.given c.loop-argument.invariant.found
+          c.args.found.now c.loop-argument.found c.tell_argument.new.found at c.loop-argument.invariant.given
+          c.loop-argument.invariant.found
           c.in_ok-tell_argument.ensures.found;
       given =
-          named_along argument_name arguments index argument c.loop-argument.given c.tell_argument.new.given at c.loop-argument.invariant.given
+          named_along argument_name arguments index argument c.loop-argument.given c.tell_argument.new.given at
+          c.loop-argument.invariant.given
           c.in_ok-tell_argument.ensures.given;
     }

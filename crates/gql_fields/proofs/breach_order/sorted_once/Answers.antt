@@ -15,6 +15,7 @@ returns c =
       in_order = IsStrictlySortedBy-dedup breach_total (λ x y. refl) _ c.sort_unstable.ensures.sorted;
       exact = λ found. (
         λ h. rw c.into_vec-list.ensures at (Contains-permutation _ _ found (IsPermutation-sym _ _ moved) (Contains-from_dedup _ _ found h)),
-        λ h. Contains-dedup (eq_by_cmp_equiv breach_total) equal_is _ found (Contains-permutation _ _ found moved (rw c.into_vec-list.ensures h)),
+        λ h. Contains-dedup (eq_by_cmp_equiv breach_total) equal_is _ found
+            (Contains-permutation _ _ found moved (rw c.into_vec-list.ensures h)),
       );
     })

@@ -8,14 +8,16 @@ use Rattle.gql_fields.proofs.constants.+constant.Goals as goal
 pub items_are_constant-returns-then-not-is_constant : goal.items_are_constant-returns-then-not-is_constant
 items_are_constant-returns-then-not-is_constant t c =
     all_fails is_constant c.args.items.now c.loop-value.value-index _ c.is_constant.result
-    (slice_get_read c.args.items.now (length c.args.items.now) c.loop-value.value-index c.value-item.result refl (omega arith) c.value-item.is)
+    (slice_get_read c.args.items.now (length c.args.items.now) c.loop-value.value-index c.value-item.result refl (omega arith)
+    c.value-item.is)
     c.is_constant.ensures c.if-not-is_constant.true
     ∙ sym (all_mapped (λ (constant : Bool). constant) is_constant c.args.items.now)
 
 pub items_are_constant-loop-value-preserved : goal.items_are_constant-loop-value-preserved
 items_are_constant-loop-value-preserved t c =
     all_more is_constant c.args.items.now c.loop-value.value-index _ c.is_constant.result c.loop-value.invariant
-    (slice_get_read c.args.items.now (length c.args.items.now) c.loop-value.value-index c.value-item.result refl (omega arith) c.value-item.is)
+    (slice_get_read c.args.items.now (length c.args.items.now) c.loop-value.value-index c.value-item.result refl (omega arith)
+    c.value-item.is)
     c.is_constant.ensures c.if-not-is_constant.false
 
 pub items_are_constant-returns : goal.items_are_constant-returns
@@ -25,13 +27,15 @@ items_are_constant-returns t c =
 
 pub members_are_constant-returns-then-not-is_constant : goal.members_are_constant-returns-then-not-is_constant
 members_are_constant-returns-then-not-is_constant t c =
-    all_fails (λ (m : List ℕ × DocValue). is_constant m.1) c.args.members.now c.loop-at.at _ c.is_constant.result c.at.ensures c.is_constant.ensures
+    all_fails (λ (m : List ℕ × DocValue). is_constant m.1) c.args.members.now c.loop-at.at _ c.is_constant.result c.at.ensures
+    c.is_constant.ensures
     c.if-not-is_constant.true
     ∙ sym (all_mapped (λ (m : List ℕ × Bool). m.1) constant_member c.args.members.now)
 
 pub members_are_constant-loop-at-preserved : goal.members_are_constant-loop-at-preserved
 members_are_constant-loop-at-preserved t c =
-    all_more (λ (m : List ℕ × DocValue). is_constant m.1) c.args.members.now c.loop-at.at _ c.is_constant.result c.loop-at.invariant c.at.ensures
+    all_more (λ (m : List ℕ × DocValue). is_constant m.1) c.args.members.now c.loop-at.at _ c.is_constant.result c.loop-at.invariant
+    c.at.ensures
     c.is_constant.ensures c.if-not-is_constant.false
 
 pub members_are_constant-returns : goal.members_are_constant-returns

@@ -8,11 +8,14 @@ use Rattle.gql_fields.proofs.constants.are_constant.Goals as goal
 pub returns-then-not-is_constant : goal.returns-then-not-is_constant
 returns-then-not-is_constant c =
     all_fails (λ (a : Argument). is_constant a.value.node) c.args.arguments.now c.loop-argument.argument-index _ c.is_constant.result
-    (slice_get_read c.args.arguments.now (length c.args.arguments.now) c.loop-argument.argument-index c.argument-item.result refl (omega arith) c.argument-item.is)
+    (slice_get_read c.args.arguments.now (length c.args.arguments.now) c.loop-argument.argument-index c.argument-item.result refl
+    (omega arith) c.argument-item.is)
     c.is_constant.ensures c.if-not-is_constant.true
 
 pub loop-argument-preserved : goal.loop-argument-preserved
 loop-argument-preserved c =
-    all_more (λ (a : Argument). is_constant a.value.node) c.args.arguments.now c.loop-argument.argument-index _ c.is_constant.result c.loop-argument.invariant
-    (slice_get_read c.args.arguments.now (length c.args.arguments.now) c.loop-argument.argument-index c.argument-item.result refl (omega arith) c.argument-item.is)
+    all_more (λ (a : Argument). is_constant a.value.node) c.args.arguments.now c.loop-argument.argument-index _ c.is_constant.result
+    c.loop-argument.invariant
+    (slice_get_read c.args.arguments.now (length c.args.arguments.now) c.loop-argument.argument-index c.argument-item.result refl
+    (omega arith) c.argument-item.is)
     c.is_constant.ensures c.if-not-is_constant.false

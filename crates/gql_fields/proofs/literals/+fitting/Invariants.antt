@@ -12,4 +12,5 @@ invariant-items_fit-loop-value l = list_all (λ v. literal_fits (types_of l.type
 
 abbrev pub invariant-members_are_declared-loop-place : goal.invariant-members_are_declared-loop-place
 invariant-members_are_declared-loop-place l =
-    list_all (λ m. fits_declared (types_of l.types) (literal_fitting (types_of l.types) m.1) (under m.0 (input_fields l.input))) (take l.place l.members) ≡ true
+    list_all (λ m. fits_declared (types_of l.types) (literal_fitting (types_of l.types) m.1) (under m.0 (input_fields l.input)))
+    (take l.place l.members) ≡ true

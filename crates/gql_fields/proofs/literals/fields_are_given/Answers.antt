@@ -5,10 +5,12 @@ use Rattle.gql_fields.proofs.literals.fields_are_given.Goals as goal
 
 pub returns-then-not-field_is_given : goal.returns-then-not-field_is_given
 returns-then-not-field_is_given c =
-    all_fails (is_given c.args.members.now) (input_fields c.args.input.now) c.loop-place.place _ c.field_is_given.result c.entry.ensures c.field_is_given.ensures
+    all_fails (is_given c.args.members.now) (input_fields c.args.input.now) c.loop-place.place _ c.field_is_given.result c.entry.ensures
+    c.field_is_given.ensures
     c.if-not-field_is_given.true
 
 pub loop-place-preserved : goal.loop-place-preserved
 loop-place-preserved c =
-    all_more (is_given c.args.members.now) (input_fields c.args.input.now) c.loop-place.place _ c.field_is_given.result c.loop-place.invariant c.entry.ensures
+    all_more (is_given c.args.members.now) (input_fields c.args.input.now) c.loop-place.place _ c.field_is_given.result
+    c.loop-place.invariant c.entry.ensures
     c.field_is_given.ensures c.if-not-field_is_given.false
