@@ -169,8 +169,7 @@ fn push_faults(alloc: Global, out: &mut String, place: &Place) -> Made<()> {
 fn place_of<P: Turns, S: Ledger>(
     alloc: Global,
     by: Grouping,
-    ground: &Ground,
-    env: &QueryEnv,
+    scene: &Scene<'_, u64>,
     set: &mut Answers,
     turns: &mut P,
     blank: Blank,
@@ -178,19 +177,18 @@ fn place_of<P: Turns, S: Ledger>(
     requires name { blank.name ≡ S.name }
     requires parts { blank.parts ≡ S.parts }
     requires some { 0 < blank.parts }
-    requires kind { is_mutation env.now.operation.node.ty ≡ false }
+    requires kind { is_mutation scene.now.env.now.operation.node.ty ≡ false }
 {
-    let scene = ground.scene(env);
     let mut hooks = Hooks::none(alloc);
     match by {
         Grouping::ByKey => {
             let mut steps: Steps<S> = Steps::new(blank);
             let mut run = Run::over(set, &mut hooks, turns, &mut steps);
-            let piece = run_grouped(alloc, by, &scene, &mut run)?;
+            let piece = run_grouped(alloc, by, scene, &mut run)?;
             Ok(piece.into_place(alloc))
         }
-        Grouping::ByKeyWhole => run_merged(alloc, &scene, set, &mut hooks, turns),
-        Grouping::Each => run_apart(alloc, &scene, set, &mut hooks, turns),
+        Grouping::ByKeyWhole => run_merged(alloc, scene, set, &mut hooks, turns),
+        Grouping::Each => run_apart(alloc, scene, set, &mut hooks, turns),
     }
 }
 
@@ -198,8 +196,7 @@ fn place_of<P: Turns, S: Ledger>(
 fn place_in_turn<P: Turns, S: Ledger>(
     alloc: Global,
     by: Grouping,
-    ground: &Ground,
-    env: &QueryEnv,
+    scene: &Scene<'_, u64>,
     set: &mut Answers,
     turns: &mut P,
     blank: Blank,
@@ -207,13 +204,12 @@ fn place_in_turn<P: Turns, S: Ledger>(
     requires name { blank.name ≡ S.name }
     requires parts { blank.parts ≡ S.parts }
     requires some { 0 < blank.parts }
-    requires kind { is_mutation env.now.operation.node.ty ≡ true }
+    requires kind { is_mutation scene.now.env.now.operation.node.ty ≡ true }
 {
     let mut steps: Steps<S> = Steps::new(blank);
-    let scene = ground.scene(env);
     let mut hooks = Hooks::none(alloc);
     let mut run = Run::over(set, &mut hooks, turns, &mut steps);
-    let (piece, roots) = run_mutation_grouped(alloc, by, &scene, &mut run)?;
+    let (piece, roots) = run_mutation_grouped(alloc, by, scene, &mut run)?;
     Ok((piece.into_place(alloc), roots))
 }
 
@@ -232,7 +228,8 @@ fn response_in_turn<P: Turns, S: Ledger>(
     requires kind { is_mutation env.now.operation.node.ty ≡ true }
 {
     let ground = Ground::new(alloc)?;
-    let (place, roots) = place_in_turn::<P, S>(alloc, by, &ground, env, set, turns, blank)?;
+    let scene = ground.scene(env);
+    let (place, roots) = place_in_turn::<P, S>(alloc, by, &scene, set, turns, blank)?;
     let response = response_text(alloc, &place)?;
     Ok(format!(in alloc; "{roots}{response}")?)
 }
@@ -252,7 +249,8 @@ fn response_at_once<P: Turns, S: Ledger>(
     requires kind { is_mutation env.now.operation.node.ty ≡ false }
 {
     let ground = Ground::new(alloc)?;
-    let place = place_of::<P, S>(alloc, by, &ground, env, set, turns, blank)?;
+    let scene = ground.scene(env);
+    let place = place_of::<P, S>(alloc, by, &scene, set, turns, blank)?;
     Ok(response_text(alloc, &place)?)
 }
 
