@@ -23,13 +23,14 @@ use Rattle.gql_tasks.specs.Rounds.{event_of}
 use Rattle.gql_tasks.specs.Turn.{StartsWaiting, KeepsWaiting, begins_now, enters_now, BeginsAtMost, EntersAtMost}
 use Rattle.gql_lists.proofs.SliceLemmas.{get_append_left, get_set_other, set_set}
 use Rattle.gql_tasks.proofs.NearerLemmas.{nearer_settled}
-use Rattle.gql_tasks.proofs.PaceLemmas.{pays_answer, pays_waiting, so_far_none, so_far_answer}
+use Rattle.gql_tasks.proofs.PaceLemmas.{pays_answer, pays_waiting}
 use Rattle.gql_tasks.proofs.PickLemmas.{Pick, picked, open_undone}
 use Rattle.gql_tasks.proofs.RecordLemmas.{with_more_none}
 use Rattle.gql_tasks.proofs.RoundLemmas.{enters_waiting, enters_answer, so_far_entered, so_far_enters}
 use Rattle.gql_tasks.proofs.StepLemmas.{stepped_waits, stepped_answer}
+use Rattle.gql_tasks.proofs.SoFarLemmas.{so_far_answer, so_far_none}
 use Rattle.gql_tasks.proofs.SoundLemmas.{Stands, sound_settled, right_settled, sound_waits, right_waits}
-use Rattle.gql_tasks.proofs.TurnLemmas.{staged, Chosen, ran_pending, ran_ready, stopped_after, stopped_before}
+use Rattle.gql_tasks.proofs.TurnLemmas.{begins_untold, entries_after, one_begins, staged, Chosen, ran_pending, ran_ready, stopped_after}
 
 -- a clause over a result that is handed on
 pub on_ok : {T E : Type 0} (r : Result T E) (P : Type 0) → P → OnOk r P
@@ -286,17 +287,16 @@ module _ {R Own World Future L H P : Type 0} {e : Parts R Own World Future L H P
     pub ended_before : (new : Moment R Future L H P)
         → EntersAtMost (map (event_of e.hooks) (enters_now context info was)) (e.hooks.told old.hooks) (e.hooks.told new.hooks)
         → (e.hooks.are_quiet old.hooks → e.set.told new.set ≡ with_more (e.set.told old.set) [])
-        → (e.hooks.are_quiet old.hooks → BeginsAtMost context.task (e.set.begun old.set) (e.set.begun new.set))
+        → (e.hooks.are_quiet old.hooks → BeginsAtMost (begins_now context.task was) (e.set.begun old.set) (e.set.begun new.set))
         → Ended e old new
     ended_before new most told_is begins = record {
       enters = so_far_enters old number t.pick.task was context info t.pick.task_is t.pick.old_is t.context_is t.info_is new.hooks most;
-      stopped = λ law calm answers agrees. elim (begins calm) [
-        | inl same ↦ stopped_before (choice_by e.turns) (story_of (subject e) answers) (stage e old) (e.set.told new.set) (e.set.begun new.set) []
-            (told_is calm ∙ with_more_none (e.set.told old.set)) (omega arith) (same ∙ sym (with_more_none (e.set.begun old.set)))
-        | inr one ↦ stopped_before (choice_by e.turns) (story_of (subject e) answers) (stage e old) (e.set.told new.set) (e.set.begun new.set) (context.task ∷ [])
-            (told_is calm ∙ with_more_none (e.set.told old.set)) (omega arith) one
+      progress = λ law calm answers agrees. elim (begins calm) [
+        | inl same ↦ so_far_none old new answers [] (told_is calm ∙ with_more_none (e.set.told old.set)) (omega arith) tt
+            (same ∙ sym (with_more_none (e.set.begun old.set)))
+        | inr one ↦ so_far_none old new answers (begins_now context.task was) (told_is calm ∙ with_more_none (e.set.told old.set)) (one_begins context.task was)
+            (begins_untold (e.plan.tasks old.plan) old.states number context.task was t.context_is.task_is t.pick.old_is) one
       ];
-      paces = λ pace calm. so_far_none old new.set (told_is calm);
     }
 
     -- memory ran out after it
@@ -308,10 +308,14 @@ module _ {R Own World Future L H P : Type 0} {e : Parts R Own World Future L H P
         → Ended e old new
     ended_after new entered_is paid told_is begun_is = record {
       enters = so_far_entered old number t.pick.task was context info t.pick.task_is t.pick.old_is t.context_is t.info_is new.hooks entered_is;
-      stopped = λ law calm answers agrees. stopped_after Own e.plan.Task Future e.turns.State (choice_by e.turns) e.plan.asks e.plan.beneath answers
+      progress = λ law calm answers agrees. so_far_answer old new number t.pick.task was context answers t.pick.task_is t.pick.old_is t.context_is
+          (stopped_after Own e.plan.Task Future e.turns.State (choice_by e.turns) e.plan.asks e.plan.beneath answers
           (e.turns.state old.turns) (e.turns.state turns) (e.plan.tasks old.plan) old.states number t.pick.task was context chosen_by
-          (e.set.told old.set) (e.set.told new.set) (e.set.begun old.set) (e.set.begun new.set) (begun_is calm) true (told_is calm);
-      paces = λ pace calm. so_far_answer old new.set number t.pick.task was context t.pick.task_is t.pick.old_is t.context_is (told_is calm) (paid pace calm);
+          (e.set.told old.set) (e.set.told new.set) (e.set.begun old.set) (e.set.begun new.set) (begun_is calm) true (told_is calm))
+          (entries_after Own e.plan.Task Future e.turns.State (choice_by e.turns) e.plan.asks e.plan.beneath answers
+          (e.turns.state old.turns) (e.turns.state turns) (e.plan.tasks old.plan) old.states number t.pick.task was context chosen_by
+          (e.set.told old.set) (e.set.told new.set) (e.set.begun old.set) (e.set.begun new.set) (begun_is calm) true (told_is calm))
+          (λ pace. paid pace calm);
     }
 
     pub nearer_answered : (states : List (State Future)) (new : State Future) (count : ℕ)

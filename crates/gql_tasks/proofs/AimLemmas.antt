@@ -8,12 +8,12 @@ use Rattle.gql_tasks.specs.Parts.{Parts, Moment, choice_by, stage, subject}
 use Rattle.gql_tasks.specs.Progress.{IsSound, Kept, EntersSoFar, Went, Ended, story_of}
 use Rattle.gql_tasks.specs.Record.{Ran}
 use Rattle.gql_tasks.proofs.KeepsLemmas.{lent_none}
-use Rattle.gql_tasks.proofs.PaceLemmas.{so_far_none}
 use Rattle.gql_tasks.proofs.RecordLemmas.{ran_none, with_more_none}
 use Rattle.gql_tasks.proofs.RoundLemmas.{enters_none, so_far_enters_none}
+use Rattle.gql_tasks.proofs.SoFarLemmas.{so_far_none}
 use Rattle.gql_tasks.proofs.SoundLemmas.{fits_kept}
 use Rattle.gql_tasks.proofs.StepLemmas.{none_counted}
-use Rattle.gql_tasks.proofs.TurnLemmas.{staged, stopped_before}
+use Rattle.gql_tasks.proofs.TurnLemmas.{staged}
 
 -- the moment with another plan
 abbrev pub with_plan : {R Future L H P : Type 0} → Moment R Future L H P → L → Moment R Future L H P
@@ -82,8 +82,6 @@ module _ {R Own World Future L H P : Type 0} {e : Parts R Own World Future L H P
   pub ended_none : (old new : Moment R Future L H P) → new.set ≡ old.set → new.hooks ≡ old.hooks → Ended e old new
   ended_none old new set_is hooks_is = record {
     enters = subst (EntersSoFar e old) (sym hooks_is) (so_far_enters_none old);
-    stopped = λ law calm answers agrees.
-        stopped_before (choice_by e.turns) (story_of (subject e) answers) (stage e old) (e.set.told new.set) (e.set.begun new.set) []
-        (ap e.set.told set_is) (omega arith) (ap e.set.begun set_is ∙ sym (with_more_none (e.set.begun old.set)));
-    paces = λ pace calm. so_far_none old new.set (ap e.set.told set_is ∙ sym (with_more_none (e.set.told old.set)));
+    progress = λ law calm answers agrees.
+        so_far_none old new answers [] (ap e.set.told set_is) (omega arith) tt (ap e.set.begun set_is ∙ sym (with_more_none (e.set.begun old.set)));
   }

@@ -1,10 +1,13 @@
 -- Phases one after another.
 use Rattle.std.proofs.Common.{ℕ, zero, suc, ◌≡◌, ◌+◌, ◌<◌, ◌≤◌, List, [], ◌∷◌, ◌++◌, length, take, refl, sym, ap, subst, ◌∙◌, arith, inl, inr, length-append}
-use Rattle.std.proofs.lemmas.List.{append-nil, append_cancel_left, length-map, map-append}
+use Rattle.std.proofs.lemmas.List.{append-nil, length-map, map-append}
 use Rattle.std.proofs.lemmas.List.Elements.{All-nil}
 use Rattle.std.specs.Prelude.{Option, Some, None, ◌⊎◌, slice_get}
+use Rattle.std.specs.Option.{ForSome}
 use Rattle.gql_base.specs.declared.no_memory.NoMemory.{NoMemory}
+use Rattle.gql_request.specs.Path.{IsFront}
 use Rattle.gql_resolve.specs.Record.{with_more}
+use Rattle.gql_resolve.specs.declared.answer.Answer.{Answer}
 use Rattle.gql_resolve.specs.declared.record_entry.RecordEntry.{RecordEntry}
 use Rattle.gql_resolve.specs.declared.resolver_set.ResolverSet.{Ghosts as Resolving}
 use Rattle.gql_tasks.specs.declared.arena.State.{State}
@@ -14,15 +17,16 @@ use Rattle.gql_tasks.proofs.NearerLemmas.{total_append}
 use Rattle.gql_tasks.specs.Pace.{pending_then_ready, to_come_at, told_of}
 use Rattle.gql_tasks.specs.Parts.{Parts, Moment, choice_by, delay_at, stage, subject}
 use Rattle.gql_tasks.specs.Phases.{CutBefore, CutInTurn, InTurn, IsCutPhase, IsPhase, IsRootOf, NextRoot, PacedSince, PacedSinceSoFar, PhaseCut, PhaseOver, Phases, Serving, serving_of, serving_with, story_in, with_root, world_past}
-use Rattle.gql_tasks.specs.Progress.{Enters, IsSound, Paces, PacesSoFar, Steady}
-use Rattle.gql_tasks.specs.Record.{Choice, Mark, Ran, Stage, Stopped, begun, ready, untold, waiting_from}
+use Rattle.gql_tasks.specs.Progress.{Enters, IsSound, Paces, ProgressSoFar, Steady, story_of}
+use Rattle.gql_tasks.specs.Record.{Choice, Mark, Ran, Stage, Stopped, begun, ready, tasks_at, untold, waiting_from}
 use Rattle.gql_tasks.specs.Rounds.{IsOneOf, to_enter_at}
 use Rattle.gql_lists.proofs.SliceLemmas.{get_append, get_append_left, get_at, get_within}
 use Rattle.gql_tasks.proofs.PaceLemmas.{come_more}
 use Rattle.gql_tasks.proofs.ProgressLemmas.{steady_none, steady_trans}
-use Rattle.gql_tasks.proofs.RecordLemmas.{with_more_none}
+use Rattle.gql_tasks.proofs.RecordLemmas.{made_keeps, some_is, told_once, with_more_none}
 use Rattle.gql_tasks.proofs.RoundLemmas.{enter_more, enters_none, enters_trans, so_far_enters_trans, so_far_enters_whole}
 use Rattle.gql_tasks.proofs.RunLemmas.{all_answered, all_done}
+use Rattle.gql_tasks.proofs.SoFarLemmas.{front_rest}
 
 -- one more of those that wait, after the others
 waiting_more : (first : ℕ) (marks : List Mark) → waiting_from first marks ≡ [] → waiting_from first (marks ++ untold ∷ []) ≡ (first + length marks) ∷ []
@@ -194,14 +198,13 @@ take_more : {X : Type 0} (xs : List X) (y : X) (ys : List X) → take (suc (leng
 take_more [] y ys = refl
 take_more (x ∷ xs) y ys = ap (λ zs. x ∷ zs) (take_more xs y ys)
 
-some_is : {X : Type 0} {x y : X} → Some x ≡ Some y → x ≡ y
-some_is same = cc
-
--- what was told is told once
-told_once : (before one other : List RecordEntry) (told told' : Option (List RecordEntry)) → told ≡ Some before → told' ≡ with_more told one → told' ≡ with_more told other → one ≡ other
-told_once before one other told told' some first second =
-    append_cancel_left before one other
-    (some_is (sym (subst (λ t. told' ≡ with_more t one) some first) ∙ subst (λ t. told' ≡ with_more t other) some second))
+module _ {R Own World Future L H P : Type 0} (e : Parts R Own World Future L H P) (next : Moment R Future L H P) (root : e.plan.Task) (first : ℕ)
+    (told : Option (List RecordEntry)) (starts : Option (List ℕ)) where
+  -- what a phase has told that was cut, from a stage on
+  record CutFrom (from : Stage e.plan.Task e.turns.State) : Type 0 where
+    stopped : Stopped (choice_by e.turns) (story_in (serving_of e next) (subject e) (e.set.world next.set) root) from told starts
+    paces : e.set.is_paced next.set → ForSome from.told (λ before. PacedSinceSoFar first (delay_at e next)
+        (tasks_at (story_in (serving_of e next) (subject e) (e.set.world next.set) root) from.made stopped.entries) stopped.entries)
 
 module _ {R Own World Future L H P : Type 0} {e : Parts R Own World Future L H P} {old now next : Moment R Future L H P} {root : e.plan.Task} {done : List e.plan.Task}
     (turn : InTurn e old now done) (opens : NextRoot e now next root) where
@@ -251,23 +254,20 @@ module _ {R Own World Future L H P : Type 0} {e : Parts R Own World Future L H P
       same : entries ≡ paces.entries
       same = told_once before entries paces.entries (e.set.told next.set) (e.set.told new.set) some told_is paces.told_is
 
-  paced_so_far : {set : R} → PacesSoFar e next set → (before entries : List RecordEntry) → e.set.told next.set ≡ Some before
-      → e.set.told set ≡ with_more (e.set.told next.set) entries → PacedSinceSoFar (length (e.plan.tasks now.plan)) (delay_at e next) root entries
-  paced_so_far {set = set} paces before entries some told_is = record {
+  paced_so_far : {new : Moment R Future L H P} {answers : e.plan.Task → Answer Own} (so_far : ProgressSoFar e next new answers) → e.set.is_paced next.set
+      → ForSome (e.set.told next.set) (λ before. PacedSinceSoFar (length (e.plan.tasks now.plan)) (delay_at e next)
+      (tasks_at (story_of (subject e) answers) (stage e next).made so_far.stopped.entries) so_far.stopped.entries)
+  paced_so_far {answers = answers} so_far pace before some = record {
     earlier = λ k within.
         let at = get_at (e.plan.tasks now.plan) k within in
-        let stays = paces.stays k at.0 (ap (λ ts. slice_get ts k) opens.tasks_is ∙ get_append_left (e.plan.tasks now.plan) (root ∷ []) k at.0 at.1) in
-        let paid = paces.splits k (delay_at e next at.0) (delay_there paces.made k at.0 stays) in
-        ap (told_of k) same ∙ no_front (told_of k paces.entries) paid.0 (sym (none_to_come k (delay_at e next at.0) within) ∙ paid.1);
-    paced =
-        let k = length (e.plan.tasks now.plan) in
-        let stays = paces.stays k root (ap (λ ts. slice_get ts k) opens.tasks_is ∙ get_last (e.plan.tasks now.plan) root) in
-        let paid = paces.splits k (delay_at e next root) (delay_there paces.made k root stays) in
-        (paid.0, sym (all_to_come k (delay_at e next root) (omega arith)) ∙ paid.1 ∙ ap (λ es. told_of k es ++ paid.0) (sym same));
+        let there = ap (λ ts. slice_get ts k) opens.tasks_is ∙ get_append_left (e.plan.tasks now.plan) (root ∷ []) k at.0 at.1 in
+        let due = to_come_at e.set.number (delay_at e next at.0) (slice_get next.states k) in
+        let front = so_far.paces pace before some k at.0 (made_keeps (story_of (subject e) answers) (stage e next).made so_far.stopped.entries k at.0 there) in
+        no_front (told_of k so_far.stopped.entries) _
+        (sym (none_to_come k (delay_at e next at.0) within) ∙ front_rest (told_of k so_far.stopped.entries) due front);
+    paced = λ k task behind is.
+        subst (IsFront (told_of k so_far.stopped.entries)) (all_to_come k (delay_at e next task) behind) (so_far.paces pace before some k task is);
   }
-    where
-      same : entries ≡ paces.entries
-      same = told_once before entries paces.entries (e.set.told next.set) (e.set.told set) some told_is paces.told_is
 
   -- the world of the next root key
   next_world : e.set.is_lawful old.set → e.hooks.are_quiet old.hooks
@@ -328,21 +328,14 @@ module _ {R Own World Future L H P : Type 0} {e : Parts R Own World Future L H P
 
   -- memory ran out in that phase
   module _ {new : Moment R Future L H P} (want told : NoMemory) (cut : PhaseCut e next new want) where
-    cut_stopped : e.set.is_lawful old.set → e.hooks.are_quiet old.hooks
-        → Stopped (choice_by e.turns) (story_in (serving_of e next) (subject e) (e.set.world next.set) root) (with_root (stage e now) root) (e.set.told new.set) (e.set.begun new.set)
-    cut_stopped law calm =
-        subst (λ s. Stopped (choice_by e.turns) (story_in (serving_of e next) (subject e) (e.set.world next.set) root) s (e.set.told new.set) (e.set.begun new.set)) (next_stage opens)
-        (cut.stopped (to_next.lawful_is law) (to_next.quiet_is calm) root (next_root opens turn))
-
     cut_phase : e.set.is_lawful old.set → e.hooks.are_quiet old.hooks
         → IsCutPhase (serving_of e next) (subject e) (choice_by e.turns) (e.set.world next.set) root (stage e now) (e.set.told new.set) (e.set.begun new.set)
     cut_phase law calm =
-        let stopped = cut_stopped law calm in
-        record {
-          stopped = stopped;
-          paces = λ pace before some. paced_so_far (cut.paces pace (to_next.quiet_is calm)) before stopped.entries
-              (ap e.set.told opens.set_is ∙ some) (told_since stopped.entries stopped.told_is);
-        }
+        let so_far = cut.progress (to_next.lawful_is law) (to_next.quiet_is calm) root (next_root opens turn) in
+        let from : CutFrom e next root (length (e.plan.tasks now.plan)) (e.set.told new.set) (e.set.begun new.set) (with_root (stage e now) root)
+        = subst (CutFrom e next root (length (e.plan.tasks now.plan)) (e.set.told new.set) (e.set.begun new.set)) (next_stage opens)
+        (record { stopped = so_far.stopped; paces = paced_so_far so_far }) in
+        record { stopped = from.stopped; paces = from.paces }
 
     -- the effect of the root key stands, or none of it does
     cut_world : (left : List e.plan.Task) → told.roots ≡ length done + want.roots → e.set.is_lawful old.set → e.hooks.are_quiet old.hooks
@@ -388,22 +381,23 @@ module _ {R Own World Future L H P : Type 0} {e : Parts R Own World Future L H P
           (sym split) (cut_world left count law calm);
     }
 
-module _ {R Own World Future L H P : Type 0} (e : Parts R Own World Future L H P) where
-  -- nothing was told of the next root key
-  none_cut : (world : World) (serving : Serving Own World) (left : List e.plan.Task) (old : Stage e.plan.Task e.turns.State)
-      → CutBefore serving (subject e) (choice_by e.turns) world left old old.told old.starts
-  none_cut world serving [] old = (refl, refl)
-  none_cut world serving (root ∷ left) old = record {
-    stopped = record {
-      entries = [];
-      told_is = sym (with_more_none old.told);
-      last = [];
-      at_most_one = omega arith;
-      starts_is = sym (with_more_none old.starts);
-      turned = λ s is. tt;
-    };
-    paces = λ pace before some. record { earlier = λ k within. refl; paced = (pending_then_ready (serving.delay (e.plan.asks root).call.resolver), refl) };
-  }
+-- nothing was told of root keys that weren't begun
+pub none_before : {V W Task State_ : Type 0} (serving : Serving V W) (about : Subject V Task) (choice : Choice State_) (world : W) (left : List Task) (old : Stage Task State_)
+    → CutBefore serving about choice world left old old.told old.starts
+none_before serving about choice world [] old = (refl, refl)
+none_before serving about choice world (root ∷ left) old = record {
+  stopped = record {
+    entries = [];
+    told_is = sym (with_more_none old.told);
+    waits = tt;
+    last = [];
+    at_most_one = omega arith;
+    last_untold = tt;
+    starts_is = sym (with_more_none old.starts);
+    turned = λ s is. tt;
+  };
+  paces = λ pace before some. record { earlier = λ k within. refl; paced = λ k task behind is. refl };
+}
 
 module _ {R Own World Future L H P : Type 0} {e : Parts R Own World Future L H P} where
   -- memory ran out between two phases, or after the last one
@@ -418,7 +412,7 @@ module _ {R Own World Future L H P : Type 0} {e : Parts R Own World Future L H P
       split = split;
       middle = stage e now;
       phases = turn.phases law calm;
-      cut = none_cut e (world_past (serving_of e old) (subject e) (e.set.world old.set) done) (serving_of e old) left (stage e now);
+      cut = none_before (serving_of e old) (subject e) (choice_by e.turns) (world_past (serving_of e old) (subject e) (e.set.world old.set) done) left (stage e now);
     };
     stands = λ law calm. subst (λ rs. (told.roots ≤ length rs) × (e.set.world now.set ≡ world_past (serving_of e old) (subject e) (e.set.world old.set) (take told.roots rs)))
         (sym split) (

@@ -16,6 +16,7 @@ pub mod RootLemmas
 pub mod RootWorld
 pub mod RoundLemmas
 pub mod RunLemmas
+pub mod SoFarLemmas
 pub mod SoundLemmas
 pub mod StepLemmas
 pub mod TurnLemmas

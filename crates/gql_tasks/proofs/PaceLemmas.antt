@@ -1,6 +1,6 @@
 -- Each turn takes the first of the entries that are to come of its task.
 use Rattle.std.proofs.Common.{ℕ, zero, suc, ◌≡◌, ◌==◌, Bool, true, false, if◌then◌else◌, List, [], ◌∷◌, ◌++◌, refl, sym, ap, subst, ◌∙◌, inl, inr, append_assoc}
-use Rattle.std.proofs.lemmas.List.{append-nil, append_cancel_left}
+use Rattle.std.proofs.lemmas.List.{append-nil}
 use Rattle.std.proofs.lemmas.Bool.{cases_eq, eq-eqb, ne_eqb}
 use Rattle.std.specs.Prelude.{Some, slice_get, slice_set}
 use Rattle.gql_resolve.specs.Record.{with_more, entry_of}
@@ -9,28 +9,28 @@ use Rattle.gql_resolve.specs.declared.resolver_context.ResolverContext.{Resolver
 use Rattle.gql_tasks.specs.declared.arena.State.{State}
 use Rattle.gql_tasks.specs.declared.arena.State.TheVariants as state
 use Rattle.gql_tasks.specs.Arena.{fresh_states}
-use Rattle.gql_tasks.specs.Pace.{pending_then_ready, to_come, to_come_at, told_of, EachPaced, EachPacedSoFar}
+use Rattle.gql_tasks.specs.Pace.{pending_then_ready, to_come, to_come_at, told_of, EachPaced}
 use Rattle.gql_tasks.specs.Parts.{Parts, Moment, delay_by, delay_at}
 use Rattle.gql_tasks.specs.Plan.{IsContextOf}
-use Rattle.gql_tasks.specs.Progress.{Paces, PacesSoFar}
+use Rattle.gql_tasks.specs.Progress.{Paces}
 use Rattle.gql_lists.proofs.SliceLemmas.{get_set_same, get_set_other, get_append_left, get_within}
-use Rattle.gql_tasks.proofs.RecordLemmas.{with_more_none, with_more_append}
+use Rattle.gql_tasks.proofs.RecordLemmas.{some_is, told_once, with_more_none, with_more_append}
 
-told_append : (k : ℕ) (one other : List RecordEntry) → told_of k (one ++ other) ≡ told_of k one ++ told_of k other
+pub told_append : (k : ℕ) (one other : List RecordEntry) → told_of k (one ++ other) ≡ told_of k one ++ told_of k other
 told_append k [] other = refl
 told_append k (e ∷ one) other =
     ap (λ fs. (if e.task == k then e.ready ∷ [] else []) ++ fs) (told_append k one other)
     ∙ sym (append_assoc (if e.task == k then e.ready ∷ [] else []) (told_of k one) (told_of k other))
 
-told_here : (k : ℕ) (e : RecordEntry) → e.task ≡ k → told_of k (e ∷ []) ≡ e.ready ∷ []
+pub told_here : (k : ℕ) (e : RecordEntry) → e.task ≡ k → told_of k (e ∷ []) ≡ e.ready ∷ []
 told_here k e is = ap (λ b. (if b then e.ready ∷ [] else []) ++ []) (eq-eqb e.task k is)
 
-told_elsewhere : (k : ℕ) (e : RecordEntry) → (e.task ≡ k → ⊥) → told_of k (e ∷ []) ≡ []
+pub told_elsewhere : (k : ℕ) (e : RecordEntry) → (e.task ≡ k → ⊥) → told_of k (e ∷ []) ≡ []
 told_elsewhere k e differs = ap (λ b. (if b then e.ready ∷ [] else []) ++ []) (ne_eqb e.task k differs)
 
 -- of fresh tasks as much is to come as of those that aren't made yet
 module _ {F : Type 0} (number_of : F → ℕ) where
-  come_fresh : (n k due : ℕ) → to_come_at number_of due (slice_get (fresh_states n) k) ≡ pending_then_ready due
+  pub come_fresh : (n k due : ℕ) → to_come_at number_of due (slice_get (fresh_states n) k) ≡ pending_then_ready due
   come_fresh zero zero due = refl
   come_fresh zero (suc k) due = refl
   come_fresh (suc n) zero due = refl
@@ -128,88 +128,6 @@ module _ {R Own World Future L H P : Type 0} {e : Parts R Own World Future L H P
       ∙ come_more e.set.number (slice_set old.states number state.Done) count k due
       ∙ ap (λ ss. to_come_at e.set.number due (slice_get ss k)) (sym states_is))
 
-  -- where memory ran out: no entry was told, or that of an answer
-  pub so_far_none : (old : Moment R Future L H P) (set : R) → e.set.told set ≡ with_more (e.set.told old.set) [] → PacesSoFar e old set
-  so_far_none old set told_is = record {
-    entries = [];
-    told_is = told_is;
-    made = e.plan.tasks old.plan;
-    stays = λ k task is. is;
-    splits = λ k due is. (to_come_at e.set.number due (slice_get old.states k), refl);
-  }
-
-  pub so_far_answer : (old : Moment R Future L H P) (set : R) (number : ℕ) (task : e.plan.Task) (was : State Future) (context : ResolverContext Own)
-      → slice_get (e.plan.tasks old.plan) number ≡ Some task → slice_get old.states number ≡ Some was → IsContextOf number (e.plan.asks task) context
-      → e.set.told set ≡ with_more (e.set.told old.set) (entry_of context true ∷ [])
-      → to_come e.set.number (delay_by e.set old.set context.resolver) was ≡ true ∷ []
-      → PacesSoFar e old set
-  so_far_answer old set number task was context task_is was_is context_is told_is paid = record {
-    entries = entry_of context true ∷ [];
-    told_is = told_is;
-    made = e.plan.tasks old.plan;
-    stays = λ k t is. is;
-    splits = λ k due is. elim (cases_eq k number) [
-      | inl same ↦ ([], here k due is same)
-      | inr differs ↦ (
-        to_come_at e.set.number due (slice_get old.states k),
-        ap (λ fs. fs ++ to_come_at e.set.number due (slice_get old.states k)) (sym (told_elsewhere k (entry_of context true) (λ f. differs (sym f ∙ context_is.task_is)))),
-      )
-    ];
-  }
-    where
-      here : (k due : ℕ) → ((t : e.plan.Task) → slice_get (e.plan.tasks old.plan) k ≡ Some t → due ≡ delay_at e old t) → k ≡ number
-          → to_come_at e.set.number due (slice_get old.states k) ≡ told_of k (entry_of context true ∷ []) ++ []
-      here k due is same =
-          let d : due ≡ delay_by e.set old.set context.resolver = is task (subst (λ j. slice_get (e.plan.tasks old.plan) j ≡ Some task) (sym same) task_is)
-          ∙ ap (λ call. delay_by e.set old.set call.resolver) (sym context_is.call_is) in
-          ap (λ j. to_come_at e.set.number due (slice_get old.states j)) same ∙ ap (to_come_at e.set.number due) was_is ∙ ap (λ u. to_come e.set.number u was) d
-          ∙ paid ∙ ap (λ fs. fs ++ []) (sym (told_here k (entry_of context true) (context_is.task_is ∙ sym same)))
-
-  pub so_far_trans : {old middle : Moment R Future L H P} {set : R} → e.set.rules middle.set ≡ e.set.rules old.set → Paces e old middle → PacesSoFar e middle set → PacesSoFar e old set
-  so_far_trans {old = old} {middle = middle} rules_is one other = record {
-    entries = one.entries ++ other.entries;
-    told_is = other.told_is ∙ ap (λ t. with_more t other.entries) one.told_is ∙ with_more_append (e.set.told old.set) one.entries other.entries;
-    made = other.made;
-    stays = λ k task is. other.stays k task (one.stays k task is);
-    splits = λ k due is.
-        let later = other.splits k due (λ task at. is task at ∙ sym (same task)) in (
-          later.0,
-          one.splits k due (λ task at. is task (other.stays k task at))
-              ∙ ap (λ fs. told_of k one.entries ++ fs) later.1
-              ∙ sym (append_assoc (told_of k one.entries) (told_of k other.entries) later.0)
-              ∙ ap (λ fs. fs ++ later.0) (sym (told_append k one.entries other.entries)),
-        );
-  }
-    where
-      same : (task : e.plan.Task) → delay_at e middle task ≡ delay_at e old task
-      same task = ap (λ r. e.set.delay r (e.plan.asks task).call.resolver) rules_is
-
-  pub so_far_whole : {old new : Moment R Future L H P} → Paces e old new → PacesSoFar e old new.set
-  so_far_whole {old = old} {new = new} paces = record {
-    entries = paces.entries;
-    told_is = paces.told_is;
-    made = e.plan.tasks new.plan;
-    stays = paces.stays;
-    splits = λ k due is. (to_come_at e.set.number due (slice_get new.states k), paces.splits k due is);
-  }
-
-  pub each_so_far : {old : Moment R Future L H P} {set : R} (before entries : List RecordEntry) (n : ℕ)
-      → PacesSoFar e old set → e.set.told old.set ≡ Some before → e.set.told set ≡ with_more (e.set.told old.set) entries → old.states ≡ fresh_states n
-      → EachPacedSoFar (delay_at e old) (e.plan.tasks old.plan) entries
-  each_so_far {old = old} {set = set} before entries n paces told_some told_is states_is = record {
-    paced = λ k task is.
-        let told = e.set.told set in
-        let same : entries ≡ paces.entries = append_cancel_left before entries paces.entries (some_is (sym (subst (λ t. told ≡ with_more t entries) told_some told_is) ∙ subst (λ t. told ≡ with_more t paces.entries) told_some paces.told_is)) in
-        let paid = paces.splits k (delay_at e old task) (λ t at. ap (delay_at e old) (some_is (sym (paces.stays k task is) ∙ at))) in (
-          paid.0,
-          sym (ap (λ ss. to_come_at e.set.number (delay_at e old task) (slice_get ss k)) states_is ∙ come_fresh e.set.number n k (delay_at e old task))
-              ∙ paid.1 ∙ ap (λ es. told_of k es ++ paid.0) (sym same),
-        );
-  }
-    where
-      some_is : {X : Type 0} {x y : X} → Some x ≡ Some y → x ≡ y
-      some_is same = cc
-
   -- in the end nothing is to come of any task
   pub each_paced : {old new : Moment R Future L H P} (before entries : List RecordEntry) (n : ℕ)
       → Paces e old new → e.set.told old.set ≡ Some before → e.set.told new.set ≡ with_more (e.set.told old.set) entries
@@ -217,8 +135,7 @@ module _ {R Own World Future L H P : Type 0} {e : Parts R Own World Future L H P
       → EachPaced (delay_at e old) (e.plan.tasks new.plan) entries
   each_paced {old = old} {new = new} before entries n paces told_some told_is states_is done = record {
     paced = λ k task is.
-        let told = e.set.told new.set in
-        let same : entries ≡ paces.entries = append_cancel_left before entries paces.entries (some_is (sym (subst (λ t. told ≡ with_more t entries) told_some told_is) ∙ subst (λ t. told ≡ with_more t paces.entries) told_some paces.told_is)) in
+        let same = told_once before entries paces.entries (e.set.told old.set) (e.set.told new.set) told_some told_is paces.told_is in
         let paid = paces.splits k (delay_at e old task) (λ t at. ap (delay_at e old) (some_is (sym is ∙ at))) in
         let first : to_come_at e.set.number (delay_at e old task) (slice_get old.states k) ≡ pending_then_ready (delay_at e old task)
         = ap (λ ss. to_come_at e.set.number (delay_at e old task) (slice_get ss k)) states_is ∙ come_fresh e.set.number n k (delay_at e old task) in
@@ -226,6 +143,3 @@ module _ {R Own World Future L H P : Type 0} {e : Parts R Own World Future L H P
         ap (told_of k) same
         ∙ sym (append-nil (told_of k paces.entries)) ∙ ap (λ fs. told_of k paces.entries ++ fs) (sym last) ∙ sym paid ∙ first;
   }
-    where
-      some_is : {X : Type 0} {x y : X} → Some x ≡ Some y → x ≡ y
-      some_is same = cc

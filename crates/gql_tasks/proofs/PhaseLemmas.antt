@@ -3,12 +3,14 @@ use Rattle.std.proofs.Common.{◌≡◌, true, false, if◌then◌else◌, [], s
 use Rattle.gql_base.specs.declared.no_memory.NoMemory.{NoMemory}
 use Rattle.gql_tasks.specs.Parts.{Parts, Moment, choice_by, due_by, subject}
 use Rattle.gql_tasks.specs.Phases.{PhaseCut, PhaseOver, phase_answers}
-use Rattle.gql_tasks.specs.Progress.{Agrees, Ended, Enters, EntersSoFar, Kept, Paces, PacesSoFar, Steady, Went, story_of}
+use Rattle.gql_resolve.specs.declared.answer.Answer.{Answer}
+use Rattle.gql_tasks.specs.Progress.{Agrees, Ended, Enters, EntersSoFar, Kept, Paces, ProgressSoFar, Steady, Went, story_of}
 use Rattle.gql_tasks.specs.Root.{RootAnswered, RootEnded, without_root}
-use Rattle.gql_tasks.proofs.PaceLemmas.{paces_trans, so_far_trans}
+use Rattle.gql_tasks.proofs.PaceLemmas.{paces_trans}
 use Rattle.gql_tasks.proofs.ProgressLemmas.{steady_trans, stepped_on}
-use Rattle.gql_tasks.proofs.RecordLemmas.{ran_trans, stopped_trans}
+use Rattle.gql_tasks.proofs.RecordLemmas.{ran_trans}
 use Rattle.gql_tasks.proofs.RoundLemmas.{enters_trans, so_far_enters_trans}
+use Rattle.gql_tasks.proofs.SoFarLemmas.{so_far_trans}
 
 module _ {R Own World Future L H P : Type 0} (e : Parts R Own World Future L H P) (old : Moment R Future L H P) (root : e.plan.Task) where
   -- the answers of a phase: a root is asked in the world before it
@@ -44,8 +46,8 @@ module _ {R Own World Future L H P : Type 0} {e : Parts R Own World Future L H P
   as_paces : {old new : Moment R Future L H P} → Paces (without_root e) old new → Paces e old new
   as_paces s = record { entries = s.entries; told_is = s.told_is; stays = s.stays; splits = s.splits }
 
-  as_paces_so_far : {old : Moment R Future L H P} {set : R} → PacesSoFar (without_root e) old set → PacesSoFar e old set
-  as_paces_so_far s = record { entries = s.entries; told_is = s.told_is; made = s.made; stays = s.stays; splits = s.splits }
+  as_so_far : {old new : Moment R Future L H P} {answers : e.plan.Task → Answer Own} → ProgressSoFar (without_root e) old new answers → ProgressSoFar e old new answers
+  as_so_far s = record { stopped = s.stopped; paces = s.paces }
 
   -- a root that was answered, and all under it
   pub phase_over : {old middle new : Moment R Future L H P} → e.root ≡ true → RootAnswered e old middle → Kept (without_root e) middle new → Went (without_root e) middle new
@@ -75,8 +77,7 @@ module _ {R Own World Future L H P : Type 0} {e : Parts R Own World Future L H P
     steady = ended.steady;
     enters = ended.ended.enters;
     world = λ law calm. ended.world law;
-    stopped = λ law calm root at. ended.ended.stopped law calm (phase_answers e old root) (root_agrees e old root is_root);
-    paces = ended.ended.paces;
+    progress = λ law calm root at. ended.ended.progress law calm (phase_answers e old root) (root_agrees e old root is_root);
   }
 
   -- or for what is under it
@@ -86,11 +87,9 @@ module _ {R Own World Future L H P : Type 0} {e : Parts R Own World Future L H P
     steady = steady_trans one.steady (as_steady kept.steady);
     enters = so_far_enters_trans one.passed.enters (as_enters_so_far ended.enters);
     world = λ law calm. inr (one_root, λ number task waits there. kept.world_is (one.steady.lawful_is law) ∙ one.world law calm number task waits there);
-    stopped = λ law calm root at.
+    progress = λ law calm root at.
         let answers = phase_answers e old root in
-        let first = one.passed.progress law calm answers (root_agrees e old root is_root) in
-        stopped_trans e.plan.Task e.turns.State (choice_by e.turns) (story_of (subject e) answers) first.ran
-        (ended.stopped (one.steady.lawful_is law) (one.steady.quiet_is calm) answers
-        (others_agree e old root middle one.steady.rules_is (one.world law calm at.number root at.alone at.there)));
-    paces = λ pace calm. so_far_trans one.steady.rules_is (one.passed.paces pace calm) (as_paces_so_far (ended.paces (one.steady.paced_is pace) (one.steady.quiet_is calm)));
+        so_far_trans one.steady.rules_is one.steady.paced_is (one.passed.progress law calm answers (root_agrees e old root is_root)) (λ pace. one.passed.paces pace calm)
+        (as_so_far (ended.progress (one.steady.lawful_is law) (one.steady.quiet_is calm) answers
+        (others_agree e old root middle one.steady.rules_is (one.world law calm at.number root at.alone at.there))));
   }

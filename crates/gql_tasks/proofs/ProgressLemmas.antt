@@ -7,9 +7,10 @@ use Rattle.gql_tasks.specs.Arena.{Subject}
 use Rattle.gql_tasks.specs.Parts.{Parts, Moment, choice_by, due_by, stage, subject}
 use Rattle.gql_tasks.specs.Progress.{IsSound, Steady, Kept, Agrees, Passed, Went, Ended, story_of}
 use Rattle.gql_tasks.proofs.KeepsLemmas.{lent_none, lent_trans}
-use Rattle.gql_tasks.proofs.PaceLemmas.{paces_none, paces_trans, so_far_trans}
-use Rattle.gql_tasks.proofs.RecordLemmas.{ran_none, ran_trans, stopped_trans}
+use Rattle.gql_tasks.proofs.PaceLemmas.{paces_none, paces_trans}
+use Rattle.gql_tasks.proofs.RecordLemmas.{ran_none, ran_trans}
 use Rattle.gql_tasks.proofs.RoundLemmas.{enters_none, enters_trans, so_far_enters_trans}
+use Rattle.gql_tasks.proofs.SoFarLemmas.{so_far_trans}
 use Rattle.gql_tasks.proofs.StepLemmas.{none_counted, counted_on}
 
 agrees_kept : {V Task : Type 0} {subject : Subject V Task} {root : Bool} (due due' : Call V → Answer V) (answers : Task → Answer V)
@@ -98,9 +99,7 @@ module _ {R Own World Future L H P : Type 0} {e : Parts R Own World Future L H P
   pub ended_trans : {old middle new : Moment R Future L H P} → Kept e old middle → Passed e old middle → Ended e middle new → Ended e old new
   ended_trans kept one other = record {
     enters = so_far_enters_trans one.enters other.enters;
-    stopped = λ law calm answers agrees.
-        let first = one.progress law calm answers agrees in
-        let second = other.stopped (kept.steady.lawful_is law) (kept.steady.quiet_is calm) answers (agrees_after kept law answers agrees) in
-        stopped_trans e.plan.Task e.turns.State (choice_by e.turns) (story_of (subject e) answers) first.ran second;
-    paces = λ pace calm. so_far_trans kept.steady.rules_is (one.paces pace calm) (other.paces (kept.steady.paced_is pace) (kept.steady.quiet_is calm));
+    progress = λ law calm answers agrees.
+        so_far_trans kept.steady.rules_is kept.steady.paced_is (one.progress law calm answers agrees) (λ pace. one.paces pace calm)
+        (other.progress (kept.steady.lawful_is law) (kept.steady.quiet_is calm) answers (agrees_after kept law answers agrees));
   }

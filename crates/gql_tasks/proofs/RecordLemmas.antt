@@ -1,11 +1,12 @@
 -- Records one after another.
-use Rattle.std.proofs.Common.{ℕ, ◌≡◌, List, [], ◌∷◌, ◌++◌, length, refl, sym, ap, subst, ◌∙◌, append_assoc}
-use Rattle.std.proofs.lemmas.List.{append-nil}
+use Rattle.std.proofs.Common.{ℕ, ◌≡◌, Bool, true, false, List, [], ◌∷◌, ◌++◌, length, refl, sym, ap, subst, ◌∙◌, append_assoc}
+use Rattle.std.proofs.lemmas.List.{append-nil, append_cancel_left}
 use Rattle.std.specs.Prelude.{Option, Some, None, option_map, slice_get}
 use Rattle.std.specs.Option.{ForSome}
 use Rattle.gql_resolve.specs.Record.{with_more}
 use Rattle.gql_resolve.specs.declared.record_entry.RecordEntry.{RecordEntry}
-use Rattle.gql_tasks.specs.Record.{Choice, Story, Made, Stage, waiting, after_entry, Turned, EachWaits, state_at, made_at, begins, begun_at, Ran, Stopped}
+use Rattle.gql_lists.proofs.SliceLemmas.{get_append_left}
+use Rattle.gql_tasks.specs.Record.{AreUntold, Choice, Story, Made, Stage, waiting, after_entry, after_mark, beneath_of, Turned, EachWaits, state_at, made_at, begins, begun_at, Ran, Stopped}
 
 pub with_more_none : {T : Type 0} (told : Option (List T)) → with_more told [] ≡ told
 with_more_none None = refl
@@ -15,8 +16,29 @@ pub with_more_append : {T : Type 0} (told : Option (List T)) (one other : List T
 with_more_append None one other = refl
 with_more_append (Some before) one other = ap Some (append_assoc before one other)
 
+pub some_is : {X : Type 0} {x y : X} → Some x ≡ Some y → x ≡ y
+some_is same = cc
+
+-- what was told is told once
+pub told_once : (before one other : List RecordEntry) (told told' : Option (List RecordEntry)) → told ≡ Some before → told' ≡ with_more told one → told' ≡ with_more told other → one ≡ other
+told_once before one other told told' some first second =
+    append_cancel_left before one other
+    (some_is (sym (subst (λ t. told' ≡ with_more t one) some first) ∙ subst (λ t. told' ≡ with_more t other) some second))
+
+-- a task that is made keeps its number
+module _ {Task : Type 0} (story : Story Task) where
+  mark_keeps : (made : Made Task) (n : ℕ) (is_ready : Bool) (k : ℕ) (task : Task) → slice_get made.tasks k ≡ Some task
+      → slice_get (after_mark story made n is_ready).tasks k ≡ Some task
+  mark_keeps made n true k task is = get_append_left made.tasks (beneath_of story (slice_get made.tasks n)) k task is
+  mark_keeps made n false k task is = is
+
+  pub made_keeps : (made : Made Task) (entries : List RecordEntry) (k : ℕ) (task : Task) → slice_get made.tasks k ≡ Some task
+      → slice_get (made_at story made entries).tasks k ≡ Some task
+  made_keeps made [] k task is = is
+  made_keeps made (e ∷ entries) k task is = made_keeps (after_entry story made e) entries k task (mark_keeps made e.task e.ready k task is)
+
 module _ (Task State : Type 0) (choice : Choice State) (story : Story Task) where
-  made_at-append : (made : Made Task) (one other : List RecordEntry) → made_at story made (one ++ other) ≡ made_at story (made_at story made one) other
+  pub made_at-append : (made : Made Task) (one other : List RecordEntry) → made_at story made (one ++ other) ≡ made_at story (made_at story made one) other
   made_at-append made [] other = refl
   made_at-append made (e ∷ one) other = made_at-append (after_entry story made e) one other
 
@@ -40,7 +62,7 @@ module _ (Task State : Type 0) (choice : Choice State) (story : Story Task) wher
   Turned-append state made (e ∷ one) other first second =
       (first.0, first.1, Turned-append (choice.after state (length (waiting made))) (after_entry story made e) one other first.2 second)
 
-  EachWaits-append : (made : Made Task) (one other : List RecordEntry) → EachWaits story made one → EachWaits story (made_at story made one) other
+  pub EachWaits-append : (made : Made Task) (one other : List RecordEntry) → EachWaits story made one → EachWaits story (made_at story made one) other
       → EachWaits story made (one ++ other)
   EachWaits-append made [] other first second = second
   EachWaits-append made (e ∷ one) other first second = (first.0, EachWaits-append (after_entry story made e) one other first.1 second)
@@ -61,7 +83,7 @@ module _ (Task State : Type 0) (choice : Choice State) (story : Story Task) wher
       same (Some s) = refl
 
   -- where one record ends, another goes on
-  starts_on : (starts : Option (List ℕ)) (made made' : Made Task) (one other : List RecordEntry) (last : List ℕ) → made' ≡ made_at story made one
+  pub starts_on : (starts : Option (List ℕ)) (made made' : Made Task) (one other : List RecordEntry) (last : List ℕ) → made' ≡ made_at story made one
       → with_more (with_more starts (begun_at story made one)) (begun_at story made' other ++ last) ≡ with_more starts (begun_at story made (one ++ other) ++ last)
   starts_on starts made made' one other last is =
       with_more_append starts (begun_at story made one) (begun_at story made' other ++ last)
@@ -69,7 +91,7 @@ module _ (Task State : Type 0) (choice : Choice State) (story : Story Task) wher
       (sym (append_assoc (begun_at story made one) (begun_at story made' other) last)
       ∙ ap (λ bs. bs ++ last) (ap (λ m. begun_at story made one ++ begun_at story m other) is ∙ sym (begun_at-append made one other)))
 
-  turned_on : (state state' : Option State) (made made' : Made Task) (one other : List RecordEntry) → made' ≡ made_at story made one
+  pub turned_on : (state state' : Option State) (made made' : Made Task) (one other : List RecordEntry) → made' ≡ made_at story made one
       → state' ≡ option_map (λ s. state_at choice story s made one) state
       → ForSome state (λ s. Turned choice story s made one) → ForSome state' (λ s. Turned choice story s made' other)
       → ForSome state (λ s. Turned choice story s made (one ++ other))
@@ -98,13 +120,16 @@ module _ (Task State : Type 0) (choice : Choice State) (story : Story Task) wher
           ∙ ap Some (ap (λ m. state_at choice story (state_at choice story s old.made one.entries) m other.entries) one.made_is
           ∙ sym (state_at-append s old.made one.entries other.entries))
 
-  pub stopped_trans : {old middle : Stage Task State} {told : Option (List RecordEntry)} {starts : Option (List ℕ)} → Ran choice story old middle
+  abbrev pub stopped_trans : {old middle : Stage Task State} {told : Option (List RecordEntry)} {starts : Option (List ℕ)} → Ran choice story old middle
       → Stopped choice story middle told starts → Stopped choice story old told starts
   stopped_trans {old = old} {middle = middle} one other = record {
     entries = one.entries ++ other.entries;
     told_is = other.told_is ∙ ap (λ t. with_more t other.entries) one.told_is ∙ with_more_append old.told one.entries other.entries;
+    waits = EachWaits-append old.made one.entries other.entries one.waits (subst (λ m. EachWaits story m other.entries) one.made_is other.waits);
     last = other.last;
     at_most_one = other.at_most_one;
+    last_untold = subst (λ m. AreUntold m other.last)
+        (ap (λ m. made_at story m other.entries) one.made_is ∙ sym (made_at-append old.made one.entries other.entries)) other.last_untold;
     starts_is = other.starts_is ∙ ap (λ t. with_more t (begun_at story middle.made other.entries ++ other.last)) one.starts_is
         ∙ starts_on old.starts old.made middle.made one.entries other.entries other.last one.made_is;
     turned = turned_on old.turns middle.turns old.made middle.made one.entries other.entries one.made_is one.state_is one.turned other.turned;

@@ -9,14 +9,13 @@ use Rattle.gql_resolve.specs.declared.record_entry.RecordEntry.{RecordEntry}
 use Rattle.gql_resolve.specs.declared.resolver_context.ResolverContext.{ResolverContext}
 use Rattle.gql_tasks.specs.declared.arena.State.{State}
 use Rattle.gql_tasks.specs.declared.arena.State.TheVariants as state
-use Rattle.gql_tasks.specs.Record.{Choice, untold, ready, Story, Made, waiting_from, untold_marks, beneath_of, after_ready, after_mark, NamesTask, Stage, begins, begun_at, IsOpenAt, Ran, Stopped}
+use Rattle.gql_tasks.specs.Record.{AreUntold, Choice, untold, ready, Story, Made, waiting_from, untold_marks, beneath_of, after_ready, after_mark, NamesTask, Stage, begins, begun_at, IsOpenAt, Ran, Stopped}
 use Rattle.gql_base.specs.PathSegment.{path_text}
 use Rattle.gql_tasks.specs.Arena.{mark_of, marks_of, made_of, fresh_states, subject_of}
 use Rattle.gql_tasks.specs.Plan.{Asking, IsContextOf}
 use Rattle.gql_tasks.specs.Progress.{story_of}
 use Rattle.gql_tasks.specs.Turn.{begins_now}
 use Rattle.gql_lists.proofs.SliceLemmas.{map_set, get_map}
-use Rattle.gql_tasks.proofs.RecordLemmas.{with_more_none}
 
 -- what the record sees, of plain lists
 abbrev pub staged : {Task State_ : Type 0} → Made Task → Option (List RecordEntry) → Option (List ℕ) → Option State_ → Stage Task State_
@@ -102,22 +101,27 @@ module _ (V Task F State_ : Type 0) (choice : Choice State_) (asks : Task → As
         record {
           entries = ran.entries;
           told_is = ran.told_is;
+          waits = ran.waits;
           last = [];
           at_most_one = omega arith;
+          last_untold = tt;
           starts_is = ran.starts_is ∙ ap (with_more starts) (sym (append-nil (begun_at story (made_of tasks states) ran.entries)));
           turned = ran.turned;
         }
 
--- a turn that ended out of memory before its entry
-pub stopped_before : {Task T : Type 0} (choice : Choice T) (tale : Story Task) (stage : Stage Task T)
-    (told : Option (List RecordEntry)) (starts : Option (List ℕ)) (last : List ℕ)
-    → told ≡ stage.told → length last ≤ 1 → starts ≡ with_more stage.starts last
-    → Stopped choice tale stage told starts
-stopped_before choice tale stage told starts last told_is most starts_is = record {
-  entries = [];
-  told_is = told_is ∙ sym (with_more_none stage.told);
-  last = last;
-  at_most_one = most;
-  starts_is = starts_is;
-  turned = λ s is. tt;
-}
+    pub entries_after : (is_ready : Bool) (told_is : told' ≡ with_more told (entry_of context is_ready ∷ [])) → (stopped_after is_ready told_is).entries ≡ entry_of context is_ready ∷ []
+    unfolding stopped_after one_entry
+    entries_after is_ready told_is = refl
+
+-- a task that a turn begins had no entry
+module _ {Task F : Type 0} (tasks : List Task) (states : List (State F)) (number task : ℕ) where
+  pub begins_untold : (was : State F) → task ≡ number → slice_get states number ≡ Some was → AreUntold (made_of tasks states) (begins_now task was)
+  begins_untold state.Fresh same is = (ap (slice_get (marks_of states)) same ∙ get_map mark_of states number state.Fresh is, tt)
+  begins_untold (state.Waiting f) same is = tt
+  begins_untold state.Done same is = tt
+
+-- and is the only one
+pub one_begins : {F : Type 0} (task : ℕ) (was : State F) → length (begins_now task was) ≤ 1
+one_begins task state.Fresh = omega arith
+one_begins task (state.Waiting f) = omega arith
+one_begins task state.Done = omega arith

@@ -3,6 +3,7 @@
 -- resolver, and then its ready one.
 use Rattle.std.specs.Prelude.{ℕ, zero, suc, ◌≡◌, ◌==◌, Bool, true, false, if◌then◌else◌, List, []}
 use Rattle.std.specs.Prelude.{◌∷◌, ◌++◌, Option, Some, None, slice_get}
+use Rattle.gql_request.specs.Path.{IsFront}
 use Rattle.gql_resolve.specs.declared.record_entry.RecordEntry.{RecordEntry}
 use Rattle.gql_tasks.specs.declared.arena.State.{State}
 use Rattle.gql_tasks.specs.declared.arena.State.TheVariants as state
@@ -53,4 +54,4 @@ pub record EachPaced {Task : Type 0} (delay : Task → ℕ) (tasks : List Task)
 pub record EachPacedSoFar {Task : Type 0} (delay : Task → ℕ) (tasks : List Task)
     (entries : List RecordEntry) : Type 0 where
   pub paced : (k : ℕ) (task : Task) → slice_get tasks k ≡ Some task
-      → (rest : List Bool) × (pending_then_ready (delay task) ≡ told_of k entries ++ rest)
+      → IsFront (told_of k entries) (pending_then_ready (delay task))

@@ -1,9 +1,10 @@
 -- The root keys of a mutation, one after another (GraphQL, October 2021, section 6.2.2): each is a
 -- phase of its own, with all that is under it, and the next begins in the world that it leaves.
 use Rattle.std.specs.Prelude.{ℕ, ◌≡◌, ◌≤◌, ◌<◌, ◌++◌, if◌then◌else◌, List, [], ◌∷◌, ◌⊎◌, Option, Some}
-use Rattle.std.specs.Prelude.{◌+◌, Bool, length, slice_get, take}
+use Rattle.std.specs.Prelude.{◌+◌, length, slice_get, take}
 use Rattle.std.specs.Option.{ForSome}
 use Rattle.gql_base.specs.declared.no_memory.NoMemory.{NoMemory}
+use Rattle.gql_request.specs.Path.{IsFront}
 use Rattle.gql_resolve.specs.Call.{Call}
 use Rattle.gql_resolve.specs.declared.answer.Answer.{Answer}
 use Rattle.gql_resolve.specs.declared.record_entry.RecordEntry.{RecordEntry}
@@ -14,10 +15,10 @@ use Rattle.gql_tasks.specs.Arena.{Subject, Work, fresh_states, marks_of, started
 use Rattle.gql_tasks.specs.Keeps.{SameLent}
 use Rattle.gql_tasks.specs.Pace.{pending_then_ready, told_of}
 use Rattle.gql_tasks.specs.Parts.{Parts, Moment, choice_by, stage, subject}
-use Rattle.gql_tasks.specs.Progress.{Enters, EntersSoFar, IsSound, Paces, PacesSoFar, Progress}
+use Rattle.gql_tasks.specs.Progress.{Enters, EntersSoFar, IsSound, Paces, Progress, ProgressSoFar}
 use Rattle.gql_tasks.specs.Progress.{Seen, Steady, stage_of, story_of}
-use Rattle.gql_tasks.specs.Record.{Choice, Made, Ran, Stage, Stopped, Story, fresh, untold, waiting}
-use Rattle.gql_tasks.specs.Record.{waiting_from}
+use Rattle.gql_tasks.specs.Record.{Choice, Made, Ran, Stage, Stopped, Story, fresh, tasks_at, untold}
+use Rattle.gql_tasks.specs.Record.{waiting, waiting_from}
 use Rattle.gql_tasks.specs.Root.{LeavesEffect, without_root}
 
 -- what is answered to a call in a phase between two worlds: to a root key in the first one, and to
@@ -48,11 +49,12 @@ pub record PacedSince {Task : Type 0} (first : ℕ) (delay : Task → ℕ) (task
   pub paced : (k : ℕ) (task : Task) → first ≤ k → slice_get tasks k ≡ Some task
       → told_of k entries ≡ pending_then_ready (delay task)
 
--- the same where memory ran out: the entries of its root key are a front of those
-pub record PacedSinceSoFar {Task : Type 0} (first : ℕ) (delay : Task → ℕ) (root : Task)
+-- the same where memory ran out: the entries of each task that it made are a front of those
+pub record PacedSinceSoFar {Task : Type 0} (first : ℕ) (delay : Task → ℕ) (tasks : List Task)
     (entries : List RecordEntry) : Type 0 where
   pub earlier : (k : ℕ) → k < first → told_of k entries ≡ []
-  pub paced : (rest : List Bool) × (pending_then_ready (delay root) ≡ told_of first entries ++ rest)
+  pub paced : (k : ℕ) (task : Task) → first ≤ k → slice_get tasks k ≡ Some task
+      → IsFront (told_of k entries) (pending_then_ready (delay task))
 
 -- how the calls of a set are answered: the answer and the effect of a call in a world, the delay of
 -- a resolver, and whether the set keeps to these delays
@@ -114,7 +116,9 @@ module _ {V W Task : Type 0} (serving : Serving V W) (subject : Subject V Task) 
       pub stopped : Stopped choice (story_in world root) (with_root old root) told starts
       pub paces : serving.paced → ForSome old.told (λ before.
           PacedSinceSoFar (length old.made.tasks)
-          (λ task. serving.delay (subject.call task).resolver) root stopped.entries)
+          (λ task. serving.delay (subject.call task).resolver)
+          (tasks_at (story_in world root) (with_root old root).made stopped.entries)
+          stopped.entries)
 
     -- memory ran out in the phase of the first of these root keys, or after all phases
     abbrev pub CutBefore : W → List Task → Stage Task State → Option (List RecordEntry)
@@ -195,11 +199,9 @@ module _ {R Own World Future L H P : Type 0} (e : Parts R Own World Future L H P
     pub world : e.set.is_lawful old.set → e.hooks.are_quiet old.hooks
         → ((want.roots ≡ 0) × (e.set.world new.set ≡ e.set.world old.set))
         ⊎ ((want.roots ≡ 1) × LeavesEffect e old new)
-    pub stopped : e.set.is_lawful old.set → e.hooks.are_quiet old.hooks
+    pub progress : e.set.is_lawful old.set → e.hooks.are_quiet old.hooks
         → (root : e.plan.Task) → IsRootOf old root
-        → Stopped (choice_by e.turns) (story_of (subject e) (phase_answers old root))
-        (stage e old) (e.set.told new.set) (e.set.begun new.set)
-    pub paces : e.set.is_paced old.set → e.hooks.are_quiet old.hooks → PacesSoFar e old new.set
+        → ProgressSoFar e old new (phase_answers old root)
 
   -- what stands after whole phases: none waits, and the next root key is yet to be made
   pub record InTurn (old now : Moment R Future L H P) (done : List e.plan.Task) : Type 0 where

@@ -3,6 +3,7 @@ use Rattle.std.specs.Prelude.{ℕ, Bool, ◌≡◌, ◌+◌, ◌≤◌, ◌++◌
 use Rattle.std.specs.Prelude.{OnErr}
 use Rattle.std.specs.Prelude.{length, slice_get}
 use Rattle.std.specs.Option.{ForSome}
+use Rattle.gql_request.specs.Path.{IsFront}
 use Rattle.gql_resolve.specs.Call.{Call}
 use Rattle.gql_resolve.specs.Record.{with_more}
 use Rattle.gql_resolve.specs.declared.answer.Answer.{Answer}
@@ -18,7 +19,8 @@ use Rattle.gql_tasks.specs.Keeps.{SameLent}
 use Rattle.gql_tasks.specs.Pace.{EachPaced, EachPacedSoFar, to_come_at, told_of}
 use Rattle.gql_tasks.specs.Parts.{Parts, Moment, choice_by, due_by, delay_by, delay_at, stage}
 use Rattle.gql_tasks.specs.Parts.{subject}
-use Rattle.gql_tasks.specs.Record.{Story, Made, Stage, Ran, Stopped, fresh, waiting, waiting_from}
+use Rattle.gql_tasks.specs.Record.{Story, Made, Stage, Ran, Stopped, fresh, tasks_at, waiting}
+use Rattle.gql_tasks.specs.Record.{waiting_from}
 use Rattle.gql_tasks.specs.Rounds.{KeepNumbers, ToldRounds, times, to_enter_at}
 use Rattle.gql_tasks.specs.Steps.{IsCounted}
 
@@ -83,17 +85,18 @@ module _ {R Own World Future L H P : Type 0} (e : Parts R Own World Future L H P
         → to_come_at e.set.number due (slice_get old.states k)
         ≡ told_of k entries ++ to_come_at e.set.number due (slice_get new.states k)
 
-  -- the same where memory ran out: the entries of each task are a front of those that were to
-  -- come
-  pub record PacesSoFar (old : Moment R Future L H P) (set : R) : Type 0 where
-    pub entries : List RecordEntry
-    pub told_is : e.set.told set ≡ with_more (e.set.told old.set) entries
-    pub made : List e.plan.Task
-    pub stays : KeepNumbers (e.plan.tasks old.plan) made
-    pub splits : (k due : ℕ)
-        → ((task : e.plan.Task) → slice_get made k ≡ Some task → due ≡ delay_at e old task)
-        → (rest : List Bool)
-        × (to_come_at e.set.number due (slice_get old.states k) ≡ told_of k entries ++ rest)
+  -- over a lawful set and quiet hooks, where memory ran out: the record is the front of a turned
+  -- one. Where the set is paced and tells it, the entries of each task that is made by then are a
+  -- front of those that were to come
+  pub record ProgressSoFar (old new : Moment R Future L H P)
+      (answers : e.plan.Task → Answer Own) : Type 0 where
+    pub stopped : Stopped (choice_by e.turns) (story_of (subject e) answers) (stage e old)
+        (e.set.told new.set) (e.set.begun new.set)
+    pub paces : e.set.is_paced old.set → ForSome (e.set.told old.set) (λ before.
+        (k : ℕ) (task : e.plan.Task)
+        → slice_get (tasks_at (story_of (subject e) answers) (stage e old).made stopped.entries) k
+        ≡ Some task → IsFront (told_of k stopped.entries)
+        (to_come_at e.set.number (delay_at e old task) (slice_get old.states k)))
 
   -- for every set and all hooks: the hooks of a task are entered once, as its first turn begins
   pub record Enters (old new : Moment R Future L H P) : Type 0 where
@@ -135,12 +138,9 @@ module _ {R Own World Future L H P : Type 0} (e : Parts R Own World Future L H P
   -- a stretch of turns that ended out of memory: what the set and the hooks have told by then
   pub record Ended (old new : Moment R Future L H P) : Type 0 where
     pub enters : EntersSoFar old new.hooks
-    pub stopped : e.set.is_lawful old.set → e.hooks.are_quiet old.hooks
+    pub progress : e.set.is_lawful old.set → e.hooks.are_quiet old.hooks
         → (answers : e.plan.Task → Answer Own)
-        → Agrees (subject e) e.root (due_by e.set old.set) answers
-        → Stopped (choice_by e.turns) (story_of (subject e) answers) (stage e old)
-        (e.set.told new.set) (e.set.begun new.set)
-    pub paces : e.set.is_paced old.set → e.hooks.are_quiet old.hooks → PacesSoFar old new.set
+        → Agrees (subject e) e.root (due_by e.set old.set) answers → ProgressSoFar old new answers
 
   -- a stretch of turns, whether it ended well or out of memory
   pub record Stretch {T Want : Type 0} (old new : Moment R Future L H P)
@@ -190,9 +190,11 @@ module _ {R Own World Future P Task : Type 0} (set : Resolving R Own World Futur
         ran.entries)
 
   -- an execution of such tasks that ended out of memory. Where the set is paced and tells its
-  -- record, the entries of each of these tasks are a front of those
+  -- record, the entries of each task that was made by then are a front of those
   pub record RunStopped (work : Work Own Task) (old new : Seen R P) : Type 0 where
     pub stopped : Stopped (choice_by turns) (story_at work.subject old)
         (stage_of (fresh work.first) old) (set.told new.set) (set.begun new.set)
     pub paces : set.is_paced old.set → ForSome (set.told old.set) (λ before. EachPacedSoFar
-        (λ task. delay_by set old.set (work.subject.call task).resolver) work.first stopped.entries)
+        (λ task. delay_by set old.set (work.subject.call task).resolver)
+        (tasks_at (story_at work.subject old) (fresh work.first) stopped.entries)
+        stopped.entries)

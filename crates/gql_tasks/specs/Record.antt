@@ -4,6 +4,7 @@
 use Rattle.std.specs.Prelude.{ℕ, suc, ◌≡◌, ◌≤◌, List, [], ◌∷◌}
 use Rattle.std.specs.Prelude.{◌++◌, Option, Some, None, Bool, if◌then◌else◌, length, slice_get}
 use Rattle.std.specs.Prelude.{slice_set, option_map}
+use Rattle.std.specs.List.{AllByRecursion}
 use Rattle.std.specs.Option.{ForSome}
 use Rattle.gql_resolve.specs.Record.{with_more}
 use Rattle.gql_resolve.specs.declared.record_entry.RecordEntry.{RecordEntry}
@@ -117,6 +118,10 @@ abbrev pub made_at : {Task : Type 0} → Story Task → Made Task → List Recor
 made_at story made [] = made
 made_at story made (entry ∷ entries) = made_at story (after_entry story made entry) entries
 
+-- the tasks that are made by the end of a record
+abbrev pub tasks_at : {Task : Type 0} → Story Task → Made Task → List RecordEntry → List Task
+tasks_at story made entries = (made_at story made entries).tasks
+
 -- the task of an entry, where it is its first one
 abbrev pub begins : ℕ → Option Mark → List ℕ
 begins task None = []
@@ -129,6 +134,11 @@ abbrev pub begun_at : {Task : Type 0} → Story Task → Made Task → List Reco
 begun_at story made [] = []
 begun_at story made (entry ∷ entries) = begins entry.task (slice_get made.marks entry.task)
     ++ begun_at story (after_entry story made entry) entries
+
+-- each of these numbers is that of a task that is made and has no entry
+abbrev pub AreUntold : {Task : Type 0} → Made Task → List ℕ → Type 0
+AreUntold made numbers =
+    AllByRecursion (λ number. slice_get made.marks number ≡ Some untold) numbers
 
 -- what the record sees of an execution between two turns: the tasks with their marks, what the set
 -- told of entries and of tasks that began, and the state of the turns
@@ -151,12 +161,14 @@ module _ {Task State : Type 0} (choice : Choice State) (story : Story Task) wher
     pub made_is : new.made ≡ made_at story old.made entries
 
   -- what an execution that ended out of memory has told: such a stretch, and at most one task
-  -- more has begun
+  -- more has begun, of which nothing was told yet
   pub record Stopped (old : Stage Task State) (told : Option (List RecordEntry))
       (starts : Option (List ℕ)) : Type 0 where
     pub entries : List RecordEntry
     pub told_is : told ≡ with_more old.told entries
+    pub waits : EachWaits story old.made entries
     pub last : List ℕ
     pub at_most_one : length last ≤ 1
+    pub last_untold : AreUntold (made_at story old.made entries) last
     pub starts_is : starts ≡ with_more old.starts (begun_at story old.made entries ++ last)
     pub turned : ForSome old.turns (λ s. Turned choice story s old.made entries)

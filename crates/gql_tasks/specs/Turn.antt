@@ -109,6 +109,6 @@ PutKeeps old new (Ok turn.Begun) = Unit {0}
 PutKeeps old new (Ok turn.Pending) = Unit {0}
 PutKeeps old new (Err e) = Unit {0}
 
--- where memory ran out, the task may have begun without an entry
-abbrev pub BeginsAtMost : ℕ → Option (List ℕ) → Option (List ℕ) → Type 0
-BeginsAtMost task old new = (new ≡ old) ⊎ (new ≡ with_more old (task ∷ []))
+-- where memory ran out, a task that was to begin may have begun without an entry
+abbrev pub BeginsAtMost : List ℕ → Option (List ℕ) → Option (List ℕ) → Type 0
+BeginsAtMost begins old new = (new ≡ old) ⊎ (new ≡ with_more old begins)

@@ -38,5 +38,5 @@ module _ {R H P S Own World Future : Type 0} where
     pub begun : OnOk result (set.begun new.set.now
         ≡ with_more (set.begun old.set.now) (begins_now task was))
     pub unbegun : OnErr result
-        (BeginsAtMost task (set.begun old.set.now) (set.begun new.set.now))
+        (BeginsAtMost (begins_now task was) (set.begun old.set.now) (set.begun new.set.now))
     pub stepped : OnOk result (new.steps.now ≡ old.steps.now + length (begins_now task was))
