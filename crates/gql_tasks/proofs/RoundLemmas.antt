@@ -3,7 +3,7 @@ use Rattle.std.proofs.Common.{ℕ, zero, suc, ◌≡◌, ◌+◌, if◌then◌el
 use Rattle.std.proofs.lemmas.Bool.{cases_eq, eq-eqb, ne_eqb}
 use Rattle.std.proofs.lemmas.List.{map-append}
 use Rattle.std.proofs.lemmas.List.Elements.{All-nil, All-cons, All-append, All-weaker}
-use Rattle.std.specs.Prelude.{Some, slice_get, slice_set}
+use Rattle.std.specs.Prelude.{Some, slice_get, slice_set, Result, Ok, Err, IsErrAnd}
 use Rattle.gql_resolve.specs.Record.{with_more}
 use Rattle.gql_request.specs.declared.resolve_info.ResolveInfo.{ResolveInfo}
 use Rattle.gql_resolve.specs.declared.resolver_context.ResolverContext.{ResolverContext}
@@ -14,7 +14,7 @@ use Rattle.gql_tasks.specs.Arena.{fresh_states}
 use Rattle.gql_tasks.specs.Parts.{Parts, Moment}
 use Rattle.gql_tasks.specs.Plan.{Asking, IsContextOf, IsInfoOf}
 use Rattle.gql_tasks.specs.Progress.{Enters, EntersSoFar}
-use Rattle.gql_tasks.specs.Rounds.{IsOneOf, KeepNumbers, ToldRounds, RoundsWhole, RoundsStopped, event_of, times, to_enter, to_enter_at}
+use Rattle.gql_tasks.specs.Rounds.{IsOneOf, KeepNumbers, ToldRounds, RoundsOf, RoundsWhole, RoundsStopped, event_of, times, to_enter, to_enter_at}
 use Rattle.gql_tasks.specs.Turn.{EntersAtMost, Round, enters_now}
 use Rattle.gql_lists.proofs.SliceLemmas.{get_set_same, get_set_other, get_append_left, get_within}
 use Rattle.gql_tasks.proofs.RecordLemmas.{with_more_none, with_more_append}
@@ -66,6 +66,12 @@ module _ {V Task H : Type 0} {asks : Task → Asking V} {hooks : Hooking H} wher
   pub no_rounds : (tasks : List Task) (old : H) → RoundsStopped asks hooks tasks old old
   unfolding rounds_none
   no_rounds tasks old = record { made = tasks; stays = λ k task is. is; rounds = rounds_none tasks old; once = λ k. omega arith }
+
+  -- memory ran out
+  pub rounds_err : {T Want : Type 0} (Q : Want → Type 0) {tasks : List Task} {old new : H} (result : Result T Want) → IsErrAnd result Q → RoundsStopped asks hooks tasks old new
+      → RoundsOf asks hooks tasks old new result
+  rounds_err Q (Ok x) is stopped = absurd is
+  rounds_err Q (Err want) is stopped = record { whole = tt; stopped = stopped }
 
   rounds_now : (F : Type 0) (made : List Task) (old new : H) (number : ℕ) (task : Task) (context : ResolverContext V) (info : ResolveInfo) (s : State F)
       → slice_get made number ≡ Some task → IsContextOf number (asks task) context → IsInfoOf (asks task) info

@@ -48,6 +48,12 @@ module _ (V Task F : Type 0) where
   pub all_done : (states : List (State F)) → waiting_from 0 (marks_of states) ≡ [] → (k : ℕ) (s : State F) → slice_get states k ≡ Some s → state.Done ≡ s
   all_done states none k s is = done_mark s (all_ready 0 (marks_of states) k (mark_of s) none (get_map mark_of states k s is))
 
+-- where there is no task, none waits
+pub none_waits : {Task F : Type 0} (waiting : List ℕ) (states : List (State F)) (n : ℕ) (tasks : List Task) → waiting ≡ waiting_from 0 (marks_of states) → states ≡ fresh_states n
+    → n ≡ length tasks → tasks ≡ [] → waiting ≡ []
+none_waits waiting states n tasks waits states_is n_is none =
+    waits ∙ ap (λ ss. waiting_from 0 (marks_of ss)) (states_is ∙ ap fresh_states (n_is ∙ ap length none))
+
 -- fresh tasks stand
 module _ {R Own World Future L H P : Type 0} {e : Parts R Own World Future L H P} where
   pub first_sound : (m : Moment R Future L H P) (n : ℕ) → m.states ≡ fresh_states n → n ≡ length (e.plan.tasks m.plan) → m.waiting ≡ waiting_from 0 (marks_of m.states)

@@ -1,7 +1,8 @@
 -- The rounds of the hooks: those of a task are entered once, before its resolver, and are told of
 -- it alone.
 use Rattle.std.specs.Prelude.{ℕ, ◌≡◌, ◌+◌, ◌≤◌, ◌==◌, if◌then◌else◌, All}
-use Rattle.std.specs.Prelude.{List, [], ◌∷◌, Option, Some, None, map, slice_get}
+use Rattle.std.specs.Prelude.{List, [], ◌∷◌, Option, Some, None, Result, OnErr, OnOk, map}
+use Rattle.std.specs.Prelude.{slice_get}
 use Rattle.gql_request.specs.declared.extension_context.ExtensionContext.{ExtensionContext}
 use Rattle.gql_resolve.specs.Record.{with_more}
 use Rattle.gql_resolve.specs.declared.layers.Layers.{Layers}
@@ -76,3 +77,9 @@ module _ {V Task : Type 0} (asks : Task → Asking V) where
     pub stays : KeepNumbers tasks made
     pub rounds : ToldRounds hooks made old new
     pub once : (k : ℕ) → times k rounds.entered ≤ 1
+
+  -- what they told in an execution of such tasks, whether it ended well or out of memory
+  pub record RoundsOf {H T Want : Type 0} (hooks : Hooking H) (tasks : List Task)
+      (old new : H) (result : Result T Want) : Type 0 where
+    pub whole : OnOk result (RoundsWhole hooks tasks old new)
+    pub stopped : OnErr result (RoundsStopped hooks tasks old new)

@@ -108,7 +108,8 @@ fn reach_event<R: ResolverSet, L: Plan<R::Own>, H: Rounds, P: Turns, S: Ledger>(
     }
 }
 
-/// Turns until every task has its answer.
+/// Turns until every task has its answer. Where none waits, nothing is asked of any set and any
+/// turns.
 pub fn finish<R: ResolverSet, L: Plan<R::Own>, H: Rounds, P: Turns, S: Ledger>(
     alloc: Global,
     plan: &mut L,
@@ -120,6 +121,7 @@ pub fn finish<R: ResolverSet, L: Plan<R::Own>, H: Rounds, P: Turns, S: Ledger>(
     ensures stretch { Stretch (parts R.ResolverSet L.Plan H.Rounds P.Turns)
         (at plan.old arena.old run.old) (at plan.new arena.new run.new) result }
     ensures answered { OnOk result (arena.new.waiting ≡ []) }
+    ensures idle { arena.old.waiting ≡ [] → run.new ≡ run.old }
 {
     // Fewer starts and answers are to come after each (`events_left`).
     'events: while !arena.waiting.is_empty() {

@@ -1,3 +1,4 @@
+use Rattle.std.proofs.Common.{◌≡◌, []}
 use Rattle.gql_tasks.specs.Arena.{events_left}
 use Rattle.gql_tasks.specs.Parts.{parts, at}
 use Rattle.gql_tasks.specs.Progress.{Kept, Went}
@@ -11,6 +12,7 @@ invariant-events g l = record {
   went : Went (parts g.R.ResolverSet g.L.Plan g.H.Rounds g.P.Turns)
       (at l.initial.plan l.initial.arena l.initial.run)
       (at l.plan l.arena l.run);
+  idle : l.initial.arena.waiting ≡ [] → (l.arena.waiting ≡ []) × (l.run ≡ l.initial.run);
 }
 
 abbrev pub decreases-events : goal.decreases-events
