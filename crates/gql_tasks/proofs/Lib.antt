@@ -9,9 +9,11 @@ pub mod KeepsLemmas
 pub mod NearerLemmas
 pub mod PaceLemmas
 pub mod PhaseLemmas
+mod PhaseRows
 pub mod PickLemmas
 pub mod ProgressLemmas
 pub mod RecordLemmas
+mod RecordRows
 pub mod RootLemmas
 pub mod RootWorld
 pub mod RoundLemmas
