@@ -1,6 +1,5 @@
 -- From the first turn to the last: the tasks of the root, and what stands when none waits.
 use Rattle.std.proofs.Common.{ℕ, zero, suc, ◌≡◌, ◌+◌, ◌≤◌, Bool, true, false, ltb, List, [], ◌∷◌, ◌++◌, length, map, take, inl, inr, refl, sym, ap, subst, ◌∙◌, arith, ltb-true, ltb-false}
-use Rattle.std.proofs.lemmas.List.{append-nil}
 use Rattle.std.specs.Prelude.{Some, slice_get}
 use Rattle.std.specs.List.{AllByRecursion}
 use Rattle.std.specs.Option.{ForSome}
@@ -16,10 +15,10 @@ use Rattle.gql_tasks.proofs.RecordLemmas.{with_more_none}
 use Rattle.gql_tasks.proofs.RunLemmas.{all_done, first_made, first_right}
 use Rattle.gql_tasks.proofs.StepLemmas.{all_started, started_fresh}
 use Rattle.gql_tasks.specs.Arena.{fresh_states, IsRight as IsRightAt, made_of, marks_of, started, total}
-use Rattle.gql_tasks.specs.Pace.{EachPaced, EachPacedSoFar, pending_then_ready}
+use Rattle.gql_tasks.specs.Pace.{EachPaced, EachPacedSoFar}
 use Rattle.gql_tasks.specs.Parts.{choice_by, delay_by, due_by}
 use Rattle.gql_tasks.specs.Progress.{Agrees, RunsWhole, RunStopped, Seen, stage_of, story_at}
-use Rattle.gql_tasks.specs.Record.{begun_at, fresh, Ran, Stopped, waiting_from}
+use Rattle.gql_tasks.specs.Record.{fresh, Made, Ran, Stopped, tasks_at, waiting_from}
 use Rattle.gql_tasks.specs.Rounds.{KeepNumbers}
 use Rattle.gql_tasks.specs.declared.arena.State.{State}
 use Rattle.gql_tasks.specs.declared.given.Given.TheVariants.{Answered}
@@ -32,9 +31,7 @@ use Rattle.gql_place.specs.declared.place.Tree.TheVariants as tree
 use Rattle.gql_place.proofs.PieceLemmas.{object_same, place_same, same_trans}
 use Rattle.gql_request.specs.QueryEnv.{levels_of}
 use Rattle.gql_resolve.specs.Call.{Call, is_mutation}
-use Rattle.gql_resolve.specs.Record.{with_more}
 use Rattle.gql_resolve.specs.declared.answer.Answer.{Answer}
-use Rattle.gql_resolve.specs.declared.record_entry.RecordEntry.{RecordEntry}
 use Rattle.gql_resolve.specs.declared.resolver_set.ResolverSet.{Ghosts as Resolving}
 use Rattle.gql_resolve.specs.declared.turns.Turns.{Ghosts as Choosing}
 use Rattle.gql_objects.specs.Members.{members_with}
@@ -276,33 +273,30 @@ module _ {R Own World Future P : Type 0} (set : Resolving R Own World Future) (t
     stopped = record {
       entries = [];
       told_is = told_is ∙ sym (with_more_none (set.told old.set));
+      waits = tt;
       last = [];
       at_most_one = omega arith;
+      last_untold = tt;
       starts_is = begun_is ∙ sym (with_more_none (set.begun old.set));
       turned = λ s is. tt;
     };
-    paces = λ pace before some. record { paced = λ k task is. (pending_then_ready (delay_of task), refl) };
+    paces = λ pace before some. record { paced = λ k task is. refl };
   }
+
+  -- what was told until memory ran out, from these tasks with their marks on
+  pub record StoppedFrom (new : Seen R P) (made : Made (Job Own)) : Type 0 where
+    pub stopped : Stopped (choice_by turns) (story_at set turns job_subject old) (stage_of set turns made old) (set.told new.set) (set.begun new.set)
+    pub paces : set.is_paced old.set → ForSome (set.told old.set) (λ before.
+        EachPacedSoFar delay_of (tasks_at (story_at set turns job_subject old) made stopped.entries) stopped.entries)
 
   module _ (first : List (Job Own)) (states : List (State Future)) (begins : Begins first states) where
     made_is : made_of first states ≡ fresh (root_jobs_by how scene)
     made_is = first_made Own (Job Own) Future first states begins.n begins.states_is begins.n_is ∙ ap fresh begins.first_is
 
-    asks_pace : (entries : List RecordEntry) → EachPacedSoFar delay_of first entries → EachPacedSoFar delay_of (root_jobs_by how scene) entries
-    asks_pace entries paced = subst (λ ts. EachPacedSoFar delay_of ts entries) begins.first_is paced
-
-    pub stopped_run : (new : Seen R P)
-        → Stopped (choice_by turns) (story_at set turns job_subject old) (stage_of set turns (made_of first states) old) (set.told new.set) (set.begun new.set)
-        → ((before entries : List RecordEntry) → set.is_paced old.set → set.told old.set ≡ Some before → set.told new.set ≡ with_more (set.told old.set) entries
-        → EachPacedSoFar delay_of first entries)
-        → RunStopped set turns (work_by how scene) old new
-    stopped_run new stopped paces =
-        let whole : Stopped (choice_by turns) (story_at set turns job_subject old) (stage_of set turns (fresh (root_jobs_by how scene)) old) (set.told new.set) (set.begun new.set)
-        = subst (λ m. Stopped (choice_by turns) (story_at set turns job_subject old) (stage_of set turns m old) (set.told new.set) (set.begun new.set)) made_is stopped in
-        record {
-          stopped = whole;
-          paces = λ pace before some. asks_pace whole.entries (paces before whole.entries pace some whole.told_is);
-        }
+    pub stopped_run : (new : Seen R P) → StoppedFrom new (made_of first states) → RunStopped set turns (work_by how scene) old new
+    stopped_run new stopped =
+        let from = subst (StoppedFrom new) made_is stopped in
+        record { stopped = from.stopped; paces = from.paces }
 
     module _ (new : Seen R P) (last : List (Job Own)) (store store' : Store (Filled Own) Piece) (states' : List (State Future))
         (finishes : Finishes new first last store store' states states') where
@@ -318,21 +312,6 @@ module _ {R Own World Future P : Type 0} (set : Resolving R Own World Future) (t
         ran = whole_ran;
         whole = finishes.whole;
         paces = paces;
-      }
-
-      pub stopped_whole : ((before entries : List RecordEntry) → set.is_paced old.set → set.told old.set ≡ Some before → set.told new.set ≡ with_more (set.told old.set) entries
-          → EachPacedSoFar delay_of first entries)
-          → RunStopped set turns (work_by how scene) old new
-      stopped_whole paces = record {
-        stopped = record {
-          entries = whole_ran.entries;
-          told_is = whole_ran.told_is;
-          last = [];
-          at_most_one = omega arith;
-          starts_is = whole_ran.starts_is ∙ ap (with_more (set.begun old.set)) (sym (append-nil (begun_at (story_at set turns job_subject old) (fresh (root_jobs_by how scene)) whole_ran.entries)));
-          turned = whole_ran.turned;
-        };
-        paces = λ pace before some. asks_pace whole_ran.entries (paces before whole_ran.entries pace some whole_ran.told_is);
       }
 
       -- as many steps are taken as there are tasks

@@ -3,19 +3,17 @@ use Rattle.std.proofs.Common.{◌≡◌, ℕ, zero, suc, ◌+◌, ◌-◌, ◌<�
 use Rattle.std.specs.Prelude.{slice_set}
 use Rattle.gql_base.specs.declared.no_memory.NoMemory.{NoMemory}
 use Rattle.gql_tasks.proofs.AimLemmas.{with_plan}
-use Rattle.gql_tasks.proofs.InTurnLemmas.{cut_between, cut_in_turn, in_turn_more}
+use Rattle.gql_tasks.proofs.InTurnLemmas.{cut_between, cut_in_turn, in_turn_more, none_before}
 use Rattle.gql_lists.proofs.SliceLemmas.{get_append, get_at, get_within}
 use Rattle.gql_tasks.proofs.ProgressLemmas.{steady_none}
-use Rattle.gql_tasks.proofs.RecordLemmas.{with_more_none}
 use Rattle.gql_tasks.proofs.RoundLemmas.{enters_none}
 use Rattle.gql_tasks.proofs.RunLemmas.{all_done}
 use Rattle.gql_tasks.proofs.StepLemmas.{all_started}
-use Rattle.gql_tasks.specs.Arena.{fresh_states, IsRight as IsRightAt, started, Subject, total, Work}
-use Rattle.gql_tasks.specs.Pace.{pending_then_ready}
+use Rattle.gql_tasks.specs.Arena.{fresh_states, IsRight as IsRightAt, started, total, Work}
 use Rattle.gql_tasks.specs.Parts.{Moment, Parts, choice_by, stage, subject}
-use Rattle.gql_tasks.specs.Phases.{answer_between, CutBefore, CutInTurn, HaltsInTurn, InTurn, none_made, Serving, serving_at, NextRoot, PhaseCut, PhaseOver, Phases, serving_of, world_past}
+use Rattle.gql_tasks.specs.Phases.{answer_between, CutInTurn, HaltsInTurn, InTurn, none_made, serving_at, NextRoot, PhaseCut, PhaseOver, Phases, serving_of, world_past}
 use Rattle.gql_tasks.specs.Progress.{Seen}
-use Rattle.gql_tasks.specs.Record.{Choice, fresh, Mark, Stage}
+use Rattle.gql_tasks.specs.Record.{fresh, Mark, Stage}
 use Rattle.gql_tasks.specs.Rounds.{IsOneOf}
 use Rattle.gql_tasks.specs.declared.arena.State.{State}
 use Rattle.gql_tasks.specs.declared.arena.State.TheVariants as state
@@ -278,22 +276,6 @@ pub stage_none : {Task_ State_ : Type 0} (told : Option (List RecordEntry)) (sta
     → (let s : Stage Task_ State_ = record { made = record { tasks = tasks; marks = marks }; told = told; starts = starts; turns = turns } in s)
     ≡ record { made = fresh []; told = told; starts = starts; turns = turns }
 stage_none told starts turns tasks marks no_tasks no_marks = λ i. record { made = record { tasks = no_tasks i; marks = no_marks i }; told = told; starts = starts; turns = turns }
-
--- nothing was told of root keys that weren't begun
-none_before : {V W Task_ State_ : Type 0} (serving : Serving V W) (about : Subject V Task_) (choice : Choice State_) (world : W) (left : List Task_) (old : Stage Task_ State_)
-    → CutBefore serving about choice world left old old.told old.starts
-none_before serving about choice world [] old = (refl, refl)
-none_before serving about choice world (root ∷ left) old = record {
-  stopped = record {
-    entries = [];
-    told_is = sym (with_more_none old.told);
-    last = [];
-    at_most_one = omega arith;
-    starts_is = sym (with_more_none old.starts);
-    turned = λ s is. tt;
-  };
-  paces = λ pace before some. record { earlier = λ k within. refl; paced = (pending_then_ready (serving.delay (about.call root).resolver), refl) };
-}
 
 -- memory ran out before any root key was begun
 pub halts_none : {R Own World Future P Task_ : Type 0} (set : Resolving R Own World Future) (turns : Choosing P) (work : Work Own Task_) (old : Seen R P) → HaltsInTurn set turns work old old

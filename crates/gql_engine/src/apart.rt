@@ -1,5 +1,5 @@
 //! Apart execution of an operation that is no mutation (GraphQL, October 2021, section 6.3.2).
-ghost use Rattle.std.specs.Prelude.{ℕ, ◌≡◌, false, IfErr, IfOk, OnErr, OnOk};
+ghost use Rattle.std.specs.Prelude.{ℕ, ◌≡◌, [], false, IfErr, IfOk, OnErr, OnOk};
 ghost use Rattle.gql_tasks.specs.Keeps.{KeepsSet};
 ghost use Rattle.gql_tasks.specs.Parts.{due_by};
 ghost use Rattle.gql_tasks.specs.Progress.{RunsWhole, RunStopped, seen};
@@ -18,7 +18,8 @@ use std::marker::Brand;
 use std::sync::ledger::Blank;
 
 /// The place of the whole response of a query: each occurrence of a field is one task, the tasks
-/// take the turns that are chosen for them, and places of one key are joined.
+/// take the turns that are chosen for them, and places of one key are joined. Where there is no task
+/// to begin with, nothing is asked of any set and any turns.
 pub fn run_apart<R: ResolverSet, P: Turns>(
     alloc: Global,
     scene: &Scene<'_, R::Own>,
@@ -39,6 +40,8 @@ pub fn run_apart<R: ResolverSet, P: Turns>(
         (RunStopped R.ResolverSet P.Turns (apart_work scene.now)
         (seen resolvers.old turns.old) (seen resolvers.new turns.new)) }
     ensures roots { IfErr result (λ want. want.roots ≡ 0) }
+    ensures idle { (apart_work scene.now).first ≡ []
+        → seen resolvers.new turns.new ≡ seen resolvers.old turns.old }
 {
     let by = Grouping::Each;
     let blank = Blank::new(1);

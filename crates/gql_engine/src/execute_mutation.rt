@@ -4,7 +4,7 @@ ghost use Rattle.std.specs.Prelude.{IfOk, IfErr, OnOk, OnErr};
 ghost use Rattle.gql_tasks.specs.Keeps.{Keeps};
 ghost use Rattle.gql_tasks.specs.Phases.{HaltsInTurn, RootsStand, RunsInTurn};
 ghost use Rattle.gql_tasks.specs.Progress.{seen_in};
-ghost use Rattle.gql_tasks.specs.Rounds.{RoundsStopped, RoundsWhole};
+ghost use Rattle.gql_tasks.specs.Rounds.{RoundsOf};
 ghost use Rattle.gql_meaning.specs.Responses.{root_place};
 ghost use Rattle.gql_resolve.specs.Call.{is_mutation};
 ghost use Rattle.gql_place.specs.Alike.{Same};
@@ -39,7 +39,7 @@ use std::sync::ledger::Ledger;
 /// merged over its occurrences, is answered alone, with its effect on the world, and then all
 /// under it in the world that it leaves, where each group of occurrences is one task; the next
 /// one goes on from there, also after a failure. Want of memory tells how many root keys have their
-/// effect.
+/// effect. Where no root key asks an answer, nothing is asked of any set and any turns.
 #[tactic(auto, using(gql_tasks::proofs::KeepsLemmas::keeps_none))]
 pub fn run_mutation_grouped<R: ResolverSet, H: Rounds, P: Turns, S: Ledger>(
     alloc: Global,
@@ -66,11 +66,9 @@ pub fn run_mutation_grouped<R: ResolverSet, H: Rounds, P: Turns, S: Ledger>(
     ensures roots { R.is_lawful run.old.set.now → H.are_quiet run.old.hooks.now
         → IfErr result (λ want. RootsStand R.ResolverSet P.Turns (key_work_by by scene.now)
         (seen_in run.old) (seen_in run.new) want.roots) }
-    ensures rounds { OnOk result (RoundsWhole asked_by_job H.Rounds
-        (no_jobs scene.now) run.old.hooks.now run.new.hooks.now) }
-    ensures unfinished { OnErr result
-        (RoundsStopped asked_by_job H.Rounds (no_jobs scene.now) run.old.hooks.now
-        run.new.hooks.now) }
+    ensures rounds { RoundsOf asked_by_job H.Rounds
+        (no_jobs scene.now) run.old.hooks.now run.new.hooks.now result }
+    ensures idle { (key_work_by by scene.now).first ≡ [] → run.new ≡ run.old }
     ensures asked { R.is_lawful run.old.set.now → H.are_quiet run.old.hooks.now → (n : ℕ)
         → Nests scene.now n → OnOk result (run.new.steps.now ≡ run.old.steps.now
         + serial_count_by scene.now (R.answer (R.rules run.old.set.now))

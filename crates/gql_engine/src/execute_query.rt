@@ -6,7 +6,7 @@ ghost use Rattle.gql_objects.specs.PlaceStore.{present};
 ghost use Rattle.gql_tasks.specs.Parts.{due_by};
 ghost use Rattle.gql_tasks.specs.Keeps.{Keeps, KeepsSet};
 ghost use Rattle.gql_tasks.specs.Progress.{RunsWhole, RunStopped, seen, seen_in};
-ghost use Rattle.gql_tasks.specs.Rounds.{RoundsWhole, RoundsStopped};
+ghost use Rattle.gql_tasks.specs.Rounds.{RoundsOf};
 ghost use Rattle.gql_meaning.specs.Responses.{root_place};
 ghost use Rattle.gql_place.specs.Alike.{Same};
 ghost use Rattle.gql_place.specs.Pieces.{members_in, place_in};
@@ -42,7 +42,8 @@ use std::sync::ledger::{Blank, Ledger};
 /// What is kept of the place of the whole response of a query: each group of occurrences is one
 /// task, and the tasks take the turns that are chosen for them. Each start of a resolver that
 /// answered is a step, so that as many steps are taken as answers are asked. The hooks of each task
-/// are entered once, before its resolver is started.
+/// are entered once, before its resolver is started. Where there is no task to begin with, nothing
+/// is asked of any set and any turns.
 #[tactic(auto, using(gql_tasks::proofs::KeepsLemmas::keeps_none))]
 pub fn run_grouped<R: ResolverSet, H: Rounds, P: Turns, S: Ledger>(
     alloc: Global,
@@ -64,10 +65,9 @@ pub fn run_grouped<R: ResolverSet, H: Rounds, P: Turns, S: Ledger>(
         (RunStopped R.ResolverSet P.Turns (work_by by scene.now) (seen_in run.old)
         (seen_in run.new)) }
     ensures roots { IfErr result (λ want. want.roots ≡ 0) }
-    ensures rounds { OnOk result (RoundsWhole asked_by_job H.Rounds
-        (root_jobs_by by scene.now) run.old.hooks.now run.new.hooks.now) }
-    ensures unfinished { OnErr result (RoundsStopped asked_by_job H.Rounds
-        (root_jobs_by by scene.now) run.old.hooks.now run.new.hooks.now) }
+    ensures rounds { RoundsOf asked_by_job H.Rounds
+        (root_jobs_by by scene.now) run.old.hooks.now run.new.hooks.now result }
+    ensures idle { (work_by by scene.now).first ≡ [] → run.new ≡ run.old }
     ensures asked { R.is_lawful run.old.set.now → H.are_quiet run.old.hooks.now → (n : ℕ)
         → Nests scene.now n → OnOk result (run.new.steps.now ≡ run.old.steps.now
         + count_by scene.now (due_by R.ResolverSet run.old.set.now) n by) }
@@ -106,6 +106,8 @@ pub(crate) fn run_on_blank<R: ResolverSet, P: Turns, S: Ledger>(
         (RunStopped R.ResolverSet P.Turns (work_by by scene.now)
         (seen resolvers.old turns.old) (seen resolvers.new turns.new)) }
     ensures roots { IfErr result (λ want. want.roots ≡ 0) }
+    ensures idle { (work_by by scene.now).first ≡ []
+        → seen resolvers.new turns.new ≡ seen resolvers.old turns.old }
 {
     let mut steps: Steps<S> = Steps::new(blank);
     run_grouped(

@@ -1,5 +1,5 @@
 //! Merged execution of an operation that is no mutation (GraphQL, October 2021, section 6.2.1).
-ghost use Rattle.std.specs.Prelude.{ℕ, ◌≡◌, false, IfErr, IfOk, OnErr, OnOk};
+ghost use Rattle.std.specs.Prelude.{ℕ, ◌≡◌, [], false, IfErr, IfOk, OnErr, OnOk};
 ghost use Rattle.gql_tasks.specs.Keeps.{KeepsSet};
 ghost use Rattle.gql_tasks.specs.Parts.{due_by};
 ghost use Rattle.gql_tasks.specs.Progress.{RunsWhole, RunStopped, seen};
@@ -18,7 +18,8 @@ use std::marker::Brand;
 use std::sync::ledger::Blank;
 
 /// The place of the whole response of a query: each key of a set is one task, and the tasks take
-/// the turns that are chosen for them.
+/// the turns that are chosen for them. Where there is no task to begin with, nothing is asked of any
+/// set and any turns.
 pub fn run_merged<R: ResolverSet, P: Turns>(
     alloc: Global,
     scene: &Scene<'_, R::Own>,
@@ -39,6 +40,8 @@ pub fn run_merged<R: ResolverSet, P: Turns>(
         (RunStopped R.ResolverSet P.Turns (merged_work_whole scene.now)
         (seen resolvers.old turns.old) (seen resolvers.new turns.new)) }
     ensures roots { IfErr result (λ want. want.roots ≡ 0) }
+    ensures idle { (merged_work_whole scene.now).first ≡ []
+        → seen resolvers.new turns.new ≡ seen resolvers.old turns.old }
 {
     let by = Grouping::ByKeyWhole;
     let blank = Blank::new(1);

@@ -178,6 +178,7 @@ pub(crate) fn answer_keys<'a, R: ResolverSet, H: Rounds, P: Turns, S: Ledger>(
         PlacedInTurn (serving_by R.ResolverSet run.old.set.now) (R.world run.old.set.now)
         (jobs_in tasks.entry.items) own.items) }
     ensures count { IfOk result (λ own. length own.items ≡ length (jobs_in tasks.entry.items)) }
+    ensures idle { jobs_in tasks.entry.items ≡ [] → run.new ≡ run.old }
 {
     let mut tasks = tasks;
     let mut own = Vec::new(alloc);

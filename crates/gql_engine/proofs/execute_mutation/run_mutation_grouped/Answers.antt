@@ -5,7 +5,7 @@ use Rattle.gql_base.specs.declared.no_memory.NoMemory.{NoMemory}
 use Rattle.gql_tasks.proofs.AdvanceLemmas.{on_err, on_ok}
 use Rattle.gql_tasks.proofs.InTurnLemmas.{cut_between, in_turn_none}
 use Rattle.gql_tasks.proofs.RootLemmas.{if_err}
-use Rattle.gql_tasks.proofs.RoundLemmas.{no_rounds, so_far_enters_whole, stopped_rounds, whole_rounds}
+use Rattle.gql_tasks.proofs.RoundLemmas.{no_rounds, rounds_err, so_far_enters_whole, stopped_rounds, whole_rounds}
 use Rattle.gql_tasks.specs.Arena.{made_of, marks_of, started, total}
 use Rattle.gql_tasks.specs.Parts.{at, choice_by, root_parts, stage}
 use Rattle.gql_tasks.specs.Phases.{AreCut, CutInTurn, none_made, Phases, RootsStand, serving_by, world_past}
@@ -37,20 +37,20 @@ use Rattle.gql_engine.proofs.execute_mutation.run_mutation_grouped.Goals as goal
 pub returns-in_err-root-clause-stopped : goal.returns-in_err-root-clause-stopped
 returns-in_err-root-clause-stopped g c = λ law calm. on_err c.from_residual.result _ (halts_none g.R.ResolverSet g.P.Turns (key_work_by c.args.by c.args.scene.now) (seen_in c.args.run.now))
 
-pub returns-in_err-root-clause-unfinished : goal.returns-in_err-root-clause-unfinished
-returns-in_err-root-clause-unfinished g c = on_err c.from_residual.result _ (no_rounds {asks = asked_by_job} {hooks = g.H.Rounds} (no_jobs c.args.scene.now) c.args.run.now.hooks.now)
+pub returns-in_err-root-clause-rounds : goal.returns-in_err-root-clause-rounds
+returns-in_err-root-clause-rounds g c = rounds_err _ c.from_residual.result c.from_residual.ensures.1 (no_rounds {asks = asked_by_job} {hooks = g.H.Rounds} (no_jobs c.args.scene.now) c.args.run.now.hooks.now)
 
 pub returns-in_err-make_tasks-clause-stopped : goal.returns-in_err-make_tasks-clause-stopped
 returns-in_err-make_tasks-clause-stopped g c = λ law calm. on_err c.from_residual-in_err-make_tasks.result _ (halts_none g.R.ResolverSet g.P.Turns (key_work_by c.args.by c.args.scene.now) (seen_in c.args.run.now))
 
-pub returns-in_err-make_tasks-clause-unfinished : goal.returns-in_err-make_tasks-clause-unfinished
-returns-in_err-make_tasks-clause-unfinished g c = on_err c.from_residual-in_err-make_tasks.result _ (no_rounds {asks = asked_by_job} {hooks = g.H.Rounds} (no_jobs c.args.scene.now) c.args.run.now.hooks.now)
+pub returns-in_err-make_tasks-clause-rounds : goal.returns-in_err-make_tasks-clause-rounds
+returns-in_err-make_tasks-clause-rounds g c = rounds_err _ c.from_residual-in_err-make_tasks.result c.from_residual-in_err-make_tasks.ensures.1 (no_rounds {asks = asked_by_job} {hooks = g.H.Rounds} (no_jobs c.args.scene.now) c.args.run.now.hooks.now)
 
 pub returns-in_err-arena-clause-stopped : goal.returns-in_err-arena-clause-stopped
 returns-in_err-arena-clause-stopped g c = λ law calm. on_err c.from_residual-in_err-arena.result _ (halts_none g.R.ResolverSet g.P.Turns (key_work_by c.args.by c.args.scene.now) (seen_in c.args.run.now))
 
-pub returns-in_err-arena-clause-unfinished : goal.returns-in_err-arena-clause-unfinished
-returns-in_err-arena-clause-unfinished g c = on_err c.from_residual-in_err-arena.result _ (no_rounds {asks = asked_by_job} {hooks = g.H.Rounds} (no_jobs c.args.scene.now) c.args.run.now.hooks.now)
+pub returns-in_err-arena-clause-rounds : goal.returns-in_err-arena-clause-rounds
+returns-in_err-arena-clause-rounds g c = rounds_err _ c.from_residual-in_err-arena.result c.from_residual-in_err-arena.ensures.1 (no_rounds {asks = asked_by_job} {hooks = g.H.Rounds} (no_jobs c.args.scene.now) c.args.run.now.hooks.now)
 
 pub answer_keys-requires-clause-keys : goal.answer_keys-requires-clause-keys
 answer_keys-requires-clause-keys g c =
@@ -107,9 +107,9 @@ returns-in_err-own-clause-roots g c = λ law calm.
     (subst (λ rs. CutInTurn e first new rs c.in_err-own.field-0.0) asked c.in_err-own.ensures.cut)).stands law calm in
     record { within = stands.0; world = stands.1 })
 
-pub returns-in_err-own-clause-unfinished : goal.returns-in_err-own-clause-unfinished
-returns-in_err-own-clause-unfinished g c =
-    on_err c.from_residual-in_err-own.result _
+pub returns-in_err-own-clause-rounds : goal.returns-in_err-own-clause-rounds
+returns-in_err-own-clause-rounds g c =
+    rounds_err _ c.from_residual-in_err-own.result c.from_residual-in_err-own.ensures.1
     (subst (λ (ts : List (Job g.row.R-Own.Denot)). RoundsStopped asked_by_job g.H.Rounds ts c.args.run.now.hooks.now c.answer_keys.new.run.hooks.now) c.empty-plan.ensures.tasks
     (stopped_rounds 0 c.in_err-own.ensures.cut.enters c.in_ok-arena.ensures.states))
 
@@ -250,13 +250,27 @@ returns-clause-roots g c = λ law calm.
     record { within = stands.0; world = stands.1 }) c.place_of_keys.ensures.roots
 
 pub returns-clause-rounds : goal.returns-clause-rounds
-returns-clause-rounds g c =
-    on_ok c.place_of_keys.result _
-    (subst (λ (ts : List (Job g.row.R-Own.Denot)). RoundsWhole asked_by_job g.H.Rounds ts c.args.run.now.hooks.now c.answer_keys.new.run.hooks.now) c.empty-plan.ensures.tasks
-    (whole_rounds 0 c.in_ok-own.ensures.over.enters c.in_ok-arena.ensures.states (turn_answered c.in_ok-own.ensures.over)))
+returns-clause-rounds g c = record {
+  whole = on_ok c.place_of_keys.result _
+      (subst (λ (ts : List (Job g.row.R-Own.Denot)). RoundsWhole asked_by_job g.H.Rounds ts c.args.run.now.hooks.now c.answer_keys.new.run.hooks.now) c.empty-plan.ensures.tasks
+      (whole_rounds 0 c.in_ok-own.ensures.over.enters c.in_ok-arena.ensures.states (turn_answered c.in_ok-own.ensures.over)));
+  stopped = on_err c.place_of_keys.result _
+      (subst (λ (ts : List (Job g.row.R-Own.Denot)). RoundsStopped asked_by_job g.H.Rounds ts c.args.run.now.hooks.now c.answer_keys.new.run.hooks.now) c.empty-plan.ensures.tasks
+      (stopped_rounds 0 (so_far_enters_whole c.in_ok-own.ensures.over.enters) c.in_ok-arena.ensures.states));
+}
 
-pub returns-clause-unfinished : goal.returns-clause-unfinished
-returns-clause-unfinished g c =
-    on_err c.place_of_keys.result _
-    (subst (λ (ts : List (Job g.row.R-Own.Denot)). RoundsStopped asked_by_job g.H.Rounds ts c.args.run.now.hooks.now c.answer_keys.new.run.hooks.now) c.empty-plan.ensures.tasks
-    (stopped_rounds 0 (so_far_enters_whole c.in_ok-own.ensures.over.enters) c.in_ok-arena.ensures.states))
+pub returns-in_err-own-clause-idle : goal.returns-in_err-own-clause-idle
+returns-in_err-own-clause-idle g c = λ none.
+    let scene = c.args.scene.now in
+    let asked : jobs_in c.from_vec-keys.result.items ≡ key_jobs_by c.args.by scene
+    = ap jobs_in c.from_vec-keys.ensures.items ∙ c.in_ok-make_tasks.ensures ∙ ap (λ (ts : List (Task g.row.R-Own.Denot)). jobs_in ts ++ jobs_here c.in_ok-root.root.value) c.new-tasks.ensures.items
+    ∙ c.in_ok-root.ensures.jobs ∙ mutation_jobs c.args.by scene c.requires in
+    c.in_err-own.ensures.idle (asked ∙ none)
+
+pub returns-clause-idle : goal.returns-clause-idle
+returns-clause-idle g c = λ none.
+    let scene = c.args.scene.now in
+    let asked : jobs_in c.from_vec-keys.result.items ≡ key_jobs_by c.args.by scene
+    = ap jobs_in c.from_vec-keys.ensures.items ∙ c.in_ok-make_tasks.ensures ∙ ap (λ (ts : List (Task g.row.R-Own.Denot)). jobs_in ts ++ jobs_here c.in_ok-root.root.value) c.new-tasks.ensures.items
+    ∙ c.in_ok-root.ensures.jobs ∙ mutation_jobs c.args.by scene c.requires in
+    c.in_ok-own.ensures.idle (asked ∙ none)

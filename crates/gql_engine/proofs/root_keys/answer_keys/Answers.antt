@@ -44,7 +44,17 @@ keys-preserved g c =
           subst (λ ds. PlacedInTurn serving world ds c.answer_key.new.own.items) (sym taken)
           (subst (λ os. PlacedInTurn serving world (take n all ++ root ∷ []) os) (sym has.added)
           (placed_next serving world (take n all) root c.keys.own.items has.place (c.keys.invariant.placed law calm) right));
+      idle = λ none. absurd (let w = drop_within n all root rest next in let z = ap length none in omega arith);
     }
+
+pub returns-in_err-answer_key-clause-idle : goal.returns-in_err-answer_key-clause-idle
+returns-in_err-answer_key-clause-idle g c = λ none.
+    let all = jobs_in c.args.tasks.items in
+    let n = length c.keys.own.items in
+    let root = job_of_task c.in-Some.task in
+    let rest = jobs_in c.pop_front.new.self.items in
+    let next : drop n all ≡ root ∷ rest = c.keys.invariant.left ∙ ap jobs_in c.in-Some.ensures.items in
+    absurd (let w = drop_within n all root rest next in let z = ap length none in omega arith)
 
 pub returns-in_err-answer_key-clause-cut : goal.returns-in_err-answer_key-clause-cut
 returns-in_err-answer_key-clause-cut g c =

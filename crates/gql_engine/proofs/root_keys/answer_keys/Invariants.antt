@@ -18,6 +18,7 @@ invariant-keys g l = record {
   closed : l.plan.kept.items ≡ [];
   placed : g.R.ResolverSet.is_lawful l.initial.run.set.now → g.H.Rounds.are_quiet l.initial.run.hooks.now
       → PlacedInTurn (serving_by g.R.ResolverSet l.initial.run.set.now) (g.R.ResolverSet.world l.initial.run.set.now) (take (length l.own.items) (jobs_in l.initial.tasks.items)) l.own.items;
+  idle : jobs_in l.initial.tasks.items ≡ [] → l.run ≡ l.initial.run;
 }
 
 abbrev pub decreases-keys : goal.decreases-keys
