@@ -7,5 +7,6 @@ pub mod MutationLemmas
 pub mod PlanLemmas
 pub mod QueryLemmas
 pub mod RootKeyLemmas
+pub mod SchemaAloneLemmas
 pub mod SendLemmas
 pub mod TaskCountLemmas

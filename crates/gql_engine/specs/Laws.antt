@@ -1,6 +1,6 @@
 -- The laws on how the places of tasks are put together, and on what merged and apart execution have
 -- in common.
-use Rattle.std.specs.Prelude.{◌≡◌, ℕ, suc, Bool, List, map, None}
+use Rattle.std.specs.Prelude.{◌≡◌, ℕ, suc, true, Bool, List, [], map, None}
 use Rattle.gql_base.specs.Pairs.{values_of}
 use Rattle.gql_base.specs.declared.path_segment.PathSegment.{PathSegment}
 use Rattle.gql_base.specs.declared.pos.Pos.{Pos}
@@ -9,6 +9,7 @@ use Rattle.gql_doc.specs.declared.document.Positioned.{Positioned}
 use Rattle.gql_doc.specs.declared.document.Selection.{Selection}
 use Rattle.gql_engine.specs.declared.scene.Scene.{Scene}
 use Rattle.gql_meaning.specs.Completion.{Completed}
+use Rattle.gql_collect.specs.Basis.{is_introspection_only}
 use Rattle.gql_collect.specs.Execution.{Execution, field_asking}
 use Rattle.gql_place.specs.Filled.{fill}
 use Rattle.gql_resolve.specs.Call.{Call}
@@ -25,9 +26,12 @@ use Rattle.gql_objects.specs.Jobs.{jobs_at, jobs_by}
 use Rattle.gql_collect.specs.Levels.{asked_in}
 use Rattle.gql_objects.specs.ExecuteSelectionSet.{beneath_by, members_by}
 use Rattle.gql_engine.specs.ExecuteQuery.{AgreesInside, apart_response, merged_response, response_by}
+use Rattle.gql_engine.specs.ExecuteQuery.{work_by}
+use Rattle.gql_engine.specs.ExecuteMutation.{key_work_by}
 use Rattle.gql_engine.specs.ExecuteMutation.{serial_apart_response, serial_response, serial_response_by}
 use Rattle.gql_complete.specs.FoundObjects.{bare, Spot, spots}
 use Rattle.gql_collect.specs.declared.basis.Basis.{Basis}
+use Rattle.gql_collect.specs.declared.basis.Grouping.{Grouping}
 use Rattle.gql_collect.specs.declared.basis.Grouping.TheVariants as grouping
 
 -- a field asks the call that is made of what it asks on any value of its object
@@ -84,6 +88,17 @@ pub record MutationsAreGrouped {V W : Type 0} (scene : Scene V) (answer : Call V
       ≡ serial_apart_response scene answer effect world n
   pub asked : serial_count_by scene answer effect world n grouping.ByKey
       ≡ serial_count scene answer effect world n
+
+-- there is no task to begin with: of a query, or of the root keys of a mutation
+pub record HasNoTask {V : Type 0} (by : Grouping) (scene : Scene V) : Type 0 where
+  pub query : (work_by by scene).first ≡ []
+  pub mutation : (key_work_by by scene).first ≡ []
+
+-- where the schema alone is asked for, there is none, however occurrences are grouped
+abbrev pub SchemaAloneHasNoTask : (V : Type 0) → Type 0
+SchemaAloneHasNoTask V =
+    (by : Grouping) (scene : Scene V)
+    → is_introspection_only scene.env.now.introspection_mode ≡ true → HasNoTask by scene
 
 -- where the operation agrees with itself, apart execution comes to the place of merged execution
 abbrev pub AgreeingApartIsMerged : (V : Type 0) → Type 0

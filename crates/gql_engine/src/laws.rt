@@ -9,7 +9,7 @@ ghost use Rattle.gql_engine.specs.Laws.{AgreeingApartIsMerged};
 ghost use Rattle.gql_engine.specs.Laws.{AgreeingMutationApartIsMerged};
 ghost use Rattle.gql_engine.specs.Laws.{CollectedNest, FieldsAskTheirCalls, MembersAreMerged};
 ghost use Rattle.gql_engine.specs.Laws.{MutationsAreGrouped, QueriesAreGrouped};
-ghost use Rattle.gql_engine.specs.Laws.{TasksAreJobs, TreesAreMerged};
+ghost use Rattle.gql_engine.specs.Laws.{SchemaAloneHasNoTask, TasksAreJobs, TreesAreMerged};
 
 /// A field asks the call that the meaning of execution says, made of what its name and its
 /// arguments ask on its object (GraphQL, October 2021, section 6.4.1).
@@ -50,6 +50,12 @@ pub fn queries_are_grouped<V>()
 pub fn mutations_are_grouped<V, W>()
     ensures { (scene : Scene V) (answer : Call V → W → Answer V) (effect : Call V → W → W)
         (world : W) (n : ℕ) → MutationsAreGrouped scene answer effect world n }
+{}
+
+/// Where the schema alone is asked for, there is no task to begin with, of a query or of a mutation:
+/// so nothing is asked of any set and any turns.
+pub fn schema_alone_has_no_task<V>()
+    ensures { SchemaAloneHasNoTask V }
 {}
 
 /// Where the fields of one key agree, answering each occurrence apart and joining the places is
