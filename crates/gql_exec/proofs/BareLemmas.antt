@@ -11,9 +11,9 @@ use Rattle.gql_doc.specs.declared.document.Selection.{Selection}
 use Rattle.gql_tasks.specs.Parts.{choice_by, due_by}
 use Rattle.gql_tasks.specs.Progress.{RunsWhole, RunStopped, Seen, stage_of, story_at}
 use Rattle.gql_tasks.specs.Pace.{EachPacedSoFar}
-use Rattle.gql_tasks.specs.Record.{Story, fresh}
+use Rattle.gql_tasks.specs.Record.{Made, Story, fresh, tasks_at}
 use Rattle.gql_engine.specs.declared.scene.Scene.{Scene}
-use Rattle.gql_exec.proofs.RecordLemmas.{mapped, fresh-mapped, paced-mapped, so-far-mapped, ran-mapped, stopped-mapped}
+use Rattle.gql_exec.proofs.RecordLemmas.{made-after, mapped, fresh-mapped, paced-mapped, so-far-mapped, ran-mapped, stopped-mapped}
 use Rattle.gql_exec.specs.Bare.{bare_basis, bare_job, bare_layers, bare_scene}
 use Rattle.gql_exec.specs.Scene.{shown}
 use Rattle.gql_collect.specs.Execution.{Asking, Execution, field_asking, setting_in}
@@ -162,6 +162,9 @@ module _ {R Own World Future P : Type 0} (set : Resolving R Own World Future) (t
   stopped-bare runs = record {
     stopped = stopped-mapped (choice_by turns) story story bare_job (λ job. refl) (λ job. refl) below (stage_of set turns (fresh (root_jobs_by by scene)) old) _ starts
         (set.told new.set) (set.begun new.set) runs.stopped;
-    paces = λ pace before is. subst (λ jobs. EachPacedSoFar (λ (job : Job Own). set.delay (set.rules old.set) job.asking.call.resolver) jobs runs.stopped.entries)
-        (sym (roots-bare by scene)) (so-far-mapped bare_job _ _ (λ job. refl) (root_jobs_by by scene) runs.stopped.entries (runs.paces pace before is));
+    paces = λ pace before is.
+        let first = stage_of set turns (fresh (root_jobs_by by scene)) old in
+        subst (λ (made : Made (Job Own)). EachPacedSoFar (λ (job : Job Own). set.delay (set.rules old.set) job.asking.call.resolver) made.tasks runs.stopped.entries)
+        (made-after (choice_by turns) story story bare_job (λ job. refl) (λ job. refl) below first _ starts runs.stopped.entries)
+        (so-far-mapped bare_job _ _ (λ job. refl) (tasks_at story first.made runs.stopped.entries) runs.stopped.entries (runs.paces pace before is));
   }

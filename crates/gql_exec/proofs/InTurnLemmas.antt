@@ -2,14 +2,15 @@
 use Rattle.std.proofs.Common.{◌≡◌, ◌≤◌, ℕ, zero, suc, List, [], ◌∷◌, ◌++◌, map, length, take, Option, Some, None, option_map, slice_get, refl, ap, sym, ◌∙◌, subst, arith}
 use Rattle.std.proofs.lemmas.List.{map-append, length-map}
 use Rattle.std.proofs.lemmas.Option.{slice_get-map}
+use Rattle.gql_request.specs.Path.{IsFront}
 use Rattle.gql_tasks.specs.Pace.{pending_then_ready, told_of}
 use Rattle.gql_tasks.specs.Parts.{choice_by}
 use Rattle.gql_tasks.specs.Phases.{after_root, answers_in, AreCut, CutBefore, HaltsInTurn, IsCutPhase, IsPhase, none_made, PacedSince, PacedSinceSoFar, Phases, RootsStand, RunsInTurn, Serving, serving_at, story_in, with_root, world_past}
 use Rattle.gql_tasks.specs.Progress.{Seen, stage_of}
-use Rattle.gql_tasks.specs.Record.{Choice, Made, Stage, Story, untold}
+use Rattle.gql_tasks.specs.Record.{Choice, Made, Stage, Story, tasks_at, untold}
 use Rattle.gql_engine.specs.declared.scene.Scene.{Scene}
 use Rattle.gql_exec.proofs.BareLemmas.{beneath-bare, keys-bare}
-use Rattle.gql_exec.proofs.RecordLemmas.{mapped, ran-mapped, staged, stopped-mapped}
+use Rattle.gql_exec.proofs.RecordLemmas.{made-after, mapped, ran-mapped, staged, stopped-mapped}
 use Rattle.gql_exec.specs.Bare.{bare_job, bare_scene}
 use Rattle.gql_objects.specs.Jobs.{Job}
 use Rattle.gql_engine.specs.ExecuteQuery.{job_subject}
@@ -53,9 +54,19 @@ module _ {V W State : Type 0} (serving : Serving V W) (choice : Choice State) wh
       at k u later None stands is = cc
       at k u later (Some job) stands is = let e : bare_job job ≡ u = cc in since.paced k job later stands ∙ ap (λ j. pending_then_ready (pace j)) e
 
-  so-far-bare : (first : ℕ) (root : Job V) (entries : List RecordEntry) → PacedSinceSoFar first pace root entries
-      → PacedSinceSoFar first pace (bare_job root) entries
-  so-far-bare first root entries since = record { earlier = since.earlier; paced = since.paced }
+  so-far-bare : (first : ℕ) (tasks : List (Job V)) (entries : List RecordEntry) → PacedSinceSoFar first pace tasks entries
+      → PacedSinceSoFar first pace (map bare_job tasks) entries
+  so-far-bare first tasks entries since = record {
+    earlier = since.earlier;
+    paced = λ k u later is. at k u later (slice_get tasks k) refl (sym (slice_get-map bare_job tasks k) ∙ is);
+  }
+    where
+      at : (k : ℕ) (u : Job V) → first ≤ k → (o : Option (Job V)) → slice_get tasks k ≡ o → option_map bare_job o ≡ Some u
+          → IsFront (told_of k entries) (pending_then_ready (pace u))
+      at k u later None stands is = cc
+      at k u later (Some job) stands is =
+          let e : bare_job job ≡ u = cc in
+          subst (λ j. IsFront (told_of k entries) (pending_then_ready (pace j))) e (since.paced k job later stands)
 
   module _ (world : W) (root : Job V) (old : Stage (Job V) State) where
     phase-bare : (new : Stage (Job V) State) → IsPhase serving job_subject choice world root old new
@@ -74,8 +85,14 @@ module _ {V W State : Type 0} (serving : Serving V W) (choice : Choice State) wh
     cut-phase-bare told starts phase = record {
       stopped = stopped-mapped choice (story world root) (story world root) bare_job (λ job. refl) (λ job. refl) (below world root) (with_root old root)
           (after_root (mapped bare_job old.made) (bare_job root)) (root-staged old.made root) told starts phase.stopped;
-      paces = λ keeps before is. subst (λ first. PacedSinceSoFar first pace (bare_job root) phase.stopped.entries)
-          (sym (length-map old.made.tasks bare_job)) (so-far-bare (length old.made.tasks) root phase.stopped.entries (phase.paces keeps before is));
+      paces = λ keeps before is.
+          let entries = phase.stopped.entries in
+          subst (λ (made : Made (Job V)). PacedSinceSoFar (length (map bare_job old.made.tasks)) pace made.tasks entries)
+          (made-after choice (story world root) (story world root) bare_job (λ job. refl) (λ job. refl) (below world root) (with_root old root)
+          (after_root (mapped bare_job old.made) (bare_job root)) (root-staged old.made root) entries)
+          (subst (λ first. PacedSinceSoFar first pace (map bare_job (tasks_at (story world root) (with_root old root).made entries)) entries)
+          (sym (length-map old.made.tasks bare_job))
+          (so-far-bare (length old.made.tasks) (tasks_at (story world root) (with_root old root).made entries) entries (phase.paces keeps before is)));
     }
 
   phases-bare : (world : W) (roots : List (Job V)) (old new : Stage (Job V) State) → Phases serving job_subject choice world roots old new

@@ -4,7 +4,8 @@ use Rattle.std.proofs.lemmas.List.{map-append}
 use Rattle.std.proofs.lemmas.Option.{slice_get-map}
 use Rattle.std.specs.Option.{ForSome}
 use Rattle.gql_tasks.specs.Pace.{EachPaced, EachPacedSoFar, pending_then_ready, told_of}
-use Rattle.gql_tasks.specs.Record.{Choice, EachWaits, Mark, Made, NamesTask, Ran, Stage, Stopped, Story, Turned, untold, ready, fresh, untold_marks, beneath_of, after_ready, after_mark, after_entry, begun_at, begins, made_at, state_at, waiting}
+use Rattle.gql_request.specs.Path.{IsFront}
+use Rattle.gql_tasks.specs.Record.{AreUntold, Choice, EachWaits, Mark, Made, NamesTask, Ran, Stage, Stopped, Story, Turned, untold, ready, fresh, untold_marks, beneath_of, after_ready, after_mark, after_entry, begun_at, begins, made_at, state_at, waiting}
 use Rattle.gql_resolve.specs.Record.{with_more}
 use Rattle.gql_resolve.specs.declared.record_entry.RecordEntry.{RecordEntry}
 
@@ -35,12 +36,11 @@ module _ {Task Other : Type 0} (f : Task → Other) (delay : Task → ℕ) (pace
   so-far-mapped each = record { paced = λ k u is. at k u (slice_get tasks k) refl (sym (slice_get-map f tasks k) ∙ is) }
     where
       at : (k : ℕ) (u : Other) (o : Option Task) → slice_get tasks k ≡ o → option_map f o ≡ Some u
-          → (rest : List Bool) × (pending_then_ready (pace u) ≡ told_of k told ++ rest)
+          → IsFront (told_of k told) (pending_then_ready (pace u))
       at k u None stands is = cc
       at k u (Some t) stands is =
           let e : f t ≡ u = cc in
-          let (rest, front) = each.paced k t stands in
-          (rest, ap pending_then_ready (ap pace (sym e) ∙ same t) ∙ front)
+          subst (λ n. IsFront (told_of k told) (pending_then_ready n)) (sym (same t) ∙ ap pace e) (each.paced k t stands)
 
 -- a turned record of tasks is one of what stands for them
 module _ {Task Other State : Type 0} (choice : Choice State) (one : Story Task) (other : Story Other) (f : Task → Other)
@@ -129,13 +129,20 @@ module _ {Task Other State : Type 0} (choice : Choice State) (one : Story Task) 
         ∙ ap (λ m. made_at other m ran.entries) begun;
   }
 
+  -- what is made after a record
+  pub made-after : (entries : List RecordEntry) → mapped f (made_at one old.made entries) ≡ made_at other made entries
+  made-after entries = sym (made-mapped choice one other f resolvers paths beneath old.made entries) ∙ ap (λ m. made_at other m entries) begun
+
   abbrev pub stopped-mapped : (told : Option (List RecordEntry)) (starts : Option (List ℕ)) → Stopped choice one old told starts
       → Stopped choice other (with_made old made) told starts
   stopped-mapped told starts stopped = record {
     entries = stopped.entries;
     told_is = stopped.told_is;
+    waits = subst (λ m. EachWaits other m stopped.entries) begun
+        (waits-mapped choice one other f resolvers paths beneath old.made stopped.entries stopped.waits);
     last = stopped.last;
     at_most_one = stopped.at_most_one;
+    last_untold = subst (λ m. AreUntold m stopped.last) (made-after stopped.entries) stopped.last_untold;
     starts_is = stopped.starts_is
         ∙ ap (λ begun-by. with_more old.starts (begun-by ++ stopped.last))
         (begun-mapped choice one other f resolvers paths beneath old.made stopped.entries ∙ ap (λ m. begun_at other m stopped.entries) begun);
