@@ -6,5 +6,6 @@ pub mod KeepLemmas
 pub mod NestingLemmas
 pub mod PreparedLemmas
 pub mod Rows
+pub mod StagesLemmas
 pub mod TruthLemmas
 pub mod WalkLemmas

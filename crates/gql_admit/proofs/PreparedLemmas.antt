@@ -19,8 +19,8 @@ use Rattle.gql_fields.specs.Terms.{Terms}
 use Rattle.gql_rules.specs.Asked.{Asked}
 use Rattle.gql_rules.specs.RulesChecked.{IsBreach, IsChecked, refused_with}
 use Rattle.gql_rules.proofs.ListedLemmas.{one_listed}
-use Rattle.gql_admit.specs.Choice.{choice}
-use Rattle.gql_admit.specs.Prepared.{Admits, asked_by, IsLimited, IsLooked, IsPrepared, IsRead, IsReady, IsRuled, IsSettled, Prepared, limits_checked}
+use Rattle.gql_admit.specs.Prepared.{Admits, IsKept, IsPrepared, IsReady, Prepared}
+use Rattle.gql_admit.specs.Stages.{asked_by, given_by_rules, IsLimited, IsLooked, IsRead, limits_checked, Staged, StagesGive}
 use Rattle.gql_admit.specs.declared.chosen.Chosen.{Chosen}
 
 -- a text is read as one thing
@@ -70,35 +70,35 @@ module _ (terms : Terms) where
     one_admitted chosen (Ok one) (Err errors) a b = absurd b
     one_admitted chosen (Err errors) other a b = absurd a
 
-    one_settled : (settled : Result Chosen ServerError) (one other : Prepared) → IsSettled terms request settled one
-        → IsSettled terms request settled other → one ≡ other
-    one_settled (Ok chosen) one other a b = one_admitted chosen one other a b
-    one_settled (Err error) one other a b = a ∙ sym b
-
     module _ (document : ExecutableDocument) where
-      one_ruled : (checked : Result (Unit {0}) (List ServerError)) (one other : Prepared) → IsRuled terms request document checked one
-          → IsRuled terms request document checked other → one ≡ other
-      one_ruled (Ok passed) one other a b = one_settled (choice document request.operation_name) one other a b
-      one_ruled (Err errors) one other a b = a ∙ sym b
-
-      one_looked : (one other : Prepared) → IsLooked terms request document one → IsLooked terms request document other → one ≡ other
+      one_looked : (one other : Staged) → IsLooked terms request document one → IsLooked terms request document other → one ≡ other
       one_looked one other a b =
-          let checked = one_checked (asked_by request) document a.checked b.checked a.rules b.rules in
-          one_ruled b.checked one other (subst (λ c. IsRuled terms request document c one) checked a.answer) b.answer
+          a.answer ∙ ap (given_by_rules request document) (one_checked (asked_by request) document a.checked b.checked a.rules b.rules) ∙ sym b.answer
 
-      one_limited : (limited : Result (Unit {0}) ServerError) (one other : Prepared) → IsLimited terms request document limited one
+      one_limited : (limited : Result (Unit {0}) ServerError) (one other : Staged) → IsLimited terms request document limited one
           → IsLimited terms request document limited other → one ≡ other
       one_limited (Ok passed) one other a b = one_looked one other a b
       one_limited (Err error) one other a b = a ∙ sym b
 
-    one_answer : (read : Result ExecutableDocument ParseFault) (one other : Prepared) → IsRead terms request read one
+    one_answer : (read : Result ExecutableDocument ParseFault) (one other : Staged) → IsRead terms request read one
         → IsRead terms request read other → one ≡ other
     one_answer (Ok document) one other a b = one_limited document (limits_checked terms document) one other a b
     one_answer (Err fault) one other a b = a ∙ sym b
 
--- a request has one preparation
+    one_kept : (staged : Staged) (one other : Prepared) → IsKept terms request staged one → IsKept terms request staged other → one ≡ other
+    one_kept (Ok chosen) one other a b = one_admitted chosen one other a b
+    one_kept (Err errors) one other a b = a ∙ sym b
+
+-- the stages give one thing of a request
+pub one_staged : (terms : Terms) (request : Request) (one other : Staged) → StagesGive terms request one → StagesGive terms request other
+    → one ≡ other
+one_staged terms request one other a b =
+    let read = one_read (set_document request) request.query a.read b.read a.reads b.reads in
+    one_answer terms request b.read one other (subst (λ r. IsRead terms request r one) read a.answer) b.answer
+
+-- and it has one preparation
 pub one_prepared : (terms : Terms) (request : Request) (one other : Prepared) → IsPrepared terms request one → IsPrepared terms request other
     → one ≡ other
 one_prepared terms request one other a b =
-    let read = one_read (set_document request) request.query a.read b.read a.reads b.reads in
-    one_answer terms request b.read one other (subst (λ r. IsRead terms request r one) read a.answer) b.answer
+    let staged = one_staged terms request a.staged b.staged a.stages b.stages in
+    one_kept terms request b.staged one other (subst (λ s. IsKept terms request s one) staged a.kept) b.kept

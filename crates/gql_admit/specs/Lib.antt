@@ -4,4 +4,5 @@ pub mod KnownVariables
 pub mod Limits
 pub mod Prepared
 pub mod Refusal
+pub mod Stages
 pub mod WalkedFragments

@@ -11,10 +11,9 @@ ghost use Rattle.gql_fields.specs.Terms.{terms_of};
 ghost use Rattle.gql_rules.specs.Nesting.{IsWithinDepth};
 ghost use Rattle.gql_admit.specs.KnownVariables.{known_by};
 ghost use Rattle.gql_admit.specs.KeptParts.{left_set};
-ghost use Rattle.gql_admit.specs.Prepared.{Admits, IsLimited, IsLooked, IsPrepared, IsSettled};
-ghost use Rattle.gql_admit.specs.Prepared.{directives_limited};
-ghost use Rattle.gql_admit.specs.Prepared.{fault_error as error_of_fault, kept_operation};
-ghost use Rattle.gql_admit.specs.Prepared.{limits_checked};
+ghost use Rattle.gql_admit.specs.Prepared.{Admits, IsKept, IsKeptOf, IsPrepared, kept_operation};
+ghost use Rattle.gql_admit.specs.Stages.{directives_limited, fault_error as error_of_fault};
+ghost use Rattle.gql_admit.specs.Stages.{IsLimited, IsLooked, limits_checked, settled};
 ghost use Rattle.gql_admit.specs.Choice.{choice};
 
 use crate::chosen::Chosen;
@@ -36,6 +35,7 @@ use std::alloc::Global;
 /// What an execution knows of a request, or the errors of the first stage that the request breaks:
 /// its document is read, unless one is set, lies within the limits and breaks no rule, and the
 /// operation that is asked for is there.
+#[tactic(auto, using(crate::proofs::StagesLemmas::read_on, crate::proofs::StagesLemmas::not_read))]
 pub fn prepare(
     alloc: Global,
     site: &Site<'_>,
@@ -88,6 +88,7 @@ fn alone(alloc: Global, error: ServerError) -> Made<Items<ServerError>>
     Ok(errors)
 }
 
+#[tactic(auto, using(crate::proofs::StagesLemmas::limited_on, crate::proofs::StagesLemmas::beyond_limits))]
 fn prepare_document(
     alloc: Global,
     site: &Site<'_>,
@@ -95,8 +96,8 @@ fn prepare_document(
     document: ExecutableDocument,
 ) -> Made<Result<QueryEnv, Items<ServerError>>>
     requires { site.now.depth < usize.MAX }
-    ensures { IfOk result (λ prepared. IsLimited (terms_of site.now) request.now document
-        (limits_checked (terms_of site.now) document) prepared) }
+    ensures { IfOk result (IsKeptOf (terms_of site.now) request.now (IsLimited (terms_of site.now)
+        request.now document (limits_checked (terms_of site.now) document))) }
 {
     match check_limits(alloc, site, &document)? {
         Ok(()) => prepare_limited(alloc, site, request, document),
@@ -139,6 +140,7 @@ fn check_site_directives(
 }
 
 /// The rules of a document within its limits, and its operation.
+#[tactic(auto, using(crate::proofs::StagesLemmas::ruled_on, crate::proofs::StagesLemmas::breaks_rules))]
 fn prepare_limited(
     alloc: Global,
     site: &Site<'_>,
@@ -147,7 +149,8 @@ fn prepare_limited(
 ) -> Made<Result<QueryEnv, Items<ServerError>>>
     requires depth { site.now.depth < usize.MAX }
     requires deep { deep document site.now.depth ≡ None }
-    ensures { IfOk result (λ prepared. IsLooked (terms_of site.now) request.now document prepared) }
+    ensures { IfOk result (IsKeptOf (terms_of site.now) request.now
+        (IsLooked (terms_of site.now) request.now document)) }
 {
     match check_rules(
         alloc,
@@ -169,8 +172,8 @@ fn prepare_ruled(
 ) -> Made<Result<QueryEnv, Items<ServerError>>>
     requires depth { site.now.depth < usize.MAX }
     requires deep { deep document site.now.depth ≡ None }
-    ensures { IfOk result (λ prepared. IsSettled (terms_of site.now) request.now
-        (choice document request.now.operation_name) prepared) }
+    ensures { IfOk result (IsKept (terms_of site.now) request.now
+        (settled (choice document request.now.operation_name))) }
 {
     match choose_operation(alloc, document, asked_name(request))? {
         Ok(chosen) => prepare_chosen(alloc, site, request, chosen),
