@@ -1,6 +1,7 @@
 -- What executions by groups are: merged execution, or apart execution.
 use Rattle.std.proofs.Common.{◌≡◌, ℕ, refl, ap}
 use Rattle.gql_engine.specs.declared.scene.Scene.{Scene}
+use Rattle.gql_meaning.specs.Responses.{levels_beneath}
 use Rattle.gql_place.specs.Join.{join}
 use Rattle.gql_resolve.specs.Call.{Call}
 use Rattle.gql_resolve.specs.declared.answer.Answer.{Answer}
@@ -8,7 +9,7 @@ use Rattle.gql_select.proofs.GroupLemmas.{by_merged_groups}
 use Rattle.gql_select.specs.Collected.{own_selections}
 use Rattle.gql_select.specs.Grouped.{below_root, in_turn}
 use Rattle.gql_engine.specs.ExecuteQuery.{apart_response, merged_response, place_at_root, placing_in, response_by, root_selections, root_spot}
-use Rattle.gql_engine.specs.ExecuteMutation.{answering, keys_of, levels_beneath, serial_apart_response, serial_response, serial_response_by}
+use Rattle.gql_engine.specs.ExecuteMutation.{answering, keys_of, serial_apart_response, serial_response, serial_response_by}
 use Rattle.gql_collect.specs.declared.basis.Grouping.TheVariants as grouping
 
 module _ {V : Type 0} (scene : Scene V) where

@@ -15,7 +15,7 @@ use Rattle.gql_tasks.specs.Record.{Choice, Stage, waiting_from}
 use Rattle.gql_engine.specs.declared.scene.Scene.{Scene}
 use Rattle.gql_meaning.specs.Counted.{one_if, parents_in, total}
 use Rattle.gql_collect.specs.Execution.{Asking, field_asking}
-use Rattle.gql_meaning.specs.Responses.{world_of}
+use Rattle.gql_meaning.specs.Responses.{levels_beneath, world_of}
 use Rattle.gql_resolve.specs.Call.{Call}
 use Rattle.gql_resolve.specs.Layers.{layers_of}
 use Rattle.gql_resolve.specs.declared.answer.Answer.{Answer}
@@ -32,7 +32,7 @@ use Rattle.gql_collect.specs.GroupFields.{collected}
 use Rattle.gql_collect.specs.GroupFields.{groups_by}
 use Rattle.gql_objects.specs.Jobs.{Job, job_of, jobs_of_as}
 use Rattle.gql_engine.specs.ExecuteQuery.{basis_by, job_subject, Nests, root_selections, root_spot}
-use Rattle.gql_engine.specs.ExecuteMutation.{answer_in_phase, key_jobs_by, keys_of, levels_beneath}
+use Rattle.gql_engine.specs.ExecuteMutation.{answer_in_phase, key_jobs_by, keys_of}
 use Rattle.gql_complete.specs.FoundObjects.{Spot, spots}
 use Rattle.gql_collect.specs.Nesting.{IsWithin}
 use Rattle.gql_collect.specs.declared.asks.Asks.{Asks}

@@ -1,14 +1,14 @@
 -- The execution of a mutation: its root keys one after another, each merged over its occurrences
 -- (GraphQL, October 2021, sections 6.2.2 and 6.3.1). Under them each key is answered once by
 -- merged execution, and each occurrence by apart execution.
-use Rattle.std.specs.Prelude.{◌≡◌, ℕ, zero, suc, true, false, List, [], ◌∷◌, Option, Some}
+use Rattle.std.specs.Prelude.{◌≡◌, ℕ, true, false, List, [], ◌∷◌, Option, Some}
 use Rattle.gql_doc.specs.declared.document.Field.{Field}
 use Rattle.gql_doc.specs.declared.document.Positioned.{Positioned}
 use Rattle.gql_doc.specs.declared.document.Selection.{Selection}
 use Rattle.gql_tasks.specs.Arena.{Work}
 use Rattle.gql_tasks.specs.Phases.{answer_between, Serving}
 use Rattle.gql_engine.specs.declared.scene.Scene.{Scene}
-use Rattle.gql_meaning.specs.Responses.{Asked, Members, placed, world_after}
+use Rattle.gql_meaning.specs.Responses.{Asked, levels_beneath, Members, placed, world_after}
 use Rattle.gql_place.specs.Join.{join}
 use Rattle.gql_place.specs.declared.piece.Piece.{Piece}
 use Rattle.gql_place.specs.declared.place.Place.{Place}
@@ -28,11 +28,6 @@ use Rattle.gql_engine.specs.ExecuteQuery.{basis_by, basis_of, job_subject, place
 use Rattle.gql_engine.specs.ExecuteQuery.{root_spot}
 use Rattle.gql_collect.specs.declared.basis.Grouping.{Grouping}
 use Rattle.gql_collect.specs.declared.basis.Grouping.TheVariants as grouping
-
--- how many of so many levels of sets stand under the root's
-abbrev pub levels_beneath : ℕ → ℕ
-levels_beneath zero = zero
-levels_beneath (suc n) = n
 
 module _ {V : Type 0} (by : Grouping) (scene : Scene V) where
   -- the tasks of the root keys that ask an answer, in their order

@@ -7,7 +7,7 @@ use Rattle.gql_doc.specs.declared.document.Positioned.{Positioned}
 use Rattle.gql_doc.specs.declared.document.Selection.{Selection}
 use Rattle.gql_engine.specs.declared.scene.Scene.{Scene}
 use Rattle.gql_meaning.specs.Counted.{count_as, total}
-use Rattle.gql_meaning.specs.Responses.{world_after}
+use Rattle.gql_meaning.specs.Responses.{levels_beneath, world_after}
 use Rattle.gql_resolve.specs.Call.{Call}
 use Rattle.gql_resolve.specs.declared.answer.Answer.{Answer}
 use Rattle.gql_resolve.specs.declared.field_value.FieldValue.{FieldValue}
@@ -18,7 +18,7 @@ use Rattle.gql_collect.specs.Basis.{execution_of, setting_by}
 use Rattle.gql_collect.specs.GroupFields.{groups_by}
 use Rattle.gql_objects.specs.Jobs.{completed_by, Job}
 use Rattle.gql_engine.specs.ExecuteQuery.{basis_by, basis_of, root_selections, root_spot}
-use Rattle.gql_engine.specs.ExecuteMutation.{keys_of, levels_beneath, root_asked}
+use Rattle.gql_engine.specs.ExecuteMutation.{keys_of, root_asked}
 use Rattle.gql_complete.specs.FoundObjects.{spots}
 use Rattle.gql_collect.specs.declared.basis.Basis.{Basis}
 use Rattle.gql_collect.specs.declared.basis.Grouping.{Grouping}

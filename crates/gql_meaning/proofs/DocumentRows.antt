@@ -13,11 +13,11 @@ use Rattle.gql_doc.specs.declared.document.Selection.{out-Selection}
 use Rattle.gql_doc.specs.declared.document.Selection.TheBlock.{shown-the_row-SelectionSet-items-2-0}
 use denote.Hole.Carrier.{out, roll, shown, hidden}
 use Rattle.gql_meaning.specs.Completion.{no_value}
-use Rattle.gql_meaning.specs.Responses.{Response}
 use Rattle.gql_place.specs.Faults.{located}
 use Rattle.gql_place.specs.declared.place.Tree.{the_lemmas as tree_lemmas}
 use Rattle.gql_place.specs.declared.shape.Shape.{the_lemmas as shape_lemmas}
 use Rattle.gql_request.specs.declared.header_op.HeaderOp.{HeaderOp}
+use Rattle.gql_request.specs.declared.response.Response.{Response}
 use Rattle.gql_resolve.specs.declared.answer.Answer.{Answer}
 use Rattle.gql_resolve.specs.declared.field_value.FieldValue.{the_lemmas as given_lemmas}
 use Rattle.gql_resolve.specs.declared.field_value.FieldValue.TheVariants as kind
@@ -56,7 +56,8 @@ doubled = field 3 (codes "o") (set 5 (leaf 7 (codes "x") ∷ [])) ∷ field 11 (
 
 abbrev doubled_due : Response
 doubled_due = record {
-  value = value.Object ((codes "o", value.Object ((codes "x", number 1) ∷ (codes "y", value.Null) ∷ [])) ∷ []);
+  result = value.Object ((codes "o", value.Object ((codes "x", number 1) ∷ (codes "y", value.Null) ∷ [])) ∷ []);
+  extensions = [];
   errors = located (at 15) (Field (codes "o") ∷ Field (codes "y") ∷ []) bad ∷ [];
   headers = [];
 }
@@ -95,7 +96,8 @@ both_members = value.Object ((codes "a", number 1) ∷ (codes "b", number 2) ∷
 
 abbrev nested_due : Response
 nested_due = record {
-  value = value.Object ((codes "m", value.List (value.List (both_members ∷ both_members ∷ []) ∷ [])) ∷ []);
+  result = value.Object ((codes "m", value.List (value.List (both_members ∷ both_members ∷ []) ∷ [])) ∷ []);
+  extensions = [];
   errors = [];
   headers = [];
 }
@@ -127,7 +129,8 @@ failing = field 3 (codes "o") (set 5 (leaf 7 (codes "x") ∷ leaf 9 (codes "y") 
 
 abbrev failing_due : Response
 failing_due = record {
-  value = value.Object ((codes "o", value.Null) ∷ []);
+  result = value.Object ((codes "o", value.Null) ∷ []);
+  extensions = [];
   errors =
       located (at 7) (Field (codes "o") ∷ Field (codes "x") ∷ []) bad
       ∷ located (at 9) (Field (codes "o") ∷ Field (codes "y") ∷ []) other_bad ∷ [];
@@ -154,7 +157,8 @@ items = field 3 (codes "o") (set 5 (leaf 7 (codes "y") ∷ [])) ∷ field 11 (co
 
 abbrev items_due : Response
 items_due = record {
-  value = value.Object ((codes "o", value.List (value.Null ∷ value.Null ∷ [])) ∷ []);
+  result = value.Object ((codes "o", value.List (value.Null ∷ value.Null ∷ [])) ∷ []);
+  extensions = [];
   errors =
       located (at 7) (Field (codes "o") ∷ Index 0 ∷ Field (codes "y") ∷ []) bad
       ∷ located (at 7) (Field (codes "o") ∷ Index 1 ∷ Field (codes "y") ∷ []) bad ∷ [];
@@ -186,7 +190,8 @@ wanting = record { message = no_value; extensions = None }
 
 abbrev values_due : Response
 values_due = record {
-  value = value.Object ((codes "values", value.Null) ∷ []);
+  result = value.Object ((codes "values", value.Null) ∷ []);
+  extensions = [];
   errors = located (at 3) (Field (codes "values") ∷ Index 1 ∷ []) wanting ∷ [];
   headers = [];
 }
@@ -207,7 +212,7 @@ abbrev lone : Selections
 lone = leaf 3 (codes "valueA") ∷ []
 
 abbrev lone_due : Response
-lone_due = record { value = value.Null; errors = located (at 3) (Field (codes "valueA") ∷ []) wanting ∷ []; headers = [] }
+lone_due = record { result = value.Null; extensions = []; errors = located (at 3) (Field (codes "valueA") ∷ []) wanting ∷ []; headers = [] }
 
 null_at_the_root : merged_response (over_table lone_table []) no_answers lone ≡ lone_due
 unfolding out-Selection out-Field out-InlineFragment roll-Field roll-InlineFragment out roll shown-the_row-SelectionSet-items-2-0 shown hidden
@@ -225,7 +230,7 @@ abbrev added : Selections
 added = leaf 3 (codes "a") ∷ []
 
 abbrev added_due : Response
-added_due = record { value = value.Object ((codes "a", number 1) ∷ []); errors = located (at 3) (Field (codes "a") ∷ []) bad ∷ []; headers = [] }
+added_due = record { result = value.Object ((codes "a", number 1) ∷ []); extensions = []; errors = located (at 3) (Field (codes "a") ∷ []) bad ∷ []; headers = [] }
 
 added_error : merged_response (over_table added_table []) added_answers added ≡ added_due
 unfolding out-Selection out-Field out-InlineFragment roll-Field roll-InlineFragment out roll shown-the_row-SelectionSet-items-2-0 shown hidden
@@ -237,7 +242,7 @@ abbrev lost : Selections
 lost = leaf 3 (codes "lost") ∷ []
 
 abbrev lost_due : Response
-lost_due = record { value = value.Object ((codes "lost", value.Null) ∷ []); errors = []; headers = [] }
+lost_due = record { result = value.Object ((codes "lost", value.Null) ∷ []); extensions = []; errors = []; headers = [] }
 
 unknown_field : merged_response (over_table added_table []) added_answers lost ≡ lost_due
 unfolding out-Selection out-Field out-InlineFragment roll-Field roll-InlineFragment out roll shown-the_row-SelectionSet-items-2-0 shown hidden
@@ -255,7 +260,8 @@ module _ (one other : HeaderOp) where
 
   abbrev touching_due : Response
   touching_due = record {
-    value = value.Object ((codes "o", value.Null) ∷ []);
+    result = value.Object ((codes "o", value.Null) ∷ []);
+    extensions = [];
     errors = located (at 7) (Field (codes "o") ∷ Field (codes "x") ∷ []) bad ∷ [];
     headers = one ∷ other ∷ [];
   }

@@ -20,10 +20,10 @@ use Rattle.gql_doc.specs.declared.document.VariableDefinition.{VariableDefinitio
 use denote.Hole.Carrier.{out, roll, shown, hidden}
 use Rattle.gql_meaning.specs.Completion.{union_texts}
 use Rattle.gql_collect.specs.Execution.{Execution}
-use Rattle.gql_meaning.specs.Responses.{Response}
 use Rattle.gql_place.specs.Faults.{located}
 use Rattle.gql_place.specs.declared.place.Tree.{the_lemmas as tree_lemmas}
 use Rattle.gql_place.specs.declared.shape.Shape.{the_lemmas as shape_lemmas}
+use Rattle.gql_request.specs.declared.response.Response.{Response}
 use Rattle.gql_resolve.specs.declared.answer.Answer.{Answer}
 use Rattle.gql_resolve.specs.declared.field_value.FieldValue.{the_lemmas as given_lemmas}
 use Rattle.gql_resolve.specs.declared.field_value.FieldValue.TheVariants as kind
@@ -45,7 +45,7 @@ number n = value.Number (pos n)
 
 -- the response with this value alone
 abbrev data_alone : List (List ℕ × Value) → Response
-data_alone members = record { value = value.Object members; errors = []; headers = [] }
+data_alone members = record { result = value.Object members; extensions = []; errors = []; headers = [] }
 
 -- `Query { value: Int, other: Int }` with 100 and 200
 abbrev plain_table : TypeTable
@@ -108,7 +108,7 @@ abbrev foreign : Error
 foreign = record { message = (union_texts (codes "U")).foreign (codes "B"); extensions = None }
 
 abbrev foreign_due : Response
-foreign_due = record { value = value.Null; errors = located (at 3) (Field (codes "u") ∷ []) foreign ∷ []; headers = [] }
+foreign_due = record { result = value.Null; extensions = []; errors = located (at 3) (Field (codes "u") ∷ []) foreign ∷ []; headers = [] }
 
 foreign_object : merged_response (over_table kinds_table []) kinds_answers of_union ≡ foreign_due
 unfolding out-Selection out-Field out-InlineFragment roll-Field roll-InlineFragment out roll shown-the_row-SelectionSet-items-2-0 shown hidden

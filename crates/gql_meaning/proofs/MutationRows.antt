@@ -15,9 +15,11 @@ use Rattle.gql_doc.specs.declared.document.Positioned.{Positioned}
 use Rattle.gql_doc.specs.declared.document.Selection.{out-Selection, Selection}
 use Rattle.gql_doc.specs.declared.document.Selection.TheBlock.{shown-the_row-SelectionSet-items-2-0}
 use denote.Hole.Carrier.{out, roll, shown, hidden}
-use Rattle.gql_meaning.specs.Counted.{count_as, mutation_asked_count, total}
+use Rattle.gql_meaning.specs.Counted.{answers_asked, count_as, total}
 use Rattle.gql_collect.specs.Execution.{Execution, setting_in}
-use Rattle.gql_meaning.specs.Responses.{Asked, last_world, Members, mutation_merged, placed as place_of, Response, response, world_after}
+use Rattle.gql_meaning.specs.Responses.{Asked, Members, placed as place_of, response_merged, world_after, world_left, Written}
+use Rattle.gql_meaning.specs.Served.{Served}
+use Rattle.gql_request.specs.declared.response.Response.{Response}
 use Rattle.gql_place.specs.declared.place.Place.{Place}
 use Rattle.gql_place.specs.declared.place.Tree.{the_lemmas as tree_lemmas}
 use Rattle.gql_place.specs.declared.shape.Shape.{the_lemmas as shape_lemmas}
@@ -32,7 +34,7 @@ use Rattle.gql_select.specs.Documents.{reading}
 use Rattle.gql_select.specs.Grouped.{Mutating, serial_grouped, world_behind}
 use Rattle.gql_select.specs.Kept.{kept}
 use Rattle.gql_select.specs.Reading.{merged}
-use Rattle.gql_meaning.proofs.Written.{answered_by, argument, at, given_field, gives_number, keeps_field, leaf, object_of, over_table, placed, Selections, set}
+use Rattle.gql_meaning.proofs.Written.{answered_by, argument, at, given_field, gives_number, keeps_field, leaf, object_of, over_table, placed, response, Selections, set}
 
 abbrev int_type : TypeRef
 int_type = ref.Named (codes "Int")
@@ -71,6 +73,13 @@ bumps =
 abbrev bumping : Asked ℕ
 bumping = record { object = codes "Mutation"; parent = kind.Own 0; selections = bumps }
 
+-- the mutation as it is written, and what serves it: the cell is 0 before it
+abbrev written : Written ℕ
+written = record { execution = cells; mutates = true; pos = at 1; asked = bumping }
+
+abbrev served : Served ℕ ℕ
+served = record { answer = answer; effect = effect; world = 0 }
+
 kept_bumps : kept cells.known bumps ≡ bumps
 kept_bumps = search (rules, keeps_field) depth 12
 
@@ -83,27 +92,25 @@ bumping_cells = record {
   place = λ cell. place_of cells false (λ call. answer call cell);
 }
 
--- the members, so read
-abbrev members : Members
-members = serial_grouped bumping_cells 4 (codes "Mutation") (kind.Own 0) bumps 0
-
-members_are : mutation_merged cells effect answer 4 bumping 0 ≡ members
-members_are = ap (λ left. serial_grouped bumping_cells 4 (codes "Mutation") (kind.Own 0) left 0) kept_bumps
+-- the members of what is left of the selections, so read; 3 levels of sets stand under the root's
+abbrev members : Selections → Members
+members left = serial_grouped bumping_cells 3 (codes "Mutation") (kind.Own 0) left 0
 
 abbrev bumped : Response
 bumped = record {
-  value = value.Object ((codes "bump", value.Number (pos 1)) ∷ (codes "x", value.Number (pos 3)) ∷ (codes "cell", value.Number (pos 3)) ∷ []);
+  result = value.Object ((codes "bump", value.Number (pos 1)) ∷ (codes "x", value.Number (pos 3)) ∷ (codes "cell", value.Number (pos 3)) ∷ []);
+  extensions = [];
   errors = [];
   headers = [];
 }
 
 -- the doubled key is answered once, and each key sees the world after those before it
-doubled_roots : response (at 1) (mutation_merged cells effect answer 4 bumping 0) ≡ bumped
+doubled_roots : response_merged served written ≡ bumped
 unfolding out-Selection out-Field out-InlineFragment roll-Field roll-InlineFragment out roll shown-the_row-SelectionSet-items-2-0 shown hidden
-doubled_roots = ap (response (at 1)) members_are
+doubled_roots = ap (λ left. response (members left)) kept_bumps
     ∙ search (rules, doc_lemmas, type_lemmas, shape_lemmas, given_lemmas, value_lemmas, tree_lemmas)
 
-last_cell : last_world cells effect bumping 0 ≡ 3
+last_cell : world_left served written ≡ 3
 unfolding out-Selection out-Field out-InlineFragment roll-Field roll-InlineFragment out roll shown-the_row-SelectionSet-items-2-0 shown hidden
 last_cell =
     ap (λ left. world_behind (world_after cells effect bumping) 0 (merged (reading (setting_in cells)) ((reading (setting_in cells)).fields (codes "Mutation") left))) kept_bumps
@@ -119,8 +126,8 @@ counting_cells = record {
 }
 
 -- three answers are asked: those of `bump`, of `x` and of `cell`
-bumps_count : mutation_asked_count cells answer effect 4 bumping 0 ≡ 3
+bumps_count : answers_asked served written ≡ 3
 unfolding out-Selection out-Field out-InlineFragment roll-Field roll-InlineFragment out roll shown-the_row-SelectionSet-items-2-0 shown hidden
 bumps_count =
-    ap (λ left. total (values_of (serial_grouped counting_cells 4 (codes "Mutation") (kind.Own 0) left 0))) kept_bumps
+    ap (λ left. total (values_of (serial_grouped counting_cells 3 (codes "Mutation") (kind.Own 0) left 0))) kept_bumps
     ∙ search (rules, doc_lemmas, type_lemmas, shape_lemmas, given_lemmas, value_lemmas)

@@ -10,7 +10,8 @@ use Rattle.gql_base.specs.declared.pos.Pos.{Pos}
 use Rattle.gql_meaning.specs.Completion.{completed, fault, no_scalar, no_value, union_texts}
 use Rattle.gql_meaning.specs.Outcomes.{absent_outcome, named_outcome}
 use Rattle.gql_collect.specs.Execution.{asking, Execution}
-use Rattle.gql_meaning.specs.Responses.{Members, response}
+use Rattle.gql_meaning.specs.PlaceResponse.{response_at}
+use Rattle.gql_meaning.specs.Responses.{Members, root_place}
 use Rattle.gql_collect.specs.TableSetting.{setting_of}
 use Rattle.gql_base.specs.declared.error.Error.{Error}
 use Rattle.gql_base.specs.declared.path_segment.PathSegment.TheVariants.{Field}
@@ -204,15 +205,15 @@ abbrev data_due : Value
 data_due = value.Object ((codes "o", value.Object ((codes "x", value.Number (pos 1)) ∷ (codes "y", value.Null) ∷ [])) ∷ [])
 
 -- one object stands under the doubled key, with the fields of both sets
-doubled_merged : (response place merged_members).value ≡ data_due
+doubled_merged : (response_at (root_place place merged_members)).result ≡ data_due
 doubled_merged = search (rules, shape_lemmas, tree_lemmas)
 
-doubled_apart : (response place apart_members).value ≡ data_due
+doubled_apart : (response_at (root_place place apart_members)).result ≡ data_due
 doubled_apart = search (rules, shape_lemmas, tree_lemmas)
 
 -- the error is told once, at its path
-doubled_told : (response place merged_members).errors ≡ located place (Field (codes "o") ∷ Field (codes "y") ∷ []) bad ∷ []
+doubled_told : (response_at (root_place place merged_members)).errors ≡ located place (Field (codes "o") ∷ Field (codes "y") ∷ []) bad ∷ []
 doubled_told = search (rules, shape_lemmas, tree_lemmas)
 
-doubled_told_apart : (response place apart_members).errors ≡ located place (Field (codes "o") ∷ Field (codes "y") ∷ []) bad ∷ []
+doubled_told_apart : (response_at (root_place place apart_members)).errors ≡ located place (Field (codes "o") ∷ Field (codes "y") ∷ []) bad ∷ []
 doubled_told_apart = search (rules, shape_lemmas, tree_lemmas)

@@ -21,9 +21,12 @@ use Rattle.gql_doc.specs.declared.document.Selection.{Selection, the_lemmas}
 use Rattle.gql_doc.specs.declared.document.Selection.TheOpen.{Field-F, InlineFragment-F}
 use Rattle.gql_doc.specs.declared.document.Selection.TheVariants as selection
 use Rattle.gql_doc.specs.declared.document.SelectionSet.{SelectionSet, roll-SelectionSet}
-use Rattle.gql_meaning.specs.Counted.{asked_count, count_at, total}
+use Rattle.gql_meaning.specs.Counted.{answers_asked, count_as, total}
 use Rattle.gql_collect.specs.Execution.{Execution, setting_in}
-use Rattle.gql_meaning.specs.Responses.{Asked, placed as place_of, query_apart, query_merged, Response, response}
+use Rattle.gql_meaning.specs.PlaceResponse.{response_at}
+use Rattle.gql_meaning.specs.Responses.{Members, placed as place_of, response_apart, response_merged, root_place, Written}
+use Rattle.gql_meaning.specs.Served.{Served}
+use Rattle.gql_request.specs.declared.response.Response.{Response}
 use Rattle.gql_place.specs.Join.{join}
 use Rattle.gql_resolve.specs.Call.{Call}
 use Rattle.gql_resolve.specs.declared.answer.Answer.{Answer}
@@ -120,62 +123,73 @@ over_table table fragments = record {
   only_introspection = false;
 }
 
+-- what these answers serve, in a world of which there is one alone
+abbrev pub serves : List (Answer ℕ) → Served ℕ (Unit {0})
+serves answers = record { answer = λ call world. by_number answers call; effect = λ call world. world; world = tt }
+
 -- a query for these selections on the object `Query`
-abbrev pub query : Selections → Asked ℕ
-query selections = record { object = codes "Query"; parent = kind.Own 0; selections = selections }
+abbrev pub query : Execution → Selections → Written ℕ
+query execution selections = record {
+  execution = execution;
+  mutates = false;
+  pos = at 1;
+  asked = record { object = codes "Query"; parent = kind.Own 0; selections = selections };
+}
 
 -- the response to a query for selections on the object `Query`, each key answered once
 abbrev pub merged_response : Execution → List (Answer ℕ) → Selections → Response
-merged_response execution answers selections =
-    response (at 1) (query_merged execution (by_number answers) 4 (query selections))
+merged_response execution answers selections = response_merged (serves answers) (query execution selections)
 
 -- the same, each occurrence answered apart
 abbrev pub apart_response : Execution → List (Answer ℕ) → Selections → Response
-apart_response execution answers selections =
-    response (at 1) (query_apart execution (by_number answers) 4 (query selections))
+apart_response execution answers selections = response_apart (serves answers) (query execution selections)
+
+-- the response with these members
+abbrev pub response : Members → Response
+response members = response_at (root_place (at 1) members)
 
 -- the responses to what is left of the selections
 abbrev pub merged_of : Execution → List (Answer ℕ) → Selections → Response
 merged_of execution answers left =
-    response (at 1)
-    (grouped (placing_by (setting_in execution) (place_of execution false (by_number answers))) 4 (codes "Query") (kind.Own 0) left)
+    response
+    (grouped (placing_by (setting_in execution) (place_of execution false (by_number answers))) execution.levels (codes "Query") (kind.Own 0) left)
 
 abbrev pub apart_of : Execution → List (Answer ℕ) → Selections → Response
 apart_of execution answers left =
-    response (at 1)
-    (respond (placing_by (setting_in execution) (place_of execution false (by_number answers))) join 4 (codes "Query") (kind.Own 0) left)
+    response
+    (respond (placing_by (setting_in execution) (place_of execution false (by_number answers))) join execution.levels (codes "Query") (kind.Own 0) left)
 
 -- how many answers a query for these selections asks
 abbrev pub count : Execution → List (Answer ℕ) → Selections → ℕ
-count execution answers selections = asked_count execution (by_number answers) 4 (query selections)
+count execution answers selections = answers_asked (serves answers) (query execution selections)
 
 -- the same for what is left of the selections
 abbrev pub count_of : Execution → List (Answer ℕ) → Selections → ℕ
 count_of execution answers left =
     total
     (values_of
-    (grouped (record { reading = reading (setting_in execution); place = count_at execution (by_number answers) }) 4 (codes "Query") (kind.Own 0) left))
+    (grouped (placing_by (setting_in execution) (count_as execution (by_number answers) false)) execution.levels (codes "Query") (kind.Own 0) left))
 
 module _ (execution : Execution) (answers : List (Answer ℕ)) (selections left : Selections)
     (fragments_stay : kept_fragments execution.known execution.fragments ≡ execution.fragments)
     (is_left : kept execution.known selections ≡ left) where
   pub merged_is : merged_response execution answers selections ≡ merged_of execution answers left
   merged_is = λ i.
-      response (at 1)
-      (grouped (placing_by (record (setting_in execution) { fragments = fragments_stay i }) (place_of execution false (by_number answers))) 4
+      response
+      (grouped (placing_by (record (setting_in execution) { fragments = fragments_stay i }) (place_of execution false (by_number answers))) execution.levels
       (codes "Query") (kind.Own 0) (is_left i))
 
   pub apart_is : apart_response execution answers selections ≡ apart_of execution answers left
   apart_is = λ i.
-      response (at 1)
-      (respond (placing_by (record (setting_in execution) { fragments = fragments_stay i }) (place_of execution false (by_number answers))) join 4
+      response
+      (respond (placing_by (record (setting_in execution) { fragments = fragments_stay i }) (place_of execution false (by_number answers))) join execution.levels
       (codes "Query") (kind.Own 0) (is_left i))
 
   pub count_is : count execution answers selections ≡ count_of execution answers left
   count_is = λ i.
       total
       (values_of
-      (grouped (record { reading = reading (record (setting_in execution) { fragments = fragments_stay i }); place = count_at execution (by_number answers) }) 4
+      (grouped (placing_by (record (setting_in execution) { fragments = fragments_stay i }) (count_as execution (by_number answers) false)) execution.levels
       (codes "Query") (kind.Own 0) (is_left i)))
 
 -- What is kept where nothing is to be skipped.

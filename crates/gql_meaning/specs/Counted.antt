@@ -8,7 +8,8 @@ use Rattle.gql_doc.specs.declared.document.Positioned.{Positioned}
 use Rattle.gql_doc.specs.declared.document.Selection.{Selection}
 use Rattle.gql_collect.specs.Execution.{Asking, Execution, field_asking}
 use Rattle.gql_meaning.specs.Outcomes.{field_outcome}
-use Rattle.gql_meaning.specs.Responses.{Asked, kept_in, kept_reading, world_after}
+use Rattle.gql_meaning.specs.Responses.{kept_in, kept_reading, levels_beneath, world_after, Written}
+use Rattle.gql_meaning.specs.Served.{Served}
 use Rattle.gql_place.specs.declared.shape.Shape.{Shape}
 use Rattle.gql_place.specs.declared.shape.Shape.TheOpen.{Shape-F}
 use Rattle.gql_place.specs.declared.shape.Shape.TheFolds.{fold-Shape}
@@ -40,48 +41,41 @@ abbrev pub one_if : {V : Type 0} → Option (Asking V) → ℕ
 one_if None = 0
 one_if (Some asking) = 1
 
-module _ {V : Type 0} (execution : Execution) (answer : Call V → Answer V) where
-  -- what is asked for a field, as a root of a mutation or as another, and for all under it
-  abbrev pub count_as : Bool → List ℕ → FieldValue V → Positioned Field
-      → Beneath (List ℕ) (FieldValue V) ℕ
-      → ℕ
-  count_as is_root object parent field below =
-      one_if (field_asking is_root execution object parent field)
-      + total (map (λ inner. total (values_of (below inner.0 inner.1)))
-      (parents_in (field_outcome is_root execution answer object parent field).shape))
+-- what is asked for a field, as a root of a mutation or as another, and for all under it
+abbrev pub count_as : {V : Type 0} → Execution → (Call V → Answer V) → Bool → List ℕ → FieldValue V
+    → Positioned Field → Beneath (List ℕ) (FieldValue V) ℕ → ℕ
+count_as execution answer is_root object parent field below =
+    one_if (field_asking is_root execution object parent field)
+    + total (map (λ inner. total (values_of (below inner.0 inner.1)))
+    (parents_in (field_outcome is_root execution answer object parent field).shape))
 
-  -- as another
-  abbrev pub count_at : List ℕ → FieldValue V → Positioned Field → Beneath (List ℕ) (FieldValue V) ℕ
-      → ℕ
-  count_at object parent field below = count_as false object parent field below
-
-  -- fields become numbers as they become places
+module _ {V W : Type 0} (served : Served V W) (written : Written V) where
+  -- the fields of a query become numbers as they become places
   abbrev pub counting : Placing (List ℕ) (FieldValue V) (Positioned Field) (Positioned Selection) ℕ
-  counting = record { reading = kept_reading execution; place = count_at }
-
-  -- the number of answers that a query asks
-  abbrev pub asked_count : ℕ → Asked V → ℕ
-  asked_count levels asked =
-      total
-      (values_of (grouped counting levels asked.object asked.parent (kept_in execution asked)))
-
-module _ {V W : Type 0} (execution : Execution) (answer : Call V → W → Answer V)
-    (effect : Call V → W → W) where
-  -- how the root keys of a mutation become numbers, each in the world so far, and what is under
-  -- them in the world that they leave
-  abbrev pub counting_in_turn : Asked V
-      → Mutating (List ℕ) (FieldValue V) (Positioned Field) (Positioned Selection) ℕ W
-  counting_in_turn asked = record {
-    reading = kept_reading execution;
-    effect = world_after execution effect asked;
-    root = λ world. count_as execution (λ call. answer call world) true;
-    place = λ world. count_as execution (λ call. answer call world) false;
+  counting = record {
+    reading = kept_reading written.execution;
+    place = count_as written.execution (λ call. served.answer call served.world) false;
   }
 
-  -- the number of answers that a mutation asks
-  abbrev pub mutation_asked_count : ℕ → Asked V → W → ℕ
-  mutation_asked_count levels asked world =
-      total
-      (values_of
-      (serial_grouped (counting_in_turn asked) levels asked.object asked.parent
-      (kept_in execution asked) world))
+  -- the root keys of a mutation too, each in the world so far, and what is under them in the world
+  -- that they leave
+  abbrev pub counting_in_turn : Mutating (List ℕ) (FieldValue V) (Positioned Field)
+      (Positioned Selection) ℕ W
+  counting_in_turn = record {
+    reading = kept_reading written.execution;
+    effect = world_after written.execution served.effect written.asked;
+    root = λ world. count_as written.execution (λ call. served.answer call world) true;
+    place = λ world. count_as written.execution (λ call. served.answer call world) false;
+  }
+
+  -- the numbers of the root keys
+  abbrev pub counts_by : (mutates : Bool) → List (List ℕ × ℕ)
+  counts_by false = grouped counting written.execution.levels written.asked.object
+      written.asked.parent (kept_in written.execution written.asked)
+  counts_by true = serial_grouped counting_in_turn (levels_beneath written.execution.levels)
+      written.asked.object written.asked.parent (kept_in written.execution written.asked)
+      served.world
+
+  -- the number of answers that an operation asks by merged execution
+  abbrev pub answers_asked : ℕ
+  answers_asked = total (values_of (counts_by written.mutates))

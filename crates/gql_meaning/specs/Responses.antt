@@ -1,24 +1,22 @@
--- The responses of queries and mutations (GraphQL, October 2021, sections 6.2 to 6.4): merged
+-- The responses to queries and mutations (GraphQL, October 2021, sections 6.2 to 6.4): merged
 -- execution, in which each key of a set is answered once, and apart execution, in which each
--- occurrence is, and places under one key are joined.
-use Rattle.std.specs.Prelude.{ℕ, Bool, true, false, List, [], Option, Some, None, is_some, take}
-use Rattle.std.specs.Prelude.{filter}
+-- occurrence is, and places under one key are joined. Both are said of the operation as it is
+-- written.
+use Rattle.std.specs.Prelude.{ℕ, zero, suc, Bool, true, false, List, [], Option, Some, None, is_some}
+use Rattle.std.specs.Prelude.{filter, take}
 use Rattle.gql_base.specs.declared.pos.Pos.{Pos}
-use Rattle.gql_base.specs.declared.server_error.ServerError.{ServerError}
-use Rattle.gql_base.specs.declared.value.Value.{Value}
 use Rattle.gql_doc.specs.declared.document.Field.{Field}
 use Rattle.gql_doc.specs.declared.document.Positioned.{Positioned}
 use Rattle.gql_doc.specs.declared.document.Selection.{Selection}
 use Rattle.gql_collect.specs.Execution.{Asking, Execution, field_asking, setting_in}
 use Rattle.gql_meaning.specs.Outcomes.{field_outcome}
+use Rattle.gql_meaning.specs.PlaceResponse.{response_at}
+use Rattle.gql_meaning.specs.Served.{Served}
 use Rattle.gql_place.specs.Answered.{answered}
-use Rattle.gql_place.specs.Faults.{faults_of}
-use Rattle.gql_place.specs.HeaderOps.{ops_of}
 use Rattle.gql_place.specs.Join.{join}
-use Rattle.gql_place.specs.Raised.{raised}
 use Rattle.gql_place.specs.declared.place.Place.{Place}
 use Rattle.gql_place.specs.declared.place.Tree.TheVariants as tree
-use Rattle.gql_request.specs.declared.header_op.HeaderOp.{HeaderOp}
+use Rattle.gql_request.specs.declared.response.Response.{Response}
 use Rattle.gql_resolve.specs.Call.{Call}
 use Rattle.gql_resolve.specs.declared.answer.Answer.{Answer}
 use Rattle.gql_resolve.specs.declared.field_value.FieldValue.{FieldValue}
@@ -39,6 +37,14 @@ pub record Asked (V : Type 0) : Type 0 where
   pub parent : FieldValue V
   pub selections : List (Positioned Selection)
 
+-- an operation that is executed, as it is written: what its execution knows, whether it is a
+-- mutation, where it stands, and what it asks for
+pub record Written (V : Type 0) : Type 0 where
+  pub execution : Execution
+  pub mutates : Bool
+  pub pos : Pos
+  pub asked : Asked V
+
 -- what is left of the selections is read by what is left of the document
 abbrev pub kept_reading : Execution → Reading (List ℕ) (Positioned Field) (Positioned Selection)
 kept_reading execution = reading (kept_setting execution.known (setting_in execution))
@@ -47,27 +53,21 @@ kept_reading execution = reading (kept_setting execution.known (setting_in execu
 abbrev pub kept_in : {V : Type 0} → Execution → Asked V → List (Positioned Selection)
 kept_in execution asked = kept execution.known asked.selections
 
+-- how many of so many levels of sets stand under the root's
+abbrev pub levels_beneath : ℕ → ℕ
+levels_beneath zero = zero
+levels_beneath (suc n) = n
+
+-- the place of a whole response: its data may be null
+abbrev pub root_place : Pos → Members → Place
+root_place pos members =
+    record { pos = pos; non_null = false; added = []; headers = []; tree = tree.Object members }
+
 module _ {V : Type 0} (execution : Execution) where
   -- the place of an occurrence with an answer of its own, given what is under its objects
   abbrev pub placed : Bool → (Call V → Answer V) → List ℕ → FieldValue V → Positioned Field
       → Beneath (List ℕ) (FieldValue V) Place → Place
   placed is_root answer = answered (λ field. field.pos) (field_outcome is_root execution answer)
-
-  -- how fields become places, by these answers
-  abbrev pub placing : (Call V → Answer V)
-      → Placing (List ℕ) (FieldValue V) (Positioned Field) (Positioned Selection) Place
-  placing answer = record { reading = kept_reading execution; place = placed false answer }
-
-  module _ (answer : Call V → Answer V) (levels : ℕ) (asked : Asked V) where
-    -- ExecuteQuery: the members of the root, each key answered once
-    abbrev pub query_merged : Members
-    query_merged =
-        grouped (placing answer) levels asked.object asked.parent (kept_in execution asked)
-
-    -- the same, each occurrence answered apart
-    abbrev pub query_apart : Members
-    query_apart =
-        respond (placing answer) join levels asked.object asked.parent (kept_in execution asked)
 
   -- what an occurrence at the root of a mutation asks
   abbrev pub root_asking : Asked V → Positioned Field → Option (Asking V)
@@ -92,55 +92,69 @@ module _ {V : Type 0} (execution : Execution) where
     abbrev pub world_after : Asked V → W → Positioned Field → W
     world_after asked world field = world_of world (root_asking asked field)
 
-    -- the world after the whole mutation
-    abbrev pub last_world : Asked V → W → W
-    last_world asked world = world_behind (world_after asked) world (root_keys asked)
+module _ {V W : Type 0} (served : Served V W) (written : Written V) where
+  -- how the fields of a query become places, by the answers in the world in which it begins
+  abbrev pub placing : Placing (List ℕ) (FieldValue V) (Positioned Field) (Positioned Selection) Place
+  placing = record {
+    reading = kept_reading written.execution;
+    place = placed written.execution false (λ call. served.answer call served.world);
+  }
 
-    -- the world after so many of its root keys that ask an answer
-    abbrev pub world_behind_first : ℕ → Asked V → W → W
-    world_behind_first count asked world =
-        world_behind (world_after asked) world (take count (asking_keys asked))
+  -- how a mutation is answered: the root in each world, and what is under it
+  abbrev pub mutating : Mutating (List ℕ) (FieldValue V) (Positioned Field) (Positioned Selection)
+      Place W
+  mutating = record {
+    reading = kept_reading written.execution;
+    effect = world_after written.execution served.effect written.asked;
+    root = λ world. placed written.execution true (λ call. served.answer call world);
+    place = λ world. placed written.execution false (λ call. served.answer call world);
+  }
 
-    -- how a mutation is answered: the root in each world, and what is under it
-    abbrev pub mutating : (Call V → W → Answer V) → Asked V
-        → Mutating (List ℕ) (FieldValue V) (Positioned Field) (Positioned Selection) Place W
-    mutating answer asked = record {
-      reading = kept_reading execution;
-      effect = world_after asked;
-      root = λ world. placed true (λ call. answer call world);
-      place = λ world. placed false (λ call. answer call world);
-    }
+  -- the members of the root by merged execution. ExecuteQuery: each key is answered once.
+  -- ExecuteMutation: the root keys are answered one after another, each in the world that those
+  -- before it left
+  abbrev pub merged_by : (mutates : Bool) → Members
+  merged_by false = grouped placing written.execution.levels written.asked.object
+      written.asked.parent (kept_in written.execution written.asked)
+  merged_by true =
+      serial_grouped mutating (levels_beneath written.execution.levels) written.asked.object
+      written.asked.parent (kept_in written.execution written.asked) served.world
 
-    module _ (answer : Call V → W → Answer V) (levels : ℕ) (asked : Asked V) (world : W) where
-      -- ExecuteMutation: the root keys one after another, each answered in the world that those
-      -- before it left
-      abbrev pub mutation_merged : Members
-      mutation_merged =
-          serial_grouped (mutating answer asked) levels asked.object asked.parent
-          (kept_in execution asked) world
+  -- the same by apart execution: each occurrence is answered apart, of a mutation each below the
+  -- root
+  abbrev pub apart_by : (mutates : Bool) → Members
+  apart_by false = respond placing join written.execution.levels written.asked.object
+      written.asked.parent (kept_in written.execution written.asked)
+  apart_by true =
+      serial_respond mutating join (levels_beneath written.execution.levels) written.asked.object
+      written.asked.parent (kept_in written.execution written.asked) served.world
 
-      -- the same, each occurrence below the root answered apart
-      abbrev pub mutation_apart : Members
-      mutation_apart =
-          serial_respond (mutating answer asked) join levels asked.object asked.parent
-          (kept_in execution asked) world
+  -- the world after so many root keys of a mutation; a query leaves the world as it was
+  abbrev pub world_by : (mutates : Bool) → List (List ℕ × Positioned Field) → W
+  world_by false keys = served.world
+  world_by true keys = world_behind mutating.effect served.world keys
 
--- the place of a whole response: its data may be null
-abbrev pub root_place : Pos → Members → Place
-root_place pos members =
-    record { pos = pos; non_null = false; added = []; headers = []; tree = tree.Object members }
+  -- the place of the whole response
+  abbrev pub place_merged : Place
+  place_merged = root_place written.pos (merged_by written.mutates)
 
--- a response (section 7.1), with what is done to the headers of the HTTP response
-pub record Response : Type 0 where
-  -- its data
-  pub value : Value
-  pub errors : List ServerError
-  pub headers : List HeaderOp
+  -- the same by apart execution
+  abbrev pub place_apart : Place
+  place_apart = root_place written.pos (apart_by written.mutates)
 
--- the response that these members make, whose operation stands at this place
-abbrev pub response : Pos → Members → Response
-response pos members = record {
-  value = raised (root_place pos members);
-  errors = faults_of (root_place pos members);
-  headers = ops_of (root_place pos members);
-}
+  -- the response of merged execution
+  abbrev pub response_merged : Response
+  response_merged = response_at place_merged
+
+  -- that of apart execution
+  abbrev pub response_apart : Response
+  response_apart = response_at place_apart
+
+  -- the world after the whole operation
+  abbrev pub world_left : W
+  world_left = world_by written.mutates (root_keys written.execution written.asked)
+
+  -- the world after so many of its root keys that ask an answer
+  abbrev pub world_left_by : ℕ → W
+  world_left_by count =
+      world_by written.mutates (take count (asking_keys written.execution written.asked))

@@ -1,5 +1,0 @@
-use Rattle.gql_meaning.proofs.LawProofs.{query_apart_is_merged as law}
-use Rattle.gql_meaning.proofs.laws.query_apart_is_merged.Goals as goal
-
-pub returns : goal.returns
-returns g c = law _ _
