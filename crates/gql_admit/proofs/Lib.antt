@@ -6,6 +6,7 @@ pub mod KeepLemmas
 pub mod NestingLemmas
 pub mod PreparedLemmas
 pub mod Rows
+pub mod StageRows
 pub mod StagesLemmas
 pub mod TruthLemmas
 pub mod WalkLemmas

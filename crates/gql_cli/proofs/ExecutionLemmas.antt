@@ -7,8 +7,7 @@ use Rattle.gql_bench.specs.TableMaker.{ServesBy}
 use Rattle.gql_bench.specs.contracts.list_turns.ListTurnsTurns.TheImpl.{ghosts}
 use Rattle.gql_bench.specs.declared.bench.Bench.{Bench}
 use Rattle.gql_bench.specs.declared.list_turns.ListTurns.{ListTurns}
-use Rattle.gql_admit.specs.Prepared.{Prepared}
-use Rattle.gql_cli.specs.Execution.{answers_of, bench_serving, Between, cells_by, ComesOf, ExecutedInOrder, GoesOn, IsExecuted, IsRecord, IsRecordAtOnce, IsRecordInTurn, none_told, place_in, RecordBy, story}
+use Rattle.gql_cli.specs.Execution.{answers_of, bench_served, bench_serving, Between, ExecutedInOrder, IsExecuted, IsRecordAtOnce, IsRecordInTurn, IsRecordOf, none_told, of_refused, of_scene, RecordBy, story}
 use Rattle.gql_tasks.specs.Pace.{EachPaced}
 use Rattle.gql_tasks.specs.Parts.{due_by}
 use Rattle.gql_tasks.specs.Phases.{IsPhase, Phases, RunsInTurn, Serving, after_root, serving_by, story_in}
@@ -16,24 +15,22 @@ use Rattle.gql_tasks.specs.Progress.{RunsWhole, Seen, stage_of, story_of}
 use Rattle.gql_tasks.specs.Record.{Choice, Made, Stage, Story, Turned, fresh, made_at, state_at, waiting}
 use Rattle.gql_engine.specs.declared.scene.Scene.{Scene}
 use Rattle.gql_exec.specs.Batch.{ExecutesAll, ExecutesOne}
-use Rattle.gql_exec.specs.Execution.{Ask, asks, ComesOf as Came, Executes, GoesOn as Went, mutates, place_by, RanBy, Runs, world_by}
-use Rattle.gql_exec.specs.PlaceResponse.{response_at}
-use Rattle.gql_exec.specs.Root.{root_for}
-use Rattle.gql_exec.specs.Scene.{scene_for}
+use Rattle.gql_exec.specs.Execution.{Ask, asks, RanAs, TellsAs, tells_none, tells_of}
+use Rattle.gql_exec.specs.Joined.{mutates}
+use Rattle.gql_exec.specs.Response.{IsResponseTo, IsWorldAfter}
 use Rattle.gql_exec.specs.declared.dynamic_request.DynamicRequest.{DynamicRequest}
 use Rattle.gql_exec.specs.declared.schema.Schema.{Schema}
 use Rattle.gql_objects.specs.Jobs.{Job}
-use Rattle.gql_engine.specs.ExecuteQuery.{job_subject, merged_response, merged_work, root_jobs}
-use Rattle.gql_engine.specs.ExecuteMutation.{key_jobs, key_work, last_world_of, serial_response}
-use Rattle.gql_request.specs.QueryEnv.{levels_of}
-use Rattle.gql_request.specs.declared.query_env.QueryEnv.{QueryEnv}
+use Rattle.gql_engine.specs.ExecuteQuery.{job_subject, merged_work, root_jobs}
+use Rattle.gql_engine.specs.ExecuteMutation.{key_jobs, key_work}
+use Rattle.gql_collect.specs.declared.basis.Grouping.TheVariants as grouping
+use Rattle.gql_meaning.specs.Served.{Served, served_by}
 use Rattle.gql_request.specs.declared.response.Response.{Response}
 use Rattle.gql_resolve.specs.Call.{Call}
 use Rattle.gql_resolve.specs.Record.{with_more}
 use Rattle.gql_resolve.specs.declared.answer.Answer.{Answer}
 use Rattle.gql_resolve.specs.declared.record_entry.RecordEntry.{RecordEntry}
 use Rattle.gql_resolve.specs.declared.resolver_set.ResolverSet.{Ghosts as Resolving}
-use Rattle.gql_schema.specs.declared.object.Object.{Object}
 
 -- a set that serves for a bench, and turns, as a request finds them: in these cells, at this state of the turns, and with these entries told before
 pub record Stands {S F : Type 0} (set : Resolving S ℤ (List ℤ) F) (bench : Bench) (earlier : List RecordEntry) (before : Between) (start : Seen S ListTurns) : Type 0
@@ -141,26 +138,10 @@ module _ {S F : Type 0} (set : Resolving S ℤ (List ℤ) F) (bench : Bench) (ea
   Leaves Comes = (entries : List RecordEntry) × (after : Between) × (set.told new.set ≡ Some (earlier ++ entries))
       × (set.world new.set ≡ after.cells) × (ghosts.state new.turns ≡ Some after.turns) × Comes entries after
 
-  -- where nothing was asked
-  none : (Comes : List RecordEntry → Between → Type 0) → new ≡ start → Comes [] before → Leaves Comes
-  none Comes same comes = (
-    [],
-    before,
-    ap (λ (seen : Seen S ListTurns). set.told seen.set) same ∙ at.told ∙ ap Some (sym (append-nil earlier)),
-    ap (λ (seen : Seen S ListTurns). set.world seen.set) same ∙ at.world,
-    ap (λ (seen : Seen S ListTurns). ghosts.state seen.turns) same ∙ at.turns,
-    comes,
-  )
+  served-is : served_by set start.set ≡ bench_served bench before
+  served-is = λ i. record { answer = answer-is i; effect = effect-is i; world = at.world i }
 
   module _ (scene : Scene ℤ) where
-    place-is : (mutation : Bool) → place_by set ghosts start new mutation scene ≡ place_in bench before mutation scene
-    place-is true = λ i. serial_response scene (answer-is i) (effect-is i) (at.world i) (levels_of scene.env.now)
-    place-is false = ap (λ answer. merged_response scene answer (levels_of scene.env.now)) due-is
-
-    cells-are : (mutation : Bool) → world_by set ghosts start new mutation scene ≡ cells_by bench before mutation scene
-    cells-are true = λ i. last_world_of scene (effect-is i) (at.world i)
-    cells-are false = at.world
-
     -- a whole execution that isn't a mutation's
     at-once : RunsWhole set ghosts (merged_work scene) start new → Told (IsRecordAtOnce bench before scene)
     at-once runs =
@@ -203,38 +184,38 @@ module _ {S F : Type 0} (set : Resolving S ℤ (List ℤ) F) (bench : Bench) (ea
         before.turns refl in
         (entries, turns, told, known, record { starts = starts; behind = telling behind entries; phases = alone; told = refl; leaves = known })
 
-    ran-by : (mutation : Bool) → RanBy set ghosts start new mutation scene → Told (RecordBy bench before mutation scene)
+    ran-by : (mutation : Bool) → RanAs set ghosts start new grouping.ByKey mutation scene → Told (RecordBy bench before mutation scene)
     ran-by true runs = in-turn runs
     ran-by false runs = at-once runs
 
-    ran : (response : Response) → Runs set ghosts start new scene response
-        → Leaves (λ entries after. (response ≡ response_at (place_in bench before (mutates scene) scene)) × IsRecord bench before scene entries after)
-    ran response runs =
-        let (entries, turns, told, state, is) = ran-by (mutates scene) runs.tells in
-        let cells = cells_by bench before (mutates scene) scene in (
-          entries,
-          record { cells = cells; turns = turns },
-          told,
-          runs.world ∙ cells-are (mutates scene),
-          state,
-          (runs.answered ∙ ap response_at (place-is (mutates scene)), record { entries_are = is; cells_are = refl }),
-        )
+  -- the record of a request
+  recorded : (ask : Ask ℤ) → TellsAs set ghosts start new ask grouping.ByKey → Told (IsRecordOf bench before ask)
+  recorded ask (tells_none response is same) = (
+    [],
+    before.turns,
+    ap (λ (seen : Seen S ListTurns). set.told seen.set) same ∙ at.told ∙ ap Some (sym (append-nil earlier)),
+    ap (λ (seen : Seen S ListTurns). ghosts.state seen.turns) same ∙ at.turns,
+    of_refused response is refl refl,
+  )
+  recorded ask (tells_of scene of_it runs) =
+      let (entries, turns, told, state, is) = ran-by scene (mutates scene) runs in
+      (entries, turns, told, state, of_scene scene of_it is)
 
-  module _ (ask : Ask ℤ) (response : Response) where
-    went : (env : QueryEnv) (root : Result Object (List ℕ)) → Went set ghosts start new ask env root response
-        → Leaves (λ entries after. GoesOn bench before ask response entries after env root)
-    went env (Ok object) goes = ran (scene_for ask.schema ask.request env object) response (goes at.lawful)
-    went env (Err text) (is, same) = none (λ entries after. GoesOn bench before ask response entries after env (Err text)) same (is, refl, refl)
-
-    came : (outcome : Prepared) → Came set ghosts start new ask outcome response
-        → Leaves (λ entries after. ComesOf bench before ask response entries after outcome)
-    came (Ok env) comes = went env (root_for ask.schema env.operation.node.ty) comes
-    came (Err errors) (is, same) = none (λ entries after. ComesOf bench before ask response entries after (Err errors)) same (is, refl, refl)
-
-    executed : Executes set ghosts start new ask response → Leaves (IsExecuted bench before ask response)
-    executed e =
-        let (entries, after, told, world, turns, comes) = came e.outcome e.comes in
-        (entries, after, told, world, turns, record { outcome = e.outcome; ready = e.ready; comes = comes })
+  executed : (schema : Schema) (request : DynamicRequest ℤ) (response : Response) → ExecutesOne set ghosts schema request response start new
+      → Leaves (IsExecuted bench before (asks schema request) response)
+  executed schema request response one =
+      let (entries, turns, told, state, is) = recorded (asks schema request) (one.tells at.lawful) in (
+        entries,
+        record { cells = set.world new.set; turns = turns },
+        told,
+        refl,
+        state,
+        record {
+          responds = subst (λ (served : Served ℤ (List ℤ)). IsResponseTo schema request served response) served-is (one.responds at.lawful);
+          cells = subst (λ (served : Served ℤ (List ℤ)). IsWorldAfter schema request served (set.world new.set)) served-is (one.world at.lawful);
+          records = is;
+        },
+      )
 
   -- the next request finds what one has left
   stands-next : (schema : Schema) (request : DynamicRequest ℤ) (response : Response) → ExecutesOne set ghosts schema request response start new
@@ -263,7 +244,7 @@ module _ {S F : Type 0} (set : Resolving S ℤ (List ℤ) F) (bench : Bench) (sc
   all_executed [] (response ∷ responses) earlier before start new at all = absurd all
   all_executed (request ∷ requests) [] earlier before start new at all = absurd all
   all_executed (request ∷ requests) (response ∷ responses) earlier before start new at (next, one, all) =
-      let (own, after, told, world, turns, is) = executed set bench earlier before start next at (asks schema request) response one.executed in
+      let (own, after, told, world, turns, is) = executed set bench earlier before start next at schema request response one in
       let there = stands-next set bench earlier before start next at schema request response one own after told world turns in
       let (others, all_told, in_order) = all_executed requests responses (earlier ++ own) after next new there all in
       (own ++ others, all_told ∙ ap Some (append_assoc earlier own others), (own, others, after, is, refl, in_order))

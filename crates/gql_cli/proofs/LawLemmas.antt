@@ -3,7 +3,6 @@ use Rattle.std.proofs.Common.{◌≡◌, ℕ, ℤ, Bool, true, false, List, [], 
 use Rattle.std.proofs.Props.{props}
 use mathlib.Core.HLevel.{is_prop→PathP}
 use Rattle.serde_json.specs.Data.{Data}
-use Rattle.gql_admit.specs.Prepared.{Prepared}
 use Rattle.gql_bench.specs.Bench.{IsBenchOf}
 use Rattle.gql_bench.specs.Built.{is_built}
 use Rattle.gql_bench.specs.Cells.{AreBelow}
@@ -14,7 +13,7 @@ use Rattle.gql_bench.specs.declared.bench.Bench.{Bench}
 use Rattle.gql_cli.proofs.RecordLaws.{IsWhole, one-record, one-record-in-turn}
 use Rattle.gql_cli.proofs.RefusalLemmas.{never-sound, one-refusal}
 use Rattle.gql_cli.specs.Answer.{IsRefusedTable, IsResponseTo}
-use Rattle.gql_cli.specs.Execution.{bench_serving, Between, ComesOf, ExecutedInOrder, first_of, GoesOn, IsExecuted, IsRecord, IsRecordAtOnce, RecordBy, story}
+use Rattle.gql_cli.specs.Execution.{bench_served, bench_serving, Between, ExecutedInOrder, first_of, IsExecuted, IsRecordAtOnce, IsRecordOf, of_refused, of_scene, RecordBy, story}
 use Rattle.gql_cli.specs.Gives.{BenchGives, errors_in, Gives, IfResponse, IsAnswer, IsBadShape, IsUnbuilt, IsUnsound, JsonGives, json_of, outcome_for, response_text, schema_line, shape_line}
 use Rattle.gql_cli.specs.Request.{AreAlike, requests_for}
 use Rattle.gql_form.specs.declared.command.Command.{Command}
@@ -23,12 +22,14 @@ use Rattle.gql_cli.specs.declared.outcome.Outcome.TheVariants.{Answered, BadSche
 use Rattle.gql_engine.specs.declared.scene.Scene.{Scene}
 use Rattle.gql_cli.proofs.SchemaLemmas.{one_builder}
 use Rattle.gql_exec.proofs.SchemaLemmas.{one_schema}
-use Rattle.gql_exec.proofs.ReadyLemmas.{one_ready}
+use Rattle.gql_exec.proofs.AdmittedLemmas.{never_both, one_response, one_scene, one_world}
+use Rattle.gql_exec.proofs.JoinedLemmas.{kept_is_written}
 use Rattle.gql_exec.specs.Builder.{IsSchemaOf, whole_table}
 use Rattle.gql_tasks.specs.Record.{fresh, state_at}
-use Rattle.gql_exec.specs.Execution.{Ask, asks, mutates}
-use Rattle.gql_exec.specs.Root.{root_for}
-use Rattle.gql_exec.specs.Scene.{scene_for}
+use Rattle.gql_exec.specs.Admitted.{IsRefused}
+use Rattle.gql_exec.specs.Execution.{Ask, asks}
+use Rattle.gql_exec.specs.Joined.{mutates}
+use Rattle.gql_exec.specs.Scene.{IsSceneOf}
 use Rattle.gql_exec.specs.Schema.{settings_of as schema_settings, types_in}
 use Rattle.gql_exec.specs.declared.dynamic_request.DynamicRequest.{DynamicRequest}
 use Rattle.gql_exec.specs.declared.schema.Schema.{Schema}
@@ -41,11 +42,9 @@ use Rattle.gql_request.specs.declared.batch_request.BatchRequest.{BatchRequest}
 use Rattle.gql_request.specs.declared.batch_request.BatchRequest.TheVariants as batch
 use Rattle.gql_request.specs.declared.batch_response.BatchResponse.{BatchResponse}
 use Rattle.gql_request.specs.declared.batch_response.BatchResponse.TheVariants as responding
-use Rattle.gql_request.specs.declared.query_env.QueryEnv.{QueryEnv}
 use Rattle.gql_request.specs.declared.response.Response.{Response}
 use Rattle.gql_resolve.specs.declared.record_entry.RecordEntry.{RecordEntry}
 use Rattle.gql_schema.specs.Table.{types_of}
-use Rattle.gql_schema.specs.declared.object.Object.{Object}
 use Rattle.gql_schema.specs.declared.schema_error.SchemaError.{SchemaError}
 
 -- two things are one, and two others
@@ -75,7 +74,8 @@ module _ (bench : Bench) where
         → IsWhole list_turns (story bench before) delay before.turns (root_jobs scene) told
     whole-record told turns is = record { turned = is.turned; whole = is.whole; paced = is.paced }
 
-    record-by : (mutation : Bool) (one other : List RecordEntry) (t u : List ℕ × ℕ) → RecordBy bench before mutation scene one t
+    -- a scene has one record, and leaves the turns in one state
+    pub record-by : (mutation : Bool) (one other : List RecordEntry) (t u : List ℕ × ℕ) → RecordBy bench before mutation scene one t
         → RecordBy bench before mutation scene other u → AreOne one other t u
     record-by true one other t u a b =
         let (told, turns) = one-record-in-turn (bench_serving bench) tt job_subject list_turns before.cells (key_jobs scene) (fresh []) [] before.turns a.starts
@@ -87,31 +87,30 @@ module _ (bench : Bench) where
         let same = one-record list_turns (story bench before) delay before.turns (root_jobs scene) one other (whole-record one t a) (whole-record other u b) in
         (same, a.leaves ∙ ap (state_at list_turns (story bench before) before.turns (fresh (root_jobs scene))) same ∙ sym b.leaves)
 
-    -- a scene has one record, and leaves one thing
-    pub scene-record : (one other : List RecordEntry) (after behind : Between) → IsRecord bench before scene one after → IsRecord bench before scene other behind
-        → AreOne one other after behind
-    scene-record one other after behind a b =
-        let (same, turns) = record-by (mutates scene) one other after.turns behind.turns a.entries_are b.entries_are in
-        let cells = a.cells_are ∙ sym b.cells_are in
-        (same, λ i. record { cells = cells i; turns = turns i })
+  module _ (before : Between) (ask : Ask ℤ) where
+    -- a request that is refused has no scene
+    never-scene : (refusal : Response) → IsRefused ask.schema ask.request.inner refusal → (scene : Scene ℤ) → IsSceneOf ask.schema ask.request scene → ⊥
+    never-scene refusal is scene of_it =
+        never_both ask.schema ask.request.inner refusal is (kept_is_written ask.schema ask.request scene (bench_served bench before) of_it).0
 
-  module _ (before : Between) (ask : Ask ℤ) (r s : Response) (es fs : List RecordEntry) (after behind : Between) where
-    goes-same : (env : QueryEnv) (root : Result Object (List ℕ)) → GoesOn bench before ask r es after env root → GoesOn bench before ask s fs behind env root
-        → SameRun r s es fs after behind
-    goes-same env (Ok object) (a, m) (b, n) =
-        let (same, left) = scene-record before (scene_for ask.schema ask.request env object) es fs after behind m n in
-        (a ∙ sym b, same, left)
-    goes-same env (Err text) (a, m, p) (b, n, q) = (a ∙ sym b, m ∙ sym n, p ∙ sym q)
-
-    comes-same : (outcome : Prepared) → ComesOf bench before ask r es after outcome → ComesOf bench before ask s fs behind outcome → SameRun r s es fs after behind
-    comes-same (Ok env) a b = goes-same env (root_for ask.schema env.operation.node.ty) a b
-    comes-same (Err errors) (a, m, p) (b, n, q) = (a ∙ sym b, m ∙ sym n, p ∙ sym q)
+    records-same : (es fs : List RecordEntry) (t u : List ℕ × ℕ) → IsRecordOf bench before ask es t → IsRecordOf bench before ask fs u → AreOne es fs t u
+    records-same es fs t u (of_refused r is none same) (of_refused s is' none' same') = (none ∙ sym none', same ∙ sym same')
+    records-same es fs t u (of_refused r is none same) (of_scene scene of_it run) = absurd (never-scene r is scene of_it)
+    records-same es fs t u (of_scene scene of_it run) (of_refused s is' none' same') = absurd (never-scene s is' scene of_it)
+    records-same es fs t u (of_scene scene of_it run) (of_scene scene' of_it' run') =
+        record-by before scene' (mutates scene') es fs t u
+        (subst (λ (s : Scene ℤ). RecordBy bench before (mutates s) s es t) (one_scene ask.schema ask.request scene scene' of_it of_it') run) run'
 
     -- a request over a schema has one response and one record
-    pub executed-same : IsExecuted bench before ask r es after → IsExecuted bench before ask s fs behind → SameRun r s es fs after behind
-    executed-same a b =
-        let same = one_ready ask.schema ask.request.inner a.outcome b.outcome a.ready b.ready in
-        comes-same b.outcome (subst (λ outcome. ComesOf bench before ask r es after outcome) same a.comes) b.comes
+    pub executed-same : (r s : Response) (es fs : List RecordEntry) (after behind : Between) → IsExecuted bench before ask r es after
+        → IsExecuted bench before ask s fs behind → SameRun r s es fs after behind
+    executed-same r s es fs after behind a b =
+        let (entries, turns) = records-same es fs after.turns behind.turns a.records b.records in
+        let cells = one_world ask.schema ask.request (bench_served bench before) after.cells behind.cells a.cells b.cells in (
+          one_response ask.schema ask.request (bench_served bench before) r s a.responds b.responds,
+          entries,
+          λ i. record { cells = cells i; turns = turns i },
+        )
 
   -- and so have requests one after another
   in-order-same : (schema : Schema) (requests : List (DynamicRequest ℤ)) (rs ss : List Response) (es fs : List RecordEntry) (before : Between)

@@ -1,8 +1,6 @@
 -- The execution of a bench's requests, one after another: the response to each, and the record of
 -- the polls that are made for it, in the order that the bench's turns fix.
 use Rattle.std.specs.Prelude.{◌≡◌, ℕ, ℤ, Bool, true, false, List, [], ◌∷◌, ◌++◌, Option, Some}
-use Rattle.std.specs.Prelude.{Result, Ok, Err}
-use Rattle.gql_admit.specs.Prepared.{Prepared}
 use Rattle.gql_bench.specs.ListTurns.{list_turns}
 use Rattle.gql_bench.specs.Table.{table_answer, table_delay, table_effect}
 use Rattle.gql_bench.specs.declared.bench.Bench.{Bench}
@@ -11,24 +9,21 @@ use Rattle.gql_tasks.specs.Phases.{Phases, Serving}
 use Rattle.gql_tasks.specs.Progress.{story_of}
 use Rattle.gql_tasks.specs.Record.{Made, Stage, Story, Turned, fresh, made_at, state_at, waiting}
 use Rattle.gql_engine.specs.declared.scene.Scene.{Scene}
-use Rattle.gql_exec.specs.Execution.{Ask, asks, error_response, fault_response, mutates}
-use Rattle.gql_exec.specs.PlaceResponse.{response_at}
-use Rattle.gql_exec.specs.Ready.{IsMadeReady}
-use Rattle.gql_exec.specs.Root.{root_for}
-use Rattle.gql_exec.specs.Scene.{scene_for}
+use Rattle.gql_exec.specs.Admitted.{IsRefused}
+use Rattle.gql_exec.specs.Execution.{Ask, asks}
+use Rattle.gql_exec.specs.Joined.{mutates}
+use Rattle.gql_exec.specs.Response.{IsResponseTo, IsWorldAfter}
+use Rattle.gql_exec.specs.Scene.{IsSceneOf}
 use Rattle.gql_exec.specs.declared.dynamic_request.DynamicRequest.{DynamicRequest}
 use Rattle.gql_exec.specs.declared.schema.Schema.{Schema}
 use Rattle.gql_objects.specs.Jobs.{Job}
-use Rattle.gql_engine.specs.ExecuteQuery.{job_subject, merged_response, root_jobs}
-use Rattle.gql_engine.specs.ExecuteMutation.{key_jobs, last_world_of, serial_response}
-use Rattle.gql_place.specs.declared.place.Place.{Place}
-use Rattle.gql_request.specs.QueryEnv.{levels_of}
-use Rattle.gql_request.specs.declared.query_env.QueryEnv.{QueryEnv}
+use Rattle.gql_engine.specs.ExecuteQuery.{job_subject, root_jobs}
+use Rattle.gql_engine.specs.ExecuteMutation.{key_jobs}
+use Rattle.gql_meaning.specs.Served.{Served}
 use Rattle.gql_request.specs.declared.response.Response.{Response}
 use Rattle.gql_resolve.specs.Call.{Call}
 use Rattle.gql_resolve.specs.declared.answer.Answer.{Answer}
 use Rattle.gql_resolve.specs.declared.record_entry.RecordEntry.{RecordEntry}
-use Rattle.gql_schema.specs.declared.object.Object.{Object}
 
 -- what a request of a bench finds and leaves: the cells, and the state of the turns
 pub record Between : Type 0 where
@@ -50,20 +45,17 @@ module _ (bench : Bench) where
   }
 
   module _ (before : Between) where
-    -- what is answered to a call in the cells as the request finds them
+    -- what is served of a request: by the rules of the bench, in the cells as the request finds them
+    abbrev pub bench_served : Served ℤ (List ℤ)
+    bench_served = record {
+      answer = table_answer bench.rules;
+      effect = table_effect bench.rules;
+      world = before.cells;
+    }
+
+    -- what is answered to a call in these cells
     abbrev pub answers_of : Call ℤ → Answer ℤ
     answers_of call = table_answer bench.rules call before.cells
-
-    -- the place of the response to a scene: of a mutation, or of another operation
-    abbrev pub place_in : Bool → Scene ℤ → Place
-    place_in true scene = serial_response scene (table_answer bench.rules)
-        (table_effect bench.rules) before.cells (levels_of scene.env.now)
-    place_in false scene = merged_response scene answers_of (levels_of scene.env.now)
-
-    -- the cells after it
-    abbrev pub cells_by : Bool → Scene ℤ → List ℤ
-    cells_by true scene = last_world_of scene (table_effect bench.rules) before.cells
-    cells_by false scene = before.cells
 
     -- the tasks of merged execution, with the tasks under the answer of each
     abbrev pub story : Story (Job ℤ)
@@ -105,52 +97,39 @@ module _ (bench : Bench) where
       pub told : behind.told ≡ Some entries
       pub leaves : behind.turns ≡ Some turns
 
-    -- the whole record of a scene: of a mutation, or of another operation
+    -- the whole record of a scene, and the state of the turns after it: of a mutation, or of another
+    -- operation
     abbrev pub RecordBy : Bool → Scene ℤ → List RecordEntry → List ℕ × ℕ → Type 0
     RecordBy true scene entries turns = IsRecordInTurn scene entries turns
     RecordBy false scene entries turns = IsRecordAtOnce scene entries turns
 
-    -- the whole record of a scene, and what it leaves
-    pub record IsRecord (scene : Scene ℤ) (entries : List RecordEntry) (after : Between) : Type 0
-      where
-        pub entries_are : RecordBy (mutates scene) scene entries after.turns
-        pub cells_are : after.cells ≡ cells_by (mutates scene) scene
+-- the record of a request over a schema, and the state of the turns after it: for one that is refused
+-- nothing is polled; for an admitted one it is that of its scene
+pub data IsRecordOf (bench : Bench) (before : Between) (ask : Ask ℤ) (entries : List RecordEntry)
+    (turns : List ℕ × ℕ) : Type 0 where
+  of_refused : (response : Response) → IsRefused ask.schema ask.request.inner response
+      → entries ≡ [] → turns ≡ before.turns → IsRecordOf bench before ask entries turns
+  of_scene : (scene : Scene ℤ) → IsSceneOf ask.schema ask.request scene
+      → RecordBy bench before (mutates scene) scene entries turns
+      → IsRecordOf bench before ask entries turns
 
-    module _ (ask : Ask ℤ) (response : Response) (entries : List RecordEntry) (after : Between)
-      where
-        -- the response to a scene and its record
-        abbrev pub Ran : Scene ℤ → Type 0
-        Ran scene = (response ≡ response_at (place_in (mutates scene) scene))
-            × IsRecord scene entries after
+-- the response to a request over the bench's rules, its record, and what it leaves
+pub record IsExecuted (bench : Bench) (before : Between) (ask : Ask ℤ) (response : Response)
+    (entries : List RecordEntry) (after : Between) : Type 0 where
+  pub responds : IsResponseTo ask.schema ask.request (bench_served bench before) response
+  pub cells : IsWorldAfter ask.schema ask.request (bench_served bench before) after.cells
+  pub records : IsRecordOf bench before ask entries after.turns
 
-        -- the response and the record of an admitted request: those of merged execution, or its
-        -- fault, and then nothing is polled
-        abbrev pub GoesOn : QueryEnv → Result Object (List ℕ) → Type 0
-        GoesOn env (Ok object) = Ran (scene_for ask.schema ask.request env object)
-        GoesOn env (Err text) = (response ≡ fault_response text) × (entries ≡ []) × (after ≡ before)
-
-        -- those of a request by what was made of it: for one that is refused nothing is polled
-        abbrev pub ComesOf : Prepared → Type 0
-        ComesOf (Ok env) = GoesOn env (root_for ask.schema env.operation.node.ty)
-        ComesOf (Err errors) =
-            (response ≡ error_response errors) × (entries ≡ []) × (after ≡ before)
-
-        -- the response to a request over the bench's rules, its record, and what it leaves
-        pub record IsExecuted : Type 0 where
-          pub outcome : Prepared
-          pub ready : IsMadeReady ask.schema ask.request.inner outcome
-          pub comes : ComesOf outcome
-
-  module _ (schema : Schema) where
-    -- the responses to requests over a schema, one after another, and their records, one after
-    -- another: each request finds what the one before it left
-    abbrev pub ExecutedInOrder : List (DynamicRequest ℤ) → List Response → List RecordEntry
-        → Between → Type 0
-    ExecutedInOrder [] [] entries before = entries ≡ []
-    ExecutedInOrder [] (response ∷ responses) entries before = ⊥
-    ExecutedInOrder (request ∷ requests) [] entries before = ⊥
-    ExecutedInOrder (request ∷ requests) (response ∷ responses) entries before =
-        (own : List RecordEntry) × (others : List RecordEntry) × (after : Between)
-        × IsExecuted before (asks schema request) response own after
-        × (entries ≡ own ++ others)
-        × ExecutedInOrder requests responses others after
+module _ (bench : Bench) (schema : Schema) where
+  -- the responses to requests over a schema, one after another, and their records, one after
+  -- another: each request finds what the one before it left
+  abbrev pub ExecutedInOrder : List (DynamicRequest ℤ) → List Response → List RecordEntry
+      → Between → Type 0
+  ExecutedInOrder [] [] entries before = entries ≡ []
+  ExecutedInOrder [] (response ∷ responses) entries before = ⊥
+  ExecutedInOrder (request ∷ requests) [] entries before = ⊥
+  ExecutedInOrder (request ∷ requests) (response ∷ responses) entries before =
+      (own : List RecordEntry) × (others : List RecordEntry) × (after : Between)
+      × IsExecuted bench before (asks schema request) response own after
+      × (entries ≡ own ++ others)
+      × ExecutedInOrder requests responses others after

@@ -1,7 +1,7 @@
 //! Laws of what contracts say, as contracts of functions without parameters.
-ghost use Rattle.std.specs.Prelude.{◌≡◌, ℕ, ℤ, List};
+ghost use Rattle.std.specs.Prelude.{◌≡◌, ℕ, ℤ, Bool, List};
 ghost use Rattle.gql_bench.specs.declared.bench.Bench.{Bench as OneBench};
-ghost use Rattle.gql_cli.specs.Execution.{Between, IsRecord};
+ghost use Rattle.gql_cli.specs.Execution.{Between, RecordBy};
 ghost use Rattle.gql_cli.specs.Gives.{Gives, IfResponse};
 ghost use Rattle.gql_cli.specs.Load.{IsLoaded};
 ghost use Rattle.gql_form.specs.declared.command.Command.{Command as OneCommand};
@@ -17,17 +17,17 @@ pub fn limit_of_the_input()
     ensures { INPUT_LIMIT ≡ input_limit }
 {}
 
-/// A scene has one record at most over a bench, and leaves the cells and the turns in one state,
-/// whatever its tasks are, however it finds the cells and whatever the turns.
+/// A scene has one record at most over a bench, and leaves the turns in one state, whatever its
+/// tasks are, however it finds the cells and whatever the turns.
 pub fn one_record_of_a_scene()
-    ensures entries { (bench : OneBench) (before : Between) (scene : OneScene ℤ)
-        (one other : List OneEntry) (after later : Between)
-        → IsRecord bench before scene one after → IsRecord bench before scene other later
-        → one ≡ other }
-    ensures leaves { (bench : OneBench) (before : Between) (scene : OneScene ℤ)
-        (one other : List OneEntry) (after later : Between)
-        → IsRecord bench before scene one after → IsRecord bench before scene other later
-        → after ≡ later }
+    ensures entries { (bench : OneBench) (before : Between) (mutates : Bool) (scene : OneScene ℤ)
+        (one other : List OneEntry) (after later : List ℕ × ℕ)
+        → RecordBy bench before mutates scene one after
+        → RecordBy bench before mutates scene other later → one ≡ other }
+    ensures leaves { (bench : OneBench) (before : Between) (mutates : Bool) (scene : OneScene ℤ)
+        (one other : List OneEntry) (after later : List ℕ × ℕ)
+        → RecordBy bench before mutates scene one after
+        → RecordBy bench before mutates scene other later → after ≡ later }
 {}
 
 /// The bytes of a bench give one thing to a command, and where that is a response, with one record.

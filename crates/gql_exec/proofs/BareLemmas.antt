@@ -17,12 +17,12 @@ use Rattle.gql_exec.proofs.RecordLemmas.{made-after, mapped, fresh-mapped, paced
 use Rattle.gql_exec.specs.Bare.{bare_basis, bare_job, bare_layers, bare_scene}
 use Rattle.gql_exec.specs.Scene.{shown}
 use Rattle.gql_collect.specs.Execution.{Asking, Execution, field_asking, setting_in}
-use Rattle.gql_meaning.specs.Responses.{Asked, placed, root_place, world_after}
+use Rattle.gql_meaning.specs.Responses.{Asked, levels_beneath, placed, root_place, world_after}
 use Rattle.gql_collect.specs.Basis.{execution_of}
 use Rattle.gql_objects.specs.Jobs.{Job, completed_by, job_of, jobs_at, jobs_at_as, jobs_beneath}
 use Rattle.gql_collect.specs.GroupFields.{grouping_at, groups_by}
 use Rattle.gql_engine.specs.ExecuteQuery.{basis_by, basis_of, merged_response, root_jobs_by, root_selections, root_spot, work_by}
-use Rattle.gql_engine.specs.ExecuteMutation.{key_jobs_by, last_world_of, levels_beneath, root_asked, serial_response}
+use Rattle.gql_engine.specs.ExecuteMutation.{key_jobs_by, last_world_of, root_asked, serial_response}
 use Rattle.gql_complete.specs.FoundObjects.{Spot, spots}
 use Rattle.gql_collect.specs.declared.basis.Basis.{Basis}
 use Rattle.gql_collect.specs.declared.basis.Grouping.{Grouping}
@@ -62,7 +62,7 @@ module _ {A B : Type 0} (f : A → B) where
   map-flat g h same (x ∷ xs) = (λ i. same x i ++ map-flat g h same xs i) ∙ sym (map-append f (g x) (flat_map g xs))
 
 -- how a mutation is answered, by what is known of its execution
-abbrev mutating_in : {V W : Type 0} → Execution → (Call V → W → Answer V) → (Call V → W → W) → Asked V
+abbrev pub mutating_in : {V W : Type 0} → Execution → (Call V → W → Answer V) → (Call V → W → W) → Asked V
     → Mutating (List ℕ) (FieldValue V) (Positioned Field) (Positioned Selection) Place W
 mutating_in execution answer effect asked = record {
   reading = reading (setting_in execution);

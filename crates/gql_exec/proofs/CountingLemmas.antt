@@ -1,25 +1,31 @@
 -- The steps of an execution are as many as the answers that it asks.
-use Rattle.std.proofs.Common.{◌≡◌, ◌+◌, ℕ, Bool, true, false, List, Result, Ok, Err, OnOk, ap, sym, ◌∙◌, subst}
+use Rattle.std.proofs.Common.{◌≡◌, ◌+◌, ℕ, Bool, true, false, List, Result, Ok, Err, OnOk, refl, ap, sym, ◌∙◌, subst, arith}
 use Rattle.gql_base.specs.Pairs.{values_of}
-use Rattle.gql_tasks.specs.Parts.{due_by}
+use Rattle.gql_base.specs.declared.server_error.ServerError.{ServerError}
 use Rattle.gql_engine.specs.declared.scene.Scene.{Scene}
 use Rattle.gql_exec.proofs.BareLemmas.{execution-bare}
 use Rattle.gql_exec.specs.Bare.{bare_scene}
-use Rattle.gql_exec.specs.Counting.{answers_of, CountsAnswers, CountsOf, CountsOn, CountsTasks, tasks_by}
-use Rattle.gql_exec.specs.Execution.{Ask, mutates}
+use Rattle.gql_exec.proofs.AdmittedLemmas.{never_both}
+use Rattle.gql_exec.proofs.ExecutionLemmas.{executes_by_root, executes_by_stage, refused_by_root, refused_by_stage}
+use Rattle.gql_exec.proofs.JoinedLemmas.{kept_is_written}
+use Rattle.gql_exec.specs.Admitted.{error_response, fault_response, IsAdmitted, IsRefused}
+use Rattle.gql_exec.specs.Counting.{counts_none, counts_scene, CountsTasks}
+use Rattle.gql_exec.specs.Execution.{Ask}
+use Rattle.gql_exec.specs.Joined.{answers_by, mutates, tasks_by}
 use Rattle.gql_exec.specs.Ready.{IsMadeReady}
+use Rattle.gql_exec.specs.Response.{asks_all, asks_none, Counts}
 use Rattle.gql_exec.specs.Root.{root_for}
-use Rattle.gql_exec.specs.Scene.{scene_for}
-use Rattle.gql_admit.specs.Prepared.{Prepared}
+use Rattle.gql_exec.specs.Scene.{IsSceneOf, scene_for}
 use Rattle.gql_meaning.specs.Counted.{count_as, total}
 use Rattle.gql_collect.specs.Execution.{Execution, setting_in}
-use Rattle.gql_meaning.specs.Responses.{world_after}
+use Rattle.gql_meaning.specs.Responses.{levels_beneath, world_after}
+use Rattle.gql_meaning.specs.Served.{Served, served_by}
 use Rattle.gql_engine.proofs.KeyCountLemmas.{serial_count_is}
 use Rattle.gql_engine.proofs.TaskCountLemmas.{merged_count_is}
 use Rattle.gql_engine.specs.TaskCounts.{count_by, serial_count_by}
 use Rattle.gql_collect.specs.GroupFields.{groups_by}
 use Rattle.gql_engine.specs.ExecuteQuery.{basis_by, root_selections, root_spot}
-use Rattle.gql_engine.specs.ExecuteMutation.{levels_beneath, root_asked}
+use Rattle.gql_engine.specs.ExecuteMutation.{root_asked}
 use Rattle.gql_collect.specs.declared.basis.Grouping.{Grouping}
 use Rattle.gql_collect.specs.declared.basis.Grouping.TheVariants as grouping
 use Rattle.gql_request.specs.QueryEnv.{levels_of}
@@ -57,41 +63,62 @@ module _ {V : Type 0} (by : Grouping) (scene : Scene V) where
     pub serial-count-bare : (world : W) (n : ℕ) → serial_count_by (bare_scene scene) answer effect world n by ≡ serial_count_by scene answer effect world n by
     serial-count-bare world n = ap (serial_knowing world n) (execution-bare (basis_by by scene))
 
-module _ {R Own World Future : Type 0} (set : Resolving R Own World Future) (old : R) where
-  pub tasks-bare : (by : Grouping) (mutation : Bool) (scene : Scene Own) → tasks_by set old by mutation (bare_scene scene) ≡ tasks_by set old by mutation scene
-  tasks-bare by true scene = serial-count-bare by scene (set.answer (set.rules old)) (set.effect (set.rules old)) (set.world old) (levels_of scene.env.now)
-  tasks-bare by false scene = count-bare by scene (due_by set old) (levels_of scene.env.now)
+module _ {V W : Type 0} (served : Served V W) where
+  pub tasks-bare : (by : Grouping) (mutation : Bool) (scene : Scene V) → tasks_by served by mutation (bare_scene scene) ≡ tasks_by served by mutation scene
+  tasks-bare by true scene = serial-count-bare by scene served.answer served.effect served.world (levels_of scene.env.now)
+  tasks-bare by false scene = count-bare by scene (λ call. served.answer call served.world) (levels_of scene.env.now)
 
   -- each key of a set is asked once
-  tasks_are : (mutation : Bool) (scene : Scene Own) → tasks_by set old grouping.ByKey mutation scene ≡ answers_of set old mutation scene
-  tasks_are true scene = serial_count_is scene (set.answer (set.rules old)) (set.effect (set.rules old)) (set.world old) (levels_of scene.env.now)
-  tasks_are false scene = merged_count_is scene (due_by set old) (levels_of scene.env.now)
+  tasks_are : (mutation : Bool) (scene : Scene V) → tasks_by served grouping.ByKey mutation scene ≡ answers_by served mutation scene
+  tasks_are true scene = serial_count_is scene served.answer served.effect served.world (levels_of scene.env.now)
+  tasks_are false scene = merged_count_is scene (λ call. served.answer call served.world) (levels_of scene.env.now)
 
-  module _ (ask : Ask Own) (steps steps' : ℕ) where
-    counts_on : (env : QueryEnv) (root : Result Object (List ℕ)) → CountsOn set old ask (tasks_by set old grouping.ByKey) steps steps' env root
-        → CountsOn set old ask (answers_of set old) steps steps' env root
-    counts_on env (Ok object) counts = λ lawful.
-        let scene : Scene Own = scene_for ask.schema ask.request env object in
-        counts lawful ∙ ap (λ n. steps + n) (tasks_are (mutates scene) scene)
-    counts_on env (Err text) counts = counts
+module _ {R Own World Future : Type 0} (set : Resolving R Own World Future) (old : R) (ask : Ask Own) (steps steps' : ℕ) where
+  -- as many steps as tasks are as many as answers
+  answers : set.is_lawful old → CountsTasks set old grouping.ByKey ask steps steps' → Counts ask.schema ask.request (served_by set old) steps steps'
+  answers lawful (counts_none response is same) = let e : steps' ≡ steps = same in (0, asks_none response is refl, omega arith)
+  answers lawful (counts_scene scene of_it counted) =
+      let served : Served Own World = served_by set old in
+      let joined = kept_is_written ask.schema ask.request scene served of_it in
+      (
+        answers_by served (mutates scene) scene,
+        asks_all joined.0 joined.1.asked,
+        counted lawful ∙ ap (λ n. steps + n) (tasks_are served (mutates scene) scene),
+      )
 
-    counts_of : (outcome : Prepared) → CountsOf set old ask (tasks_by set old grouping.ByKey) steps steps' outcome → CountsOf set old ask (answers_of set old) steps steps' outcome
-    counts_of (Ok env) counts = counts_on env (root_for ask.schema env.operation.node.ty) counts
-    counts_of (Err errors) counts = counts
+  pub counts_answers : {E : Type 0} → set.is_lawful old → (result : Result Response E) → OnOk result (CountsTasks set old grouping.ByKey ask steps steps')
+      → OnOk result (Counts ask.schema ask.request (served_by set old) steps steps')
+  counts_answers lawful (Ok response) counted = answers lawful counted
+  counts_answers lawful (Err want) counted = tt
 
-    pub counts_answers : CountsTasks set old grouping.ByKey ask steps steps' → CountsAnswers set old ask steps steps'
-    counts_answers counts = record { outcome = counts.outcome; ready = counts.ready; counts = counts_of counts.outcome counts.counts }
+  -- of a request that is refused none is taken
+  none-taken : (by : Grouping) (refusal : Response) → IsRefused ask.schema ask.request.inner refusal → CountsTasks set old by ask steps steps' → steps' ≡ steps
+  none-taken by refusal is (counts_none response also same) = same
+  none-taken by refusal is (counts_scene scene of_it counted) =
+      absurd (never_both ask.schema ask.request.inner refusal is (kept_is_written ask.schema ask.request scene (served_by set old) of_it).0)
 
-  module _ (by : Grouping) (ask : Ask Own) (steps steps' : ℕ) (env : QueryEnv) (object : Object) (scene : Scene Own)
-      (ready : IsMadeReady ask.schema ask.request.inner (Ok env)) (root : root_for ask.schema env.operation.node.ty ≡ Ok object)
-      (same : bare_scene scene ≡ scene_for ask.schema ask.request env object) where
-    pub counts_tasks : {E : Type 0} (result : Result Response E) → (set.is_lawful old → OnOk result (steps' ≡ steps + tasks_by set old by (mutates scene) scene))
+  pub counts_no_refusal : {E : Type 0} (by : Grouping) (refusal : Response) → IsRefused ask.schema ask.request.inner refusal → (result : Result Response E)
+      → OnOk result (CountsTasks set old by ask steps steps') → OnOk result (steps' ≡ steps)
+  counts_no_refusal by refusal is (Ok response) counted = none-taken by refusal is counted
+  counts_no_refusal by refusal is (Err want) counted = tt
+
+  module _ (by : Grouping) (scene : Scene Own) (is_of : IsSceneOf ask.schema ask.request (bare_scene scene)) where
+    pub counts_tasks : {E : Type 0} (result : Result Response E)
+        → (set.is_lawful old → OnOk result (steps' ≡ steps + tasks_by (served_by set old) by (mutates scene) scene))
         → OnOk result (CountsTasks set old by ask steps steps')
-    counts_tasks (Ok response) counted = record {
-      outcome = Ok env;
-      ready = ready;
-      counts = subst (CountsOn set old ask (tasks_by set old by) steps steps' env) (sym root)
-          (λ lawful. subst (λ (s : Scene Own). steps' ≡ steps + tasks_by set old by (mutates s) s) same
-          (counted lawful ∙ ap (λ n. steps + n) (sym (tasks-bare by (mutates scene) scene))));
-    }
+    counts_tasks (Ok response) counted = counts_scene (bare_scene scene) is_of
+        (λ lawful. counted lawful ∙ ap (λ n. steps + n) (sym (tasks-bare (served_by set old) by (mutates scene) scene)))
     counts_tasks (Err want) counted = tt
+
+module _ {R Own World Future : Type 0} (set : Resolving R Own World Future) (old : R) (by : Grouping) (ask : Ask Own) (steps : ℕ) where
+  pub counts_by_stage : (errors : List ServerError) → IsMadeReady ask.schema ask.request.inner (Err errors) → CountsTasks set old by ask steps steps
+  counts_by_stage errors ready =
+      counts_none (error_response errors) (refused_by_stage ask.schema ask.request.inner errors (error_response errors) ready refl) refl
+
+  pub counts_by_root : (env : QueryEnv) (text : List ℕ) → IsMadeReady ask.schema ask.request.inner (Ok env)
+      → root_for ask.schema env.operation.node.ty ≡ Err text → CountsTasks set old by ask steps steps
+  counts_by_root env text ready root =
+      counts_none (fault_response text) (refused_by_root ask.schema ask.request.inner env text (fault_response text) ready root refl) refl
+
+-- what comes of a request that is refused
+pub ruleset refusals = (executes_by_stage, executes_by_root, counts_by_stage, counts_by_root)

@@ -3,8 +3,10 @@ use Rattle.std.proofs.Common.{◌≡◌, ◌<◌, ◌↔◌, Bool, true, false, 
 use Rattle.std.proofs.Props.{props}
 use mathlib.Core.HLevel.{is_prop→PathP}
 use Rattle.std.below.core.specs.declared.int.usize.TheConstants.{MAX}
+use Rattle.gql_schema.specs.Keyed.{IsKeyed}
 use Rattle.gql_schema.specs.Sound.{IsSound}
 use Rattle.gql_schema.specs.Table.{types_of}
+use Rattle.gql_schema.specs.Types.{type_name}
 use Rattle.gql_schema.specs.declared.types.Types.{Types}
 use Rattle.gql_exec.specs.Schema.{settings_of, types_in}
 use Rattle.gql_exec.specs.declared.schema.Schema.{Schema}
@@ -18,6 +20,7 @@ same_parts one other types settings = λ i. record {
   types = types i;
   settings = settings i;
   is_sound = is_prop→PathP (λ j. ∥ IsSound (types_of (types j)) ∥₁) (λ j. hlevel props) one.is_sound other.is_sound i;
+  is_keyed = is_prop→PathP (λ j. IsKeyed type_name (types_of (types j))) (λ j. hlevel props) one.is_keyed other.is_keyed i;
   is_limited = is_prop→PathP (λ j. (settings j).depth < MAX) (λ j. hlevel props) one.is_limited other.is_limited i;
 }
 

@@ -1,7 +1,9 @@
 -- The scene of an execution, of plain data: what a reference shows is all that matters of it.
-use Rattle.std.specs.Prelude.{[], None}
+use Rattle.std.specs.Prelude.{◌≡◌, [], None, Ok}
 use Rattle.std.specs.Borrow.{Bor}
 use Rattle.gql_engine.specs.declared.scene.Scene.{Scene}
+use Rattle.gql_exec.specs.Ready.{IsMadeReady}
+use Rattle.gql_exec.specs.Root.{root_for}
 use Rattle.gql_exec.specs.Schema.{settings_of, types_in}
 use Rattle.gql_settings.specs.Settings.{entities_for}
 use Rattle.gql_exec.specs.declared.dynamic_request.DynamicRequest.{DynamicRequest}
@@ -32,3 +34,12 @@ scene_for schema request env object = record {
   };
   serial = is_mutation env.operation.node.ty;
 }
+
+-- the scene of an admitted request: what was kept of its operation, and the object at the root
+pub record IsSceneOf {V : Type 0} (schema : Schema) (request : DynamicRequest V) (scene : Scene V)
+    : Type 0 where
+  pub env : QueryEnv
+  pub object : Object
+  pub ready : IsMadeReady schema request.inner (Ok env)
+  pub root : root_for schema env.operation.node.ty ≡ Ok object
+  pub is : scene ≡ scene_for schema request env object

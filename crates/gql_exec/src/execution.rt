@@ -1,18 +1,22 @@
 //! The execution of requests (GraphQL, October 2021, section 6).
 ghost use Rattle.std.specs.Prelude.{◌≡◌, ◌+◌, ◌<◌, [], true, false, IfErr, IfOk, OnOk};
-ghost use Rattle.std.specs.Option.{ForSome};
 ghost use Rattle.gql_tasks.specs.Keeps.{Keeps, KeepsSet};
 ghost use Rattle.gql_tasks.specs.Progress.{seen, seen_in};
 ghost use Rattle.gql_tasks.specs.Steps.{IsCounted};
+ghost use Rattle.gql_exec.specs.Admitted.{fault_response, IsRefused};
 ghost use Rattle.gql_exec.specs.Bare.{bare_scene};
-ghost use Rattle.gql_exec.specs.Counting.{CountsAnswers, CountsTasks, tasks_by};
-ghost use Rattle.gql_exec.specs.Execution.{asks, Executes, ExecutesApart, ExecutesAs};
-ghost use Rattle.gql_exec.specs.Execution.{fault_response, HaltsAs, mutates, RunsAs, Stops};
-ghost use Rattle.gql_exec.specs.Execution.{StopsApart, StopsAs};
+ghost use Rattle.gql_exec.specs.Counting.{CountsTasks};
+ghost use Rattle.gql_exec.specs.Execution.{asks, ExecutesAs, HaltsAs, RunsAs, StopsAs, TellsAs};
+ghost use Rattle.gql_exec.specs.Joined.{mutates, tasks_by};
+ghost use Rattle.gql_exec.specs.Response.{Counts, IsResponseTo, IsWorldAfter};
 ghost use Rattle.gql_exec.specs.Scene.{scene_for};
-ghost use Rattle.gql_exec.specs.SchemaOnly.{is_schema_only, StartsNone};
+ghost use Rattle.gql_exec.specs.SchemaOnly.{is_schema_only};
 ghost use Rattle.gql_engine.specs.ExecuteQuery.{AgreesInside};
+ghost use Rattle.gql_collect.specs.Basis.{is_introspection_only};
+ghost use Rattle.gql_collect.specs.declared.basis.Grouping.TheVariants as grouping;
+ghost use Rattle.gql_meaning.specs.Served.{served_by};
 ghost use Rattle.gql_request.specs.QueryEnv.{levels_of};
+ghost use Rattle.gql_request.specs.declared.response.Response.{Response as OneResponse};
 
 use crate::dynamic_request::DynamicRequest;
 use crate::place_response::response_of;
@@ -30,8 +34,11 @@ use std::marker::Brand;
 use std::sync::ledger::{Blank, Ledger};
 
 impl Schema {
-    /// The response to a request, over a resolver set. Each key of an object is one task, and the
-    /// tasks take the turns that are chosen for them.
+    /// The response to a request, over a resolver set. Over a lawful set it is the response of
+    /// merged execution, and the world is the one after it, whatever the turns are. A request that
+    /// is refused has the errors of the first stage that it breaks, and leaves every set and all
+    /// turns as they were. `NoMemory` tells of how many root keys of a mutation the effects stand.
+    /// Hooks do nothing yet.
     pub fn execute<R: ResolverSet, P: Turns>(
         &self,
         alloc: Global,
@@ -40,16 +47,23 @@ impl Schema {
         request: &DynamicRequest<R::Own>,
         turns: &mut P,
     ) -> Result<Response, NoMemory>
-        ensures executed { IfOk result (Executes R.ResolverSet P.Turns
+        ensures response { R.is_lawful resolvers.old → IfOk result (IsResponseTo self.now
+            request.now (served_by R.ResolverSet resolvers.old)) }
+        ensures world { R.is_lawful resolvers.old → OnOk result (IsWorldAfter self.now
+            request.now (served_by R.ResolverSet resolvers.old) (R.world resolvers.new)) }
+        ensures refused { (refusal : OneResponse) → IsRefused self.now request.now.inner refusal
+            → IfOk result (λ response. response ≡ refusal) }
+        ensures untouched { (refusal : OneResponse) → IsRefused self.now request.now.inner refusal
+            → (resolvers.new ≡ resolvers.old) × (turns.new ≡ turns.old) }
+        ensures record { R.is_lawful resolvers.old → OnOk result (TellsAs R.ResolverSet P.Turns
             (seen resolvers.old turns.old) (seen resolvers.new turns.new)
-            (asks self.now request.now)) }
-        ensures stopped { IfErr result (λ want. Stops R.ResolverSet P.Turns
+            (asks self.now request.now) grouping.ByKey) }
+        ensures stopped { IfErr result (λ want. StopsAs R.ResolverSet P.Turns
             (seen resolvers.old turns.old) (seen resolvers.new turns.new)
-            (asks self.now request.now) want.roots) }
+            (asks self.now request.now) grouping.ByKey want.roots) }
         ensures keeps { KeepsSet R.ResolverSet resolvers.old resolvers.new }
-        ensures starts { is_schema_only self.now request.now.inner ≡ true
-            → R.is_lawful resolvers.old → ForSome (P.state turns.old) (λ s. OnOk result
-            (StartsNone R.ResolverSet resolvers.old resolvers.new)) }
+        ensures idle { is_schema_only self.now request.now.inner ≡ true
+            → (resolvers.new ≡ resolvers.old) × (turns.new ≡ turns.old) }
     {
         let by = Grouping::ByKey;
         let blank = Blank::new(1);
@@ -66,23 +80,69 @@ impl Schema {
         request: &DynamicRequest<R::Own>,
         turns: &mut P,
     ) -> Result<Response, NoMemory>
-        ensures executed { IfOk result (ExecutesApart R.ResolverSet P.Turns
+        ensures response { R.is_lawful resolvers.old → IfOk result (IsResponseTo self.now
+            request.now (served_by R.ResolverSet resolvers.old)) }
+        ensures world { R.is_lawful resolvers.old → OnOk result (IsWorldAfter self.now
+            request.now (served_by R.ResolverSet resolvers.old) (R.world resolvers.new)) }
+        ensures refused { (refusal : OneResponse) → IsRefused self.now request.now.inner refusal
+            → IfOk result (λ response. response ≡ refusal) }
+        ensures untouched { (refusal : OneResponse) → IsRefused self.now request.now.inner refusal
+            → (resolvers.new ≡ resolvers.old) × (turns.new ≡ turns.old) }
+        ensures record { R.is_lawful resolvers.old → OnOk result (TellsAs R.ResolverSet P.Turns
             (seen resolvers.old turns.old) (seen resolvers.new turns.new)
-            (asks self.now request.now)) }
-        ensures stopped { IfErr result (λ want. StopsApart R.ResolverSet P.Turns
+            (asks self.now request.now) grouping.Each) }
+        ensures stopped { IfErr result (λ want. StopsAs R.ResolverSet P.Turns
             (seen resolvers.old turns.old) (seen resolvers.new turns.new)
-            (asks self.now request.now) want.roots) }
+            (asks self.now request.now) grouping.Each want.roots) }
         ensures keeps { KeepsSet R.ResolverSet resolvers.old resolvers.new }
-        ensures starts { is_schema_only self.now request.now.inner ≡ true
-            → R.is_lawful resolvers.old → ForSome (P.state turns.old) (λ s. OnOk result
-            (StartsNone R.ResolverSet resolvers.old resolvers.new)) }
+        ensures idle { is_schema_only self.now request.now.inner ≡ true
+            → (resolvers.new ≡ resolvers.old) × (turns.new ≡ turns.old) }
     {
         let by = Grouping::Each;
         let blank = Blank::new(1);
         self.execute_on::<R, P, Brand>(alloc, by, resolvers, hooks, request, turns, blank)
     }
 
-    /// The same with steps that nobody looks at, where occurrences are grouped so.
+    /// What `execute` does, where each start of a resolver that answered is a step: over a lawful
+    /// set as many steps are taken as merged execution asks answers, and none for a request that is
+    /// refused.
+    pub fn execute_counted<R: ResolverSet, P: Turns, S: Ledger>(
+        &self,
+        alloc: Global,
+        resolvers: &mut R,
+        hooks: &mut Hooks,
+        request: &DynamicRequest<R::Own>,
+        turns: &mut P,
+        steps: &mut Steps<S>,
+    ) -> Result<Response, NoMemory>
+        ensures response { R.is_lawful resolvers.old → IfOk result (IsResponseTo self.now
+            request.now (served_by R.ResolverSet resolvers.old)) }
+        ensures world { R.is_lawful resolvers.old → OnOk result (IsWorldAfter self.now
+            request.now (served_by R.ResolverSet resolvers.old) (R.world resolvers.new)) }
+        ensures refused { (refusal : OneResponse) → IsRefused self.now request.now.inner refusal
+            → IfOk result (λ response. response ≡ refusal) }
+        ensures untouched { (refusal : OneResponse) → IsRefused self.now request.now.inner refusal
+            → (resolvers.new ≡ resolvers.old) × (turns.new ≡ turns.old)
+            × OnOk result (steps.new ≡ steps.old) }
+        ensures record { R.is_lawful resolvers.old → OnOk result (TellsAs R.ResolverSet P.Turns
+            (seen resolvers.old turns.old) (seen resolvers.new turns.new)
+            (asks self.now request.now) grouping.ByKey) }
+        ensures stopped { IfErr result (λ want. StopsAs R.ResolverSet P.Turns
+            (seen resolvers.old turns.old) (seen resolvers.new turns.new)
+            (asks self.now request.now) grouping.ByKey want.roots) }
+        ensures keeps { KeepsSet R.ResolverSet resolvers.old resolvers.new }
+        ensures idle { is_schema_only self.now request.now.inner ≡ true
+            → (resolvers.new ≡ resolvers.old) × (turns.new ≡ turns.old) }
+        ensures counted { IsCounted (R.begun resolvers.old) (R.begun resolvers.new)
+            steps.old steps.new }
+        ensures asked { R.is_lawful resolvers.old → OnOk result (Counts self.now request.now
+            (served_by R.ResolverSet resolvers.old) steps.old steps.new) }
+    {
+        self.execute_by_key(alloc, resolvers, hooks, request, turns, steps)
+    }
+
+    /// What `execute` and `execute_apart` do, with steps that nobody looks at, where occurrences
+    /// are grouped so.
     fn execute_on<R: ResolverSet, P: Turns, S: Ledger>(
         &self,
         alloc: Global,
@@ -103,15 +163,16 @@ impl Schema {
             (seen resolvers.old turns.old) (seen resolvers.new turns.new)
             (asks self.now request.now) by want.roots) }
         ensures keeps { KeepsSet R.ResolverSet resolvers.old resolvers.new }
+        ensures idle { is_schema_only self.now request.now.inner ≡ true
+            → seen resolvers.new turns.new ≡ seen resolvers.old turns.old }
     {
         let mut steps: Steps<S> = Steps::new(blank);
         let mut run = Run::over(resolvers, hooks, turns, &mut steps);
         self.execute_grouped(alloc, by, request, &mut run)
     }
 
-    /// What `execute` does, where each start of a resolver that answered is a step: over a lawful
-    /// set, as many steps are taken as the request asks answers.
-    pub fn execute_counted<R: ResolverSet, P: Turns, S: Ledger>(
+    /// What `execute_counted` does, by its tasks.
+    fn execute_by_key<R: ResolverSet, P: Turns, S: Ledger>(
         &self,
         alloc: Global,
         resolvers: &mut R,
@@ -120,43 +181,27 @@ impl Schema {
         turns: &mut P,
         steps: &mut Steps<S>,
     ) -> Result<Response, NoMemory>
-        ensures executed { IfOk result (Executes R.ResolverSet P.Turns
+        ensures executed { IfOk result (ExecutesAs R.ResolverSet P.Turns
             (seen resolvers.old turns.old) (seen resolvers.new turns.new)
-            (asks self.now request.now)) }
-        ensures stopped { IfErr result (λ want. Stops R.ResolverSet P.Turns
+            (asks self.now request.now) grouping.ByKey) }
+        ensures stopped { IfErr result (λ want. StopsAs R.ResolverSet P.Turns
             (seen resolvers.old turns.old) (seen resolvers.new turns.new)
-            (asks self.now request.now) want.roots) }
+            (asks self.now request.now) grouping.ByKey want.roots) }
         ensures keeps { KeepsSet R.ResolverSet resolvers.old resolvers.new }
         ensures counted { IsCounted (R.begun resolvers.old) (R.begun resolvers.new)
             steps.old steps.new }
-        ensures asked { OnOk result (CountsAnswers R.ResolverSet resolvers.old
+        ensures asked { OnOk result (CountsTasks R.ResolverSet resolvers.old grouping.ByKey
             (asks self.now request.now) steps.old steps.new) }
+        ensures idle { is_schema_only self.now request.now.inner ≡ true
+            → seen resolvers.new turns.new ≡ seen resolvers.old turns.old }
     {
         let mut run = Run::over(resolvers, hooks, turns, steps);
-        self.execute_by_key(alloc, request, &mut run)
-    }
-
-    /// What `execute_counted` does, over what is lent as one value.
-    fn execute_by_key<R: ResolverSet, P: Turns, S: Ledger>(
-        &self,
-        alloc: Global,
-        request: &DynamicRequest<R::Own>,
-        run: &mut Run<'_, R, Hooks, P, S>,
-    ) -> Result<Response, NoMemory>
-        ensures executed { IfOk result (Executes R.ResolverSet P.Turns
-            (seen_in run.old) (seen_in run.new) (asks self.now request.now)) }
-        ensures stopped { IfErr result (λ want. Stops R.ResolverSet P.Turns
-            (seen_in run.old) (seen_in run.new) (asks self.now request.now) want.roots) }
-        ensures keeps { Keeps R.ResolverSet ⟦<Hooks as Rounds>⟧ run.old run.new }
-        ensures asked { OnOk result (CountsAnswers R.ResolverSet run.old.set.now
-            (asks self.now request.now) run.old.steps.now run.new.steps.now) }
-    {
-        self.execute_grouped(alloc, Grouping::ByKey, request, run)
+        self.execute_grouped(alloc, Grouping::ByKey, request, &mut run)
     }
 
     /// The response to a request, where occurrences are grouped so, and each start of a resolver
     /// that answered is a step.
-    #[tactic(auto, using(gql_tasks::proofs::KeepsLemmas::keeps_none))]
+    #[tactic(auto, using(gql_tasks::proofs::KeepsLemmas::keeps_none, crate::proofs::CountingLemmas::refusals))]
     fn execute_grouped<R: ResolverSet, P: Turns, S: Ledger>(
         &self,
         alloc: Global,
@@ -171,9 +216,8 @@ impl Schema {
         ensures keeps { Keeps R.ResolverSet ⟦<Hooks as Rounds>⟧ run.old run.new }
         ensures asked { OnOk result (CountsTasks R.ResolverSet run.old.set.now by
             (asks self.now request.now) run.old.steps.now run.new.steps.now) }
+        ensures idle { is_schema_only self.now request.now.inner ≡ true → run.new ≡ run.old }
     {
-        // (asking the number shows that no type is there twice)
-        let _count = self.types().len();
         match self.prepared(alloc, &request.inner)? {
             Ok(env) => match self.root_for(env.operation.node.ty) {
                 Ok(object) => {
@@ -243,7 +287,9 @@ fn respond<R: ResolverSet, P: Turns, S: Ledger>(
     ensures keeps { Keeps R.ResolverSet ⟦<Hooks as Rounds>⟧ run.old run.new }
     ensures asked { R.is_lawful run.old.set.now → OnOk result (run.new.steps.now
         ≡ run.old.steps.now
-        + tasks_by R.ResolverSet run.old.set.now by (mutates scene.now) scene.now) }
+        + tasks_by (served_by R.ResolverSet run.old.set.now) by (mutates scene.now) scene.now) }
+    ensures idle { is_introspection_only scene.now.env.now.introspection_mode ≡ true
+        → run.new ≡ run.old }
 {
     if scene.serial {
         respond_in_turn(alloc, by, scene, run)
@@ -268,7 +314,9 @@ fn respond_at_once<R: ResolverSet, P: Turns, S: Ledger>(
     ensures keeps { Keeps R.ResolverSet ⟦<Hooks as Rounds>⟧ run.old run.new }
     ensures asked { R.is_lawful run.old.set.now → OnOk result (run.new.steps.now
         ≡ run.old.steps.now
-        + tasks_by R.ResolverSet run.old.set.now by (mutates scene.now) scene.now) }
+        + tasks_by (served_by R.ResolverSet run.old.set.now) by (mutates scene.now) scene.now) }
+    ensures idle { is_introspection_only scene.now.env.now.introspection_mode ≡ true
+        → run.new ≡ run.old }
 {
     let place = run_grouped(alloc, by, scene, run)?;
     match response_of(alloc, place) {
@@ -293,7 +341,9 @@ fn respond_in_turn<R: ResolverSet, P: Turns, S: Ledger>(
     ensures keeps { Keeps R.ResolverSet ⟦<Hooks as Rounds>⟧ run.old run.new }
     ensures asked { R.is_lawful run.old.set.now → OnOk result (run.new.steps.now
         ≡ run.old.steps.now
-        + tasks_by R.ResolverSet run.old.set.now by (mutates scene.now) scene.now) }
+        + tasks_by (served_by R.ResolverSet run.old.set.now) by (mutates scene.now) scene.now) }
+    ensures idle { is_introspection_only scene.now.env.now.introspection_mode ≡ true
+        → run.new ≡ run.old }
 {
     let (place, roots) = run_mutation_grouped(alloc, by, scene, run)?;
     match response_of(alloc, place) {

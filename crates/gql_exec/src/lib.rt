@@ -6,6 +6,7 @@ mod batch;
 mod builder;
 mod dynamic_request;
 mod execution;
+pub mod laws;
 mod place_response;
 mod ready;
 mod root;

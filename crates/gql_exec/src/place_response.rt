@@ -1,7 +1,7 @@
 //! The response of a place.
 ghost use Rattle.std.specs.Prelude.{◌≡◌, [], IfOk};
 ghost use Rattle.gql_place.specs.Pieces.{place_in};
-ghost use Rattle.gql_exec.specs.PlaceResponse.{response_at};
+ghost use Rattle.gql_meaning.specs.PlaceResponse.{response_at};
 
 use gql_base::{ErrorExtensionValues, Items, Made, ServerError, Value};
 use gql_place::{Piece, Place, faults, header_ops, raise_moved};

@@ -2,8 +2,10 @@
 ghost use Rattle.std.specs.Prelude.{◌≡◌, ◌↔◌, ◌<◌, [], IsTrue, IfOk};
 ghost use Rattle.std.below.core.specs.declared.int.usize.TheConstants.{MAX};
 ghost use Rattle.std.specs.Option.{option_copied};
+ghost use Rattle.gql_schema.specs.Keyed.{IsKeyed};
 ghost use Rattle.gql_schema.specs.Sound.{IsSound};
 ghost use Rattle.gql_schema.specs.Table.{types_of};
+ghost use Rattle.gql_schema.specs.Types.{type_name};
 ghost use Rattle.gql_settings.specs.Settings.{new_settings, root_in, mode_for, entities_for};
 
 use gql_base::{Copied, Made, Text};
@@ -20,6 +22,7 @@ pub struct Schema {
     types: Types,
     settings: Settings,
     pub ghost is_sound: { ∥ IsSound (types_of types) ∥₁ },
+    pub ghost is_keyed: { IsKeyed type_name (types_of types) },
     pub ghost is_limited: { settings.depth < MAX },
 }
 
@@ -51,6 +54,8 @@ impl Schema {
         ensures types { types_in result ≡ types }
         ensures settings { settings_of result ≡ settings }
     {
+        // (asking the number shows that each type stands under its own name)
+        let _count = types.len();
         Schema { types, settings }
     }
 

@@ -3,12 +3,14 @@ use Rattle.gql_tasks.proofs.RootLemmas.{if_err}
 use Rattle.gql_tasks.specs.Parts.{due_by}
 use Rattle.gql_tasks.specs.Progress.{seen_in}
 use Rattle.gql_exec.proofs.BareLemmas.{response-bare, stopped-bare, whole-bare}
+use Rattle.gql_exec.proofs.SchemaOnlyLemmas.{no_query_task}
 use Rattle.gql_exec.proofs.ExecutionLemmas.{halts_by, response_same, runs_by}
 use Rattle.gql_engine.proofs.ApartLemmas.{alike_by}
 use Rattle.gql_exec.specs.Bare.{bare_scene}
-use Rattle.gql_exec.specs.Counting.{tasks_by}
 use Rattle.gql_exec.specs.Execution.{HaltsAs}
-use Rattle.gql_exec.specs.PlaceResponse.{response_at}
+use Rattle.gql_exec.specs.Joined.{tasks_by}
+use Rattle.gql_meaning.specs.PlaceResponse.{response_at}
+use Rattle.gql_meaning.specs.Served.{served_by}
 use Rattle.gql_collect.specs.GroupFields.{keeps_whole}
 use Rattle.gql_request.specs.QueryEnv.{levels_of}
 use Rattle.gql_exec.proofs.execution.respond_at_once.Goals as goal
@@ -48,4 +50,13 @@ returns-in-Ok-clause-asked g c = λ lawful.
     let scene = c.args.scene.now in
     let env = scene.env.now in
     c.in_ok-place.ensures.asked lawful tt (levels_of env) env.nests
-    ∙ ap (λ m. c.args.run.now.steps.now + tasks_by g.R.ResolverSet c.args.run.now.set.now c.args.by m scene) (sym c.requires.kind)
+    ∙ ap (λ m. c.args.run.now.steps.now + tasks_by (served_by g.R.ResolverSet c.args.run.now.set.now) c.args.by m scene) (sym c.requires.kind)
+
+pub returns-in_err-place-clause-idle : goal.returns-in_err-place-clause-idle
+returns-in_err-place-clause-idle g c = λ only. c.in_err-place.ensures.idle (no_query_task c.args.by c.args.scene.now only)
+
+pub returns-in-Err-clause-idle : goal.returns-in-Err-clause-idle
+returns-in-Err-clause-idle g c = λ only. c.in_ok-place.ensures.idle (no_query_task c.args.by c.args.scene.now only)
+
+pub returns-in-Ok-clause-idle : goal.returns-in-Ok-clause-idle
+returns-in-Ok-clause-idle g c = λ only. c.in_ok-place.ensures.idle (no_query_task c.args.by c.args.scene.now only)

@@ -1,10 +1,36 @@
-use Rattle.gql_tasks.specs.Progress.{seen}
-use Rattle.gql_exec.proofs.SchemaOnlyLemmas.{starts_ok}
+use Rattle.std.proofs.Common.{ap}
+use Rattle.gql_tasks.specs.Progress.{Seen, seen}
+use Rattle.gql_exec.proofs.ExecutionLemmas.{leaves, refuses, responds, tells, untouched}
 use Rattle.gql_exec.specs.Execution.{asks}
 use Rattle.gql_collect.specs.declared.basis.Grouping.TheVariants as grouping
 use Rattle.gql_exec.proofs.schema.Schema.execute_apart.Goals as goal
 
-pub returns-clause-starts : goal.returns-clause-starts
-returns-clause-starts g c = λ only lawful s tells.
-    starts_ok g.R.ResolverSet g.P.Turns (seen c.args.resolvers.now c.args.turns.now) (seen c.execute_on.new.resolvers c.execute_on.new.turns)
-    s tells grouping.Each (asks c.args.self.now c.args.request.now) lawful only c.execute_on.result c.execute_on.ensures.executed
+pub returns-clause-response : goal.returns-clause-response
+returns-clause-response g c = λ lawful.
+    responds g.R.ResolverSet g.P.Turns (seen c.args.resolvers.now c.args.turns.now) (seen c.execute_on.new.resolvers c.execute_on.new.turns)
+    (asks c.args.self.now c.args.request.now) grouping.Each lawful c.execute_on.result c.execute_on.ensures.executed
+
+pub returns-clause-world : goal.returns-clause-world
+returns-clause-world g c = λ lawful.
+    leaves g.R.ResolverSet g.P.Turns (seen c.args.resolvers.now c.args.turns.now) (seen c.execute_on.new.resolvers c.execute_on.new.turns)
+    (asks c.args.self.now c.args.request.now) grouping.Each lawful c.execute_on.result c.execute_on.ensures.executed
+
+pub returns-clause-refused : goal.returns-clause-refused
+returns-clause-refused g c = λ refusal is.
+    refuses g.R.ResolverSet g.P.Turns (seen c.args.resolvers.now c.args.turns.now) (seen c.execute_on.new.resolvers c.execute_on.new.turns)
+    (asks c.args.self.now c.args.request.now) grouping.Each refusal is c.execute_on.result c.execute_on.ensures.executed
+
+pub returns-clause-untouched : goal.returns-clause-untouched
+returns-clause-untouched g c = λ refusal is.
+    untouched g.R.ResolverSet g.P.Turns (seen c.args.resolvers.now c.args.turns.now) (seen c.execute_on.new.resolvers c.execute_on.new.turns)
+    (asks c.args.self.now c.args.request.now) grouping.Each refusal is c.execute_on.result c.execute_on.ensures.executed c.execute_on.ensures.stopped
+
+pub returns-clause-record : goal.returns-clause-record
+returns-clause-record g c = λ lawful.
+    tells g.R.ResolverSet g.P.Turns (seen c.args.resolvers.now c.args.turns.now) (seen c.execute_on.new.resolvers c.execute_on.new.turns)
+    (asks c.args.self.now c.args.request.now) grouping.Each lawful c.execute_on.result c.execute_on.ensures.executed
+
+pub returns-clause-idle : goal.returns-clause-idle
+returns-clause-idle g c = λ only.
+    let same = c.execute_on.ensures.idle only in
+    (ap (λ (m : Seen _ _). m.set) same, ap (λ (m : Seen _ _). m.turns) same)

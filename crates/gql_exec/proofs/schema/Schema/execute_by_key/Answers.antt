@@ -1,9 +1,27 @@
-use Rattle.std.proofs.lemmas.Result.{IfOk-weaker}
-use Rattle.gql_exec.proofs.CountingLemmas.{counts_answers}
+use Rattle.std.proofs.Common.{rules, OnOk, ap, subst, ◌≡◌, ◌∙◌}
+use Rattle.gql_tasks.specs.Progress.{seen, seen_in}
+use Rattle.gql_exec.specs.Counting.{CountsTasks}
 use Rattle.gql_exec.specs.Execution.{asks}
+use Rattle.gql_collect.specs.declared.basis.Grouping.TheVariants as grouping
 use Rattle.gql_exec.proofs.schema.Schema.execute_by_key.Goals as goal
 
 pub returns-clause-asked : goal.returns-clause-asked
 returns-clause-asked g c =
-    IfOk-weaker c.execute_grouped.result _ _ (λ response counts. counts_answers g.R.ResolverSet c.args.run.now.set.now (asks c.args.self.now c.args.request.now)
-    c.args.run.now.steps.now c.execute_grouped.new.run.steps.now counts) c.execute_grouped.ensures.asked
+    let asked = asks c.args.self.now c.args.request.now in
+    let set = g.R.ResolverSet in
+    subst
+    (λ resolvers. OnOk c.execute_grouped.result (CountsTasks set resolvers.now grouping.ByKey asked c.args.steps.now c.steps-1.given.0))
+    c.over-run.ensures.set
+    (subst
+    (λ steps. OnOk c.execute_grouped.result (CountsTasks set c.over-run.result.set.now grouping.ByKey asked steps.now c.steps-1.given.0))
+    c.over-run.ensures.steps
+    (subst
+    (λ steps. OnOk c.execute_grouped.result (CountsTasks set c.over-run.result.set.now grouping.ByKey asked c.over-run.result.steps.now steps))
+    (search rules)
+    c.execute_grouped.ensures.asked))
+
+pub returns-clause-idle : goal.returns-clause-idle
+returns-clause-idle g c = λ only. ap seen_in (c.execute_grouped.ensures.idle only) ∙ lent
+  where
+    lent : seen_in c.over-run.result ≡ seen c.args.resolvers.now c.args.turns.now
+    lent = λ i. seen (c.over-run.ensures.set i).now (c.over-run.ensures.turns i).now

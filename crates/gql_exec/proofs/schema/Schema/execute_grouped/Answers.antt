@@ -1,13 +1,9 @@
-use Rattle.std.proofs.Common.{subst}
 use Rattle.gql_tasks.specs.Progress.{seen_in}
-use Rattle.gql_exec.proofs.AgreeLemmas.{agrees_ready}
+use Rattle.gql_exec.proofs.JoinedLemmas.{agrees_ready}
 use Rattle.gql_exec.proofs.CountingLemmas.{counts_tasks}
 use Rattle.gql_exec.proofs.ExecutionLemmas.{executes, halts}
+use Rattle.gql_exec.proofs.SchemaOnlyLemmas.{scene_only}
 use Rattle.gql_exec.specs.Execution.{asks}
-use Rattle.gql_schema.specs.Keyed.{IsKeyed}
-use Rattle.gql_schema.specs.Table.{types_of}
-use Rattle.gql_schema.specs.Types.{type_name}
-use Rattle.gql_schema.specs.declared.types.Types.{Types}
 use Rattle.gql_exec.proofs.schema.Schema.execute_grouped.Goals as goal
 
 pub returns-in-Ok-root_for-clause-executed : goal.returns-in-Ok-root_for-clause-executed
@@ -34,13 +30,24 @@ returns-in-Ok-root_for-clause-stopped g c =
 
 pub respond-requires-clause-agrees : goal.respond-requires-clause-agrees
 respond-requires-clause-agrees g c =
-    let keyed = subst (λ (types : Types). IsKeyed type_name (types_of types)) c.types.ensures.types c.len-count.ensures.keyed in
     agrees_ready c.args.self.now c.args.request.now c.in-Ok.env c.in-Ok-root_for.object.now c.scene-scene.result
-    (rw c.in-Ok.is at c.in_ok-env.ensures) keyed (rw c.in-Ok-root_for.is at c.root_for.ensures) c.scene-scene.ensures.shows
+    (rw c.in-Ok.is at c.in_ok-env.ensures) (rw c.in-Ok-root_for.is at c.root_for.ensures) c.scene-scene.ensures.shows
 
 pub returns-in-Ok-root_for-clause-asked : goal.returns-in-Ok-root_for-clause-asked
 returns-in-Ok-root_for-clause-asked g c =
-    counts_tasks g.R.ResolverSet c.args.run.now.set.now c.args.by (asks c.args.self.now c.args.request.now) c.args.run.now.steps.now c.respond.new.run.steps.now
-    c.in-Ok.env c.in-Ok-root_for.object.now c.scene-scene.result
-    (rw c.in-Ok.is at c.in_ok-env.ensures) (rw c.in-Ok-root_for.is at c.root_for.ensures) c.scene-scene.ensures.shows
+    counts_tasks g.R.ResolverSet c.args.run.now.set.now (asks c.args.self.now c.args.request.now) c.args.run.now.steps.now c.respond.new.run.steps.now
+    c.args.by c.scene-scene.result
+    record {
+      env = c.in-Ok.env;
+      object = c.in-Ok-root_for.object.now;
+      ready = rw c.in-Ok.is at c.in_ok-env.ensures;
+      root = rw c.in-Ok-root_for.is at c.root_for.ensures;
+      is = c.scene-scene.ensures.shows;
+    }
     c.respond.result c.respond.ensures.asked
+
+pub returns-in-Ok-root_for-clause-idle : goal.returns-in-Ok-root_for-clause-idle
+returns-in-Ok-root_for-clause-idle g c = λ only.
+    c.respond.ensures.idle
+    (scene_only c.args.self.now c.args.request.now c.in-Ok.env c.in-Ok-root_for.object.now c.scene-scene.result only
+    (rw c.in-Ok.is at c.in_ok-env.ensures) c.scene-scene.ensures.shows)

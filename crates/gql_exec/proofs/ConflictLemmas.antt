@@ -1,4 +1,4 @@
--- The operation of an admitted request agrees with itself: its document has no conflicts, and what is kept of it has none.
+-- The operation of an admitted request has no conflicts: its document has none.
 use Rattle.std.proofs.Common.{rules, ◌≡◌, ◌&&◌, ◌++◌, ℕ, suc, Bool, true, false, List, [], ◌∷◌, map, Option, Some, None, Result, Ok, Err, option_map, refl, ap, sym, subst, ◌∙◌, if◌then◌else◌}
 use Rattle.std.specs.Prelude.{codes, option_and_then}
 use Rattle.std.specs.Cmp.Lexicographic.{bytes_decides}
@@ -19,7 +19,6 @@ use Rattle.gql_doc.specs.declared.document.OperationDefinition.{OperationDefinit
 use Rattle.gql_doc.specs.declared.document.OperationType.{OperationType}
 use Rattle.gql_doc.specs.declared.document.OperationType.TheVariants as kinds
 use Rattle.gql_doc.specs.declared.document.Positioned.{Positioned}
-use Rattle.gql_doc.specs.declared.document.Selection.{Selection}
 use Rattle.gql_doc.specs.declared.fault.ParseFault.{ParseFault}
 use Rattle.gql_fields.specs.Terms.{Terms}
 use Rattle.gql_fields.specs.declared.breach.Breach.{Breach}
@@ -30,41 +29,32 @@ use Rattle.gql_rules.specs.RulesChecked.{conflicting, IsChecked, refused_with}
 use Rattle.gql_rules.proofs.BreachLemmas.{first_in, none_in}
 use Rattle.gql_admit.specs.Choice.{choice, choice_of, with_fragments}
 use Rattle.gql_admit.specs.Limits.{refused_by}
-use Rattle.gql_admit.specs.Prepared.{asked_by, both_pass, directives_limited, IsLimited, IsPrepared, IsRead, IsRuled, IsSettled, known_of, kept_operation, limits_checked, Prepared}
 use Rattle.gql_admit.specs.Refusal.{depth_error}
+use Rattle.gql_admit.specs.Stages.{asked_by, both_pass, directives_limited, given_by_rules, IsLimited, IsRead, limits_checked, settled, StagesGive}
 use Rattle.gql_admit.specs.declared.chosen.Chosen.{Chosen}
-use Rattle.gql_admit.proofs.KeepLemmas.{set_items}
 use Rattle.gql_conflicts.specs.DocumentConflicts.{conflicts_at, document_conflicts, IsConflict, operation_conflicts, told}
 use Rattle.gql_conflicts.specs.Rooted.{object_named as root_named, objects_beneath, objects_of as objects_at, Rooted, root_of, setting_of as setting_at}
 use Rattle.gql_conflicts.specs.declared.conflict.Conflict.{Conflict}
-use Rattle.gql_engine.specs.declared.scene.Scene.{Scene}
+use Rattle.gql_collect.specs.Execution.{setting_in}
 use Rattle.gql_collect.specs.TableSetting.{entities_field, field_in, objects_of}
-use Rattle.gql_collect.specs.Basis.{setting_by}
-use Rattle.gql_engine.specs.ExecuteQuery.{AgreesInside, basis_of, root_selections}
-use Rattle.gql_request.specs.QueryEnv.{levels_of}
-use Rattle.gql_request.specs.declared.query_env.QueryEnv.{QueryEnv}
 use Rattle.gql_request.specs.declared.request.Request.{Request}
+use Rattle.gql_meaning.specs.Laws.{HasNoConflicts}
 use Rattle.gql_schema.specs.Keyed.{IsKeyed}
 use Rattle.gql_schema.specs.Object.{object_name}
 use Rattle.gql_schema.specs.Table.{types_of}
-use Rattle.gql_schema.specs.TableReading.{Declared, field, possible, TypeTable}
+use Rattle.gql_schema.specs.TableReading.{Declared, field, has_type, possible, TypeTable}
 use Rattle.gql_schema.specs.Types.{type_name}
 use Rattle.gql_schema.specs.declared.object.Object.{Object}
 use Rattle.gql_schema.specs.declared.schema_type.SchemaType.{SchemaType}
 use Rattle.gql_schema.specs.declared.schema_type.SchemaType.TheVariants as types
-use Rattle.gql_select.proofs.ConflictLemmas.{agree_from}
-use Rattle.gql_select.proofs.DocumentLemmas.{is_reading}
-use Rattle.gql_select.proofs.KeptLemmas.{agree_kept}
 use Rattle.gql_select.specs.Collected.{Setting}
-use Rattle.gql_select.specs.Conflicts.{Agree}
+use Rattle.gql_select.specs.Conflicts.{conflicts}
 use Rattle.gql_select.specs.Documents.{reading}
-use Rattle.gql_select.specs.Kept.{kept, kept_fragments, kept_setting}
 use Rattle.gql_exec.specs.Admission.{terms_for}
-use Rattle.gql_exec.specs.Bare.{bare_scene}
-use Rattle.gql_exec.specs.Ready.{env_under, IsMadeReady, prepared_under}
+use Rattle.gql_exec.specs.Admitted.{IsAdmitted}
 use Rattle.gql_exec.specs.Root.{object_in, object_named, or_text, root_for, root_object}
-use Rattle.gql_exec.specs.Scene.{scene_for}
 use Rattle.gql_exec.specs.Schema.{settings_of, types_in}
+use Rattle.gql_exec.specs.Written.{written_of}
 use Rattle.gql_settings.specs.Settings.{entities_for}
 use Rattle.gql_exec.specs.declared.dynamic_request.DynamicRequest.{DynamicRequest}
 use Rattle.gql_exec.specs.declared.schema.Schema.{Schema}
@@ -224,105 +214,69 @@ module _ {E : Type 0} (tells : Positioned OperationDefinition → List E) where
       let same : with_fragments fragments operation ≡ answer = cc in
       (ap (λ (a : Chosen). tells a.operation) (sym same) ∙ none, ap (λ (a : Chosen). a.fragments) (sym same))
 
--- What is known of an environment that was prepared.
+-- What is known of an operation that the stages give.
 
 module _ (terms : Terms) (request : Request) where
-  -- the operation was chosen from a document without conflicts, and what is kept of it and of the fragments is what an execution knows
-  record IsClean (env : QueryEnv) : Type 0 where
-    pub taken : Chosen
-    pub operation : env.operation ≡ kept_operation (known_of request taken) taken.operation
-    pub fragments : env.fragments ≡ kept_fragments (known_of request taken) taken.fragments
-    pub levels : levels_of env ≡ suc terms.depth
-    pub none : operation_conflicts (rooted_in terms) taken.fragments (suc terms.depth) taken.operation ≡ []
+  -- the operation has no conflicts
+  abbrev IsClean : Chosen → Type 0
+  IsClean given = operation_conflicts (rooted_in terms) given.fragments (suc terms.depth) given.operation ≡ []
 
-  from_choice : (env : QueryEnv) (document : ExecutableDocument) (o : Result Chosen ServerError) → choice document request.operation_name ≡ o
-      → IsSettled terms request o (Ok env) → document_conflicts (rooted_in terms) document (suc terms.depth) ≡ [] → IsClean env
-  from_choice env document (Err error) is settled none = absurd (cc)
-  from_choice env document (Ok found) is settled none =
+  from_choice : (given : Chosen) (document : ExecutableDocument) (o : Result Chosen ServerError) → choice document request.operation_name ≡ o
+      → Ok given ≡ settled o → document_conflicts (rooted_in terms) document (suc terms.depth) ≡ [] → IsClean given
+  from_choice given document (Err error) is same none = absurd (cc)
+  from_choice given document (Ok found) is same none =
       let tells : Positioned OperationDefinition → List Conflict = operation_conflicts (rooted_in terms) document.fragments (suc terms.depth) in
       let at : (tells found.operation ≡ []) × (found.fragments ≡ document.fragments)
       = none_by_choice tells document.fragments request.operation_name (chosen document.operations request.operation_name) found
       (none_chosen tells document.operations request.operation_name none) is in
-      record {
-        taken = found;
-        operation = settled.operation;
-        fragments = settled.fragments;
-        levels = settled.levels;
-        none = ap (λ fs. operation_conflicts (rooted_in terms) fs (suc terms.depth) found.operation) at.1 ∙ at.0;
-      }
+      let one : given ≡ found = cc in
+      subst IsClean (sym one) (ap (λ fs. operation_conflicts (rooted_in terms) fs (suc terms.depth) found.operation) at.1 ∙ at.0)
 
-  from_checked : (env : QueryEnv) (document : ExecutableDocument) (checked : Result (Unit {0}) (List ServerError)) → deep document terms.depth ≡ None
-      → IsChecked terms (asked_by request) document checked → IsRuled terms request document checked (Ok env) → IsClean env
-  from_checked env document (Ok passed) within rules ruled =
-      from_choice env document (choice document request.operation_name) refl ruled (no_conflicts terms (asked_by request) document passed within rules)
-  from_checked env document (Err errors) within rules ruled = absurd (cc)
+  from_checked : (given : Chosen) (document : ExecutableDocument) (checked : Result (Unit {0}) (List ServerError)) → deep document terms.depth ≡ None
+      → IsChecked terms (asked_by request) document checked → Ok given ≡ given_by_rules request document checked → IsClean given
+  from_checked given document (Ok passed) within rules same =
+      from_choice given document (choice document request.operation_name) refl same (no_conflicts terms (asked_by request) document passed within rules)
+  from_checked given document (Err errors) within rules same = absurd (cc)
 
-  from_limited : (env : QueryEnv) (document : ExecutableDocument) (limited : Result (Unit {0}) ServerError) → limits_checked terms document ≡ limited
-      → IsLimited terms request document limited (Ok env) → IsClean env
-  from_limited env document (Ok passed) limits is =
-      from_checked env document is.checked
+  from_limited : (given : Chosen) (document : ExecutableDocument) (limited : Result (Unit {0}) ServerError) → limits_checked terms document ≡ limited
+      → IsLimited terms request document limited (Ok given) → IsClean given
+  from_limited given document (Ok passed) limits is =
+      from_checked given document is.checked
       (first_passes (depth_error terms.depth) (deep document terms.depth) (directives_limited document terms.depth terms.directives) passed limits)
       is.rules is.answer
-  from_limited env document (Err error) limits is = absurd (cc)
+  from_limited given document (Err error) limits is = absurd (cc)
 
-  from_read : (env : QueryEnv) (read : Result ExecutableDocument ParseFault) → IsRead terms request read (Ok env) → IsClean env
-  from_read env (Ok document) is = from_limited env document (limits_checked terms document) refl is
-  from_read env (Err fault) is = absurd (cc)
+  from_read : (given : Chosen) (read : Result ExecutableDocument ParseFault) → IsRead terms request read (Ok given) → IsClean given
+  from_read given (Ok document) is = from_limited given document (limits_checked terms document) refl is
+  from_read given (Err fault) is = absurd (cc)
 
-module _ {V : Type 0} (schema : Schema) (request : DynamicRequest V) (env : QueryEnv) (object : Object) where
-  -- the scene of the request
-  abbrev scene_at : Scene V
-  scene_at = scene_for schema request env object
+  clean : (given : Chosen) → StagesGive terms request (Ok given) → IsClean given
+  clean given stages = from_read given stages.read stages.answer
 
-  clean_agrees : IsKeyed type_name (types_of (types_in schema)) → root_for schema env.operation.node.ty ≡ Ok object
-      → IsClean (terms_for schema request.inner.introspection_mode) request.inner env → AgreesInside scene_at (levels_of env)
-  clean_agrees keyed root clean =
-      let terms = terms_for schema request.inner.introspection_mode in
+module _ {V : Type 0} (schema : Schema) (request : DynamicRequest V) (admitted : IsAdmitted schema request.inner) where
+  -- conflicts are looked for where fields are read for the execution
+  settings_alike : setting_at (rooted_in (terms_for schema request.inner.introspection_mode)) admitted.chosen.fragments (suc (settings_of schema).depth)
+      ≡ setting_in (written_of schema request admitted).execution
+  settings_alike =
       let settings = settings_of schema in
-      let rooted = rooted_in terms in
-      let known = known_of request.inner clean.taken in
-      let operation = clean.taken.operation in
-      let set = selections_of (operation_set operation) in
-      let setting = setting_at rooted clean.taken.fragments (suc terms.depth) in
-      let kind : env.operation.node.ty ≡ operation.node.ty = ap (λ (o : Positioned OperationDefinition). o.node.ty) clean.operation in
-      let at_root : root_of rooted operation.node.ty ≡ Some (object_name object)
-      = ap (root_of rooted) (sym kind) ∙ root_is schema request.inner env.operation.node.ty object keyed root in
-      let none : conflicts_at rooted clean.taken.fragments (suc terms.depth) (Some (object_name object)) set ≡ []
-      = ap (λ o. conflicts_at rooted clean.taken.fragments (suc terms.depth) o set) (sym at_root) ∙ clean.none in
-      let agree = agree_kept known setting (suc terms.depth) (object_name object) set set
-      (agree_from (reading setting) (is_reading setting) told (suc terms.depth) (object_name object) set none) in
-      let left : kept known set ≡ root_selections scene_at
-      = sym (ap (λ (o : Positioned OperationDefinition). selections_of (operation_set o)) clean.operation ∙ set_items known operation.node.selection_set.node) in
-      let here : kept_setting known setting ≡ setting_by (basis_of scene_at)
-      = λ i. record {
-        fragments = sym clean.fragments i;
-        levels = sym clean.levels i;
-        covers = setting.covers;
-        beneath = λ on name. sym (beneath_alike terms.table settings.query settings.mutation settings.subscription
+      let table = types_of (types_in schema) in
+      λ i. record {
+        fragments = admitted.chosen.fragments;
+        levels = suc settings.depth;
+        covers = has_type table;
+        beneath = λ on name. sym (beneath_alike table settings.query settings.mutation settings.subscription
             (entities_for settings request.inner.introspection_mode) on name) i;
-      } in
-      subst (λ (p : Setting × ℕ × List (Positioned Selection)). Agree (reading p.0) p.1 (object_name object) p.2 p.2)
-      (λ i. (here i, sym clean.levels i, left i)) agree
+      }
 
-  from_prepared : (prepared : Prepared) → IsPrepared (terms_for schema request.inner.introspection_mode) request.inner prepared
-      → Ok env ≡ prepared_under (settings_of schema) prepared → IsKeyed type_name (types_of (types_in schema)) → root_for schema env.operation.node.ty ≡ Ok object
-      → AgreesInside scene_at (levels_of env)
-  from_prepared (Err errors) stages is keyed root = absurd (cc)
-  from_prepared (Ok first) stages is keyed root =
-      let mode : env ≡ env_under (settings_of schema) first = cc in
+  pub no_conflicts_written : HasNoConflicts told (written_of schema request admitted)
+  no_conflicts_written =
       let terms = terms_for schema request.inner.introspection_mode in
-      let clean = from_read terms request.inner first stages.read stages.answer in
-      let moded : IsClean terms request.inner (env_under (settings_of schema) first) = record {
-        taken = clean.taken;
-        operation = clean.operation;
-        fragments = clean.fragments;
-        levels = clean.levels;
-        none = clean.none;
-      } in
-      clean_agrees keyed root (subst (IsClean terms request.inner) (sym mode) moded)
-
-  -- the operation of an admitted request agrees with itself
-  pub agrees_ready : (scene : Scene V) → IsMadeReady schema request.inner (Ok env) → IsKeyed type_name (types_of (types_in schema))
-      → root_for schema env.operation.node.ty ≡ Ok object → bare_scene scene ≡ scene_for schema request env object → AgreesInside scene (levels_of scene.env.now)
-  agrees_ready scene ready keyed root same =
-      subst (λ (s : Scene V). AgreesInside s (levels_of s.env.now)) (sym same) (from_prepared ready.prepared ready.stages ready.is keyed root)
+      let rooted = rooted_in terms in
+      let given = admitted.chosen in
+      let object = object_name admitted.object in
+      let set = selections_of (operation_set given.operation) in
+      let at_root : root_of rooted given.operation.node.ty ≡ Some object
+      = root_is schema request.inner given.operation.node.ty admitted.object schema.is_keyed admitted.root in
+      let none : conflicts_at rooted given.fragments (suc terms.depth) (Some object) set ≡ []
+      = ap (λ o. conflicts_at rooted given.fragments (suc terms.depth) o set) (sym at_root) ∙ clean terms request.inner given admitted.stages in
+      ap (λ (s : Setting). conflicts (reading s) told (suc terms.depth) object set) (sym settings_alike) ∙ none
