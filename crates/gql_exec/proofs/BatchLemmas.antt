@@ -8,7 +8,7 @@ use Rattle.gql_tasks.specs.Progress.{Seen}
 use Rattle.gql_exec.specs.Batch.{ExecutesAll, ExecutesOne, StopsAfter, StopsAt, StopsOne}
 use Rattle.gql_exec.specs.Admitted.{IsRefused}
 use Rattle.gql_exec.specs.Execution.{asks, StopsAs, TellsAs}
-use Rattle.gql_exec.specs.Response.{IsResponseTo, IsWorldAfter}
+use Rattle.gql_exec.specs.Response.{IsResponseTo, IsWorldAfter, IsWorldBehind, none_stands}
 use Rattle.gql_exec.specs.SchemaOnly.{is_schema_only}
 use Rattle.gql_exec.specs.declared.dynamic_request.DynamicRequest.{DynamicRequest}
 use Rattle.gql_exec.specs.declared.schema.Schema.{Schema}
@@ -44,10 +44,13 @@ module _ {R Own World Future P : Type 0} (set : Resolving R Own World Future) (t
 
 -- the same where memory ran out
 pub stops_of : {R Own World Future P : Type 0} (set : Resolving R Own World Future) (turns : Choosing P) (schema : Schema) (request : DynamicRequest Own)
-    (old new : Seen R P) (roots : ℕ) → StopsAs set turns old new (asks schema request) grouping.ByKey roots
+    (old new : Seen R P) (roots : ℕ)
+    → (set.is_lawful old.set → IsWorldBehind schema request (served_by set old.set) roots (set.world new.set))
+    → StopsAs set turns old new (asks schema request) grouping.ByKey roots
     → (is_schema_only schema request.inner ≡ true → (new.set ≡ old.set) × (new.turns ≡ old.turns))
     → StopsOne set turns schema request roots old new
-stops_of set turns schema request old new roots stops idle = record { stops = stops; idle = λ only. one_moment old new (idle only) }
+stops_of set turns schema request old new roots world stops idle =
+    record { world = world; stops = stops; idle = λ only. one_moment old new (idle only) }
 
 -- one item more of a list
 taken-more : {X : Type 0} (xs : List X) (i : ℕ) (x : X) → slice_get xs i ≡ Some x → take (i + 1) xs ≡ take i xs ++ x ∷ []
@@ -75,7 +78,7 @@ module _ {R Own World Future P : Type 0} (set : Resolving R Own World Future) (t
   -- nothing more was done
   no-more : (next : Option (DynamicRequest Own)) (now : Seen R P) → StopsAt set turns schema next 0 now now
   no-more None now = (refl, refl)
-  no-more (Some request) now = record { stops = inl (refl, refl); idle = λ only. refl }
+  no-more (Some request) now = record { world = λ lawful. none_stands refl refl; stops = inl (refl, refl); idle = λ only. refl }
 
   -- memory ran out before all requests
   pub none_done : (requests : List (DynamicRequest Own)) (done roots : ℕ) (now : Seen R P) → done ≡ 0 → roots ≡ 0

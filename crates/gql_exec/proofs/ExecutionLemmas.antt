@@ -6,12 +6,13 @@ use Rattle.gql_tasks.specs.Progress.{Seen}
 use Rattle.gql_engine.specs.declared.scene.Scene.{Scene}
 use Rattle.gql_exec.proofs.AdmittedLemmas.{never_both, one_refusal}
 use Rattle.gql_exec.proofs.JoinedLemmas.{IsKeptFrom, kept_from, kept_is_written, kind_is, stages_refuse}
+use Rattle.gql_exec.proofs.StandLemmas.{stands_behind}
 use Rattle.gql_exec.specs.Admitted.{by_root, by_stage, error_response, fault_response, IsAdmitted, IsRefused}
 use Rattle.gql_exec.specs.Bare.{bare_scene}
 use Rattle.gql_exec.specs.Execution.{as_refused, as_scene, Ask, CutAs, ExecutesAs, HaltsAs, IsHalted, RanAs, RunsAs, StandAs, StopsAs, tells_none, tells_of, TellsAs}
 use Rattle.gql_exec.specs.Joined.{mutates, place_by, world_after_scene}
 use Rattle.gql_exec.specs.Ready.{IsMadeReady}
-use Rattle.gql_exec.specs.Response.{by_execution, by_refusal, is_left, IsResponseTo, IsWorldAfter, stays}
+use Rattle.gql_exec.specs.Response.{by_execution, by_refusal, is_left, IsResponseTo, IsWorldAfter, IsWorldBehind, LeavesWorld, none_stands, stays}
 use Rattle.gql_exec.specs.Root.{root_for}
 use Rattle.gql_exec.specs.Scene.{IsSceneOf, scene_for}
 use Rattle.gql_exec.specs.declared.dynamic_request.DynamicRequest.{DynamicRequest}
@@ -158,10 +159,17 @@ module _ {R Own World Future P : Type 0} (set : Resolving R Own World Future) (t
   responds lawful (Ok response) executes = responds-to lawful response executes
   responds lawful (Err want) executes = tt
 
-  pub leaves : {E : Type 0} → set.is_lawful old.set → (result : Result Response E) → IfOk result (ExecutesAs set turns old new ask by)
-      → OnOk result (IsWorldAfter ask.schema ask.request (served_by set old.set) (set.world new.set))
-  leaves lawful (Ok response) executes = leaves-world lawful response executes
-  leaves lawful (Err want) executes = tt
+  stops-behind : set.is_lawful old.set → (roots : ℕ) → (((new ≡ old) × (roots ≡ 0)) ⊎ IsHalted set turns old new ask by roots)
+      → IsWorldBehind ask.schema ask.request (served_by set old.set) roots (set.world new.set)
+  stops-behind lawful roots (inl at) = none_stands at.1 (ap (λ (m : Seen R P). set.world m.set) at.0)
+  stops-behind lawful roots (inr halted) =
+      stands_behind set turns old new by ask.schema ask.request halted.scene halted.is_of roots (halted.told lawful).stands
+
+  pub leaves : set.is_lawful old.set → (result : Result Response NoMemory) → IfOk result (ExecutesAs set turns old new ask by)
+      → IfErr result (λ want. StopsAs set turns old new ask by want.roots)
+      → LeavesWorld ask.schema ask.request (served_by set old.set) result (set.world new.set)
+  leaves lawful (Ok response) executes stops = leaves-world lawful response executes
+  leaves lawful (Err want) executes stops = stops-behind lawful want.roots stops
 
   pub tells : {E : Type 0} → set.is_lawful old.set → (result : Result Response E) → IfOk result (ExecutesAs set turns old new ask by)
       → OnOk result (TellsAs set turns old new ask by)

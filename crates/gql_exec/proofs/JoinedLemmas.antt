@@ -1,5 +1,5 @@
 -- What admission kept of a request is what is written: a scene comes to what its operation comes to.
-use Rattle.std.proofs.Common.{◌≡◌, ℕ, suc, Bool, true, false, List, [], ◌∷◌, map, Option, Some, None, Result, Ok, Err, option_map, refl, ap, sym, subst, ◌∙◌}
+use Rattle.std.proofs.Common.{◌≡◌, ℕ, suc, Bool, true, false, List, [], ◌∷◌, filter, is_some, length, map, take, Option, Some, None, Result, Ok, Err, option_map, refl, ap, sym, subst, ◌∙◌}
 use Rattle.gql_base.specs.Pairs.{values_of}
 use Rattle.gql_base.specs.declared.pos.Pos.{Pos}
 use Rattle.gql_base.specs.declared.server_error.ServerError.{ServerError}
@@ -15,7 +15,7 @@ use Rattle.gql_admit.specs.Stages.{Staged}
 use Rattle.gql_admit.specs.declared.chosen.Chosen.{Chosen}
 use Rattle.gql_admit.proofs.KeepLemmas.{set_items}
 use Rattle.gql_collect.specs.Basis.{execution_of, is_introspection_only, setting_by}
-use Rattle.gql_collect.specs.Execution.{Execution, setting_in}
+use Rattle.gql_collect.specs.Execution.{Execution, field_asking, setting_in}
 use Rattle.gql_conflicts.specs.DocumentConflicts.{told}
 use Rattle.gql_engine.specs.ExecuteQuery.{AgreesInside, basis_of, root_selections}
 use Rattle.gql_engine.specs.declared.scene.Scene.{Scene}
@@ -33,7 +33,7 @@ use Rattle.gql_exec.specs.Written.{written_for, written_of}
 use Rattle.gql_exec.specs.declared.dynamic_request.DynamicRequest.{DynamicRequest}
 use Rattle.gql_exec.specs.declared.schema.Schema.{Schema}
 use Rattle.gql_meaning.specs.Counted.{count_as, counts_by, total}
-use Rattle.gql_meaning.specs.Responses.{apart_by, levels_beneath, merged_by, placed, root_keys, root_place, world_after, world_by, Written}
+use Rattle.gql_meaning.specs.Responses.{apart_by, asking_keys, levels_beneath, merged_by, placed, root_keys, root_place, world_after, world_by, Written}
 use Rattle.gql_meaning.specs.Served.{Served}
 use Rattle.gql_place.specs.Join.{join}
 use Rattle.gql_place.specs.declared.place.Place.{Place}
@@ -212,6 +212,25 @@ module _ {V W : Type 0} (served : Served V W) (schema : Schema) (request : Dynam
     world = world_joined (mutates scene) ∙ ap (λ b. world_by served written b (root_keys written.execution written.asked)) kinds;
     asked = asked_joined (mutates scene) ∙ ap (λ b. total (values_of (counts_by served written b))) kinds;
   }
+
+  -- the root keys that ask an answer, by what is known of the execution
+  abbrev asking_knowing : Execution → List (Positioned Selection) → List (List ℕ × Positioned Field)
+  asking_knowing execution selections =
+      filter (λ (key : List ℕ × Positioned Field). is_some (field_asking true execution (object_name object) request.root_value key.1))
+      (merged (reading (setting_in execution)) (collect (setting_in execution) (object_name object) selections))
+
+  pub keys_joined : length (asking_knowing (execution_of (basis_of scene)) (root_selections scene)) ≡ length (asking_keys written.execution written.asked)
+  keys_joined = λ i. length (asking_knowing (known i) (left i))
+
+  pub behind_joined : (count : ℕ)
+      → world_behind (world_after (execution_of (basis_of scene)) served.effect written.asked) served.world
+      (take count (asking_knowing (execution_of (basis_of scene)) (root_selections scene)))
+      ≡ world_by served written true (take count (asking_keys written.execution written.asked))
+  behind_joined count = λ i.
+      world_behind (world_after (known i) served.effect written.asked) served.world (take count (asking_knowing (known i) (left i)))
+
+  pub kinds_joined : mutates scene ≡ written.mutates
+  kinds_joined = kinds
 
 -- a request that was made ready, with an object at its root, is admitted
 abbrev pub admitted_for : (schema : Schema) (request : Request) (env : QueryEnv) (object : Object) → IsKeptFrom schema request env

@@ -6,7 +6,7 @@ use Rattle.gql_tasks.specs.Keeps.{KeepsSet}
 use Rattle.gql_tasks.specs.Progress.{Seen}
 use Rattle.gql_exec.specs.Admitted.{IsRefused}
 use Rattle.gql_exec.specs.Execution.{asks, StopsAs, TellsAs}
-use Rattle.gql_exec.specs.Response.{IsResponseTo, IsWorldAfter}
+use Rattle.gql_exec.specs.Response.{IsResponseTo, IsWorldAfter, IsWorldBehind}
 use Rattle.gql_exec.specs.SchemaOnly.{is_schema_only}
 use Rattle.gql_exec.specs.declared.dynamic_request.DynamicRequest.{DynamicRequest}
 use Rattle.gql_exec.specs.declared.schema.Schema.{Schema}
@@ -37,6 +37,8 @@ module _ {R Own World Future P : Type 0} (set : Resolving R Own World Future)
   -- memory ran out for a request of a batch, with so many root keys of a mutation after their effects
   pub record StopsOne (request : DynamicRequest Own) (roots : ℕ) (old new : Seen R P) : Type 0
     where
+      pub world : set.is_lawful old.set
+          → IsWorldBehind schema request (served_by set old.set) roots (set.world new.set)
       pub stops : StopsAs set turns old new (asks schema request) grouping.ByKey roots
       pub idle : is_schema_only schema request.inner ≡ true → new ≡ old
 

@@ -1,12 +1,13 @@
 -- The response to a request over a schema, and the world after it (GraphQL, October 2021, section
 -- 6): over what lawful resolvers serve, whatever the turns in which they answer.
-use Rattle.std.specs.Prelude.{◌≡◌, ◌+◌, ℕ}
+use Rattle.std.specs.Prelude.{◌≡◌, ◌≤◌, ◌+◌, ℕ, length, Result, Ok, Err}
+use Rattle.gql_base.specs.declared.no_memory.NoMemory.{NoMemory}
 use Rattle.gql_exec.specs.Admitted.{IsAdmitted, IsRefused}
 use Rattle.gql_exec.specs.Written.{written_of}
 use Rattle.gql_exec.specs.declared.dynamic_request.DynamicRequest.{DynamicRequest}
 use Rattle.gql_exec.specs.declared.schema.Schema.{Schema}
 use Rattle.gql_meaning.specs.Counted.{answers_asked}
-use Rattle.gql_meaning.specs.Responses.{response_merged, world_left}
+use Rattle.gql_meaning.specs.Responses.{asking_keys, response_merged, world_left, world_left_by}
 use Rattle.gql_meaning.specs.Served.{Served}
 use Rattle.gql_request.specs.declared.response.Response.{Response}
 
@@ -28,6 +29,25 @@ pub data IsWorldAfter {V W : Type 0} (schema : Schema) (request : DynamicRequest
   is_left : (admitted : IsAdmitted schema request.inner)
       → world ≡ world_left served (written_of schema request admitted)
       → IsWorldAfter schema request served world
+
+-- where memory ran out, so many root keys of a mutation that ask an answer have their effects; of a
+-- request that is refused, of a query, or before any of them, the world is as it was
+pub data IsWorldBehind {V W : Type 0} (schema : Schema) (request : DynamicRequest V)
+    (served : Served V W) (roots : ℕ) (world : W) : Type 0 where
+  none_stands : roots ≡ 0 → world ≡ served.world
+      → IsWorldBehind schema request served roots world
+  roots_stand : (admitted : IsAdmitted schema request.inner)
+      → roots ≤ length (asking_keys (written_of schema request admitted).execution
+      (written_of schema request admitted).asked)
+      → world ≡ world_left_by served (written_of schema request admitted) roots
+      → IsWorldBehind schema request served roots world
+
+-- the world by what an execution answers
+abbrev pub LeavesWorld : {V W : Type 0} → Schema → DynamicRequest V → Served V W
+    → Result Response NoMemory → W → Type 0
+LeavesWorld schema request served (Ok response) world = IsWorldAfter schema request served world
+LeavesWorld schema request served (Err want) world =
+    IsWorldBehind schema request served want.roots world
 
 -- no answer is asked for a request that is refused; for an admitted one as many as merged execution
 -- asks

@@ -8,7 +8,7 @@ ghost use Rattle.gql_exec.specs.Bare.{bare_scene};
 ghost use Rattle.gql_exec.specs.Counting.{CountsTasks};
 ghost use Rattle.gql_exec.specs.Execution.{asks, ExecutesAs, HaltsAs, RunsAs, StopsAs, TellsAs};
 ghost use Rattle.gql_exec.specs.Joined.{mutates, tasks_by};
-ghost use Rattle.gql_exec.specs.Response.{Counts, IsResponseTo, IsWorldAfter};
+ghost use Rattle.gql_exec.specs.Response.{Counts, IsResponseTo, LeavesWorld};
 ghost use Rattle.gql_exec.specs.Scene.{scene_for};
 ghost use Rattle.gql_exec.specs.SchemaOnly.{is_schema_only};
 ghost use Rattle.gql_engine.specs.ExecuteQuery.{AgreesInside};
@@ -49,8 +49,8 @@ impl Schema {
     ) -> Result<Response, NoMemory>
         ensures response { R.is_lawful resolvers.old → IfOk result (IsResponseTo self.now
             request.now (served_by R.ResolverSet resolvers.old)) }
-        ensures world { R.is_lawful resolvers.old → OnOk result (IsWorldAfter self.now
-            request.now (served_by R.ResolverSet resolvers.old) (R.world resolvers.new)) }
+        ensures world { R.is_lawful resolvers.old → LeavesWorld self.now request.now
+            (served_by R.ResolverSet resolvers.old) result (R.world resolvers.new) }
         ensures refused { (refusal : OneResponse) → IsRefused self.now request.now.inner refusal
             → IfOk result (λ response. response ≡ refusal) }
         ensures untouched { (refusal : OneResponse) → IsRefused self.now request.now.inner refusal
@@ -82,8 +82,8 @@ impl Schema {
     ) -> Result<Response, NoMemory>
         ensures response { R.is_lawful resolvers.old → IfOk result (IsResponseTo self.now
             request.now (served_by R.ResolverSet resolvers.old)) }
-        ensures world { R.is_lawful resolvers.old → OnOk result (IsWorldAfter self.now
-            request.now (served_by R.ResolverSet resolvers.old) (R.world resolvers.new)) }
+        ensures world { R.is_lawful resolvers.old → LeavesWorld self.now request.now
+            (served_by R.ResolverSet resolvers.old) result (R.world resolvers.new) }
         ensures refused { (refusal : OneResponse) → IsRefused self.now request.now.inner refusal
             → IfOk result (λ response. response ≡ refusal) }
         ensures untouched { (refusal : OneResponse) → IsRefused self.now request.now.inner refusal
@@ -117,8 +117,8 @@ impl Schema {
     ) -> Result<Response, NoMemory>
         ensures response { R.is_lawful resolvers.old → IfOk result (IsResponseTo self.now
             request.now (served_by R.ResolverSet resolvers.old)) }
-        ensures world { R.is_lawful resolvers.old → OnOk result (IsWorldAfter self.now
-            request.now (served_by R.ResolverSet resolvers.old) (R.world resolvers.new)) }
+        ensures world { R.is_lawful resolvers.old → LeavesWorld self.now request.now
+            (served_by R.ResolverSet resolvers.old) result (R.world resolvers.new) }
         ensures refused { (refusal : OneResponse) → IsRefused self.now request.now.inner refusal
             → IfOk result (λ response. response ≡ refusal) }
         ensures untouched { (refusal : OneResponse) → IsRefused self.now request.now.inner refusal

@@ -13,7 +13,7 @@ returns-clause-response g c = λ lawful.
 pub returns-clause-world : goal.returns-clause-world
 returns-clause-world g c = λ lawful.
     leaves g.R.ResolverSet g.P.Turns (seen c.args.resolvers.now c.args.turns.now) (seen c.execute_on.new.resolvers c.execute_on.new.turns)
-    (asks c.args.self.now c.args.request.now) grouping.Each lawful c.execute_on.result c.execute_on.ensures.executed
+    (asks c.args.self.now c.args.request.now) grouping.Each lawful c.execute_on.result c.execute_on.ensures.executed c.execute_on.ensures.stopped
 
 pub returns-clause-refused : goal.returns-clause-refused
 returns-clause-refused g c = λ refusal is.

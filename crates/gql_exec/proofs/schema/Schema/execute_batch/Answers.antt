@@ -29,4 +29,4 @@ returns-in-Err-clause-stopped g c =
     c.len-done.result c.in-Err.want.roots c.loop-request.invariant c.loop-request-test.true c.request-item.is c.len-done.ensures
     (stops_of g.R.ResolverSet g.P.Turns c.args.self.now c.request-item.result
     (seen c.loop-request.resolvers c.loop-request.turns) (seen c.execute.new.resolvers c.execute.new.turns)
-    c.in-Err.want.roots c.in-Err.ensures.stopped c.execute.ensures.idle)
+    c.in-Err.want.roots c.in-Err.ensures.world c.in-Err.ensures.stopped c.execute.ensures.idle)

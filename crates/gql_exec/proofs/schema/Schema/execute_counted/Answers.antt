@@ -14,7 +14,7 @@ returns-clause-response g c = λ lawful.
 pub returns-clause-world : goal.returns-clause-world
 returns-clause-world g c = λ lawful.
     leaves g.R.ResolverSet g.P.Turns (seen c.args.resolvers.now c.args.turns.now) (seen c.execute_by_key.new.resolvers c.execute_by_key.new.turns)
-    (asks c.args.self.now c.args.request.now) grouping.ByKey lawful c.execute_by_key.result c.execute_by_key.ensures.executed
+    (asks c.args.self.now c.args.request.now) grouping.ByKey lawful c.execute_by_key.result c.execute_by_key.ensures.executed c.execute_by_key.ensures.stopped
 
 pub returns-clause-refused : goal.returns-clause-refused
 returns-clause-refused g c = λ refusal is.
