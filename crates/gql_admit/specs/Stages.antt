@@ -1,5 +1,5 @@
--- The stages that a request goes through before its execution (GraphQL, October 2021, sections 5 and
--- 6.1): its document, the limits, the rules, and the choice of its operation. They give that
+-- The stages that a request goes through before its execution (GraphQL, October 2021, sections 5
+-- and 6.1): its document, the limits, the rules, and the choice of its operation. They give that
 -- operation as it is written, or the errors of the first stage that the request breaks.
 use Rattle.std.specs.Prelude.{◌≡◌, ℕ, List, [], ◌∷◌, Option, Some, None, Result, Ok, Err}
 use Rattle.gql_base.specs.declared.server_error.ServerError.{ServerError}

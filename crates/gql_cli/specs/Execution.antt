@@ -45,7 +45,7 @@ module _ (bench : Bench) where
   }
 
   module _ (before : Between) where
-    -- what is served of a request: by the rules of the bench, in the cells as the request finds them
+    -- what is served of a request: by the rules of the bench, in the cells that the request finds
     abbrev pub bench_served : Served ℤ (List ℤ)
     bench_served = record {
       answer = table_answer bench.rules;
@@ -97,14 +97,14 @@ module _ (bench : Bench) where
       pub told : behind.told ≡ Some entries
       pub leaves : behind.turns ≡ Some turns
 
-    -- the whole record of a scene, and the state of the turns after it: of a mutation, or of another
-    -- operation
+    -- the whole record of a scene, and the state of the turns after it: of a mutation, or of
+    -- another operation
     abbrev pub RecordBy : Bool → Scene ℤ → List RecordEntry → List ℕ × ℕ → Type 0
     RecordBy true scene entries turns = IsRecordInTurn scene entries turns
     RecordBy false scene entries turns = IsRecordAtOnce scene entries turns
 
--- the record of a request over a schema, and the state of the turns after it: for one that is refused
--- nothing is polled; for an admitted one it is that of its scene
+-- the record of a request over a schema, and the state of the turns after it: for one that is
+-- refused nothing is polled; for an admitted one it is that of its scene
 pub data IsRecordOf (bench : Bench) (before : Between) (ask : Ask ℤ) (entries : List RecordEntry)
     (turns : List ℕ × ℕ) : Type 0 where
   of_refused : (response : Response) → IsRefused ask.schema ask.request.inner response

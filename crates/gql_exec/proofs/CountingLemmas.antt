@@ -79,8 +79,7 @@ module _ {R Own World Future : Type 0} (set : Resolving R Own World Future) (old
   answers lawful (counts_none response is same) = let e : steps' ≡ steps = same in (0, asks_none response is refl, omega arith)
   answers lawful (counts_scene scene of_it counted) =
       let served : Served Own World = served_by set old in
-      let joined = kept_is_written ask.schema ask.request scene served of_it in
-      (
+      let joined = kept_is_written ask.schema ask.request scene served of_it in (
         answers_by served (mutates scene) scene,
         asks_all joined.0 joined.1.asked,
         counted lawful ∙ ap (λ n. steps + n) (tasks_are served (mutates scene) scene),

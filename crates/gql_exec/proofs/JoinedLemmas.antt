@@ -248,8 +248,7 @@ module _ {V W : Type 0} (schema : Schema) (request : DynamicRequest V) (scene : 
       → (admitted : IsAdmitted schema request.inner) × IsJoined served scene (written_of schema request admitted)
   kept_is_written of_it =
       let is : IsKeptFrom schema request.inner of_it.env = kept_from schema request.inner of_it.env of_it.ready in
-      let admitted : IsAdmitted schema request.inner = admitted_for schema request.inner of_it.env of_it.object is of_it.root in
-      (
+      let admitted : IsAdmitted schema request.inner = admitted_for schema request.inner of_it.env of_it.object is of_it.root in (
         admitted,
         subst (λ (s : Scene V). IsJoined served s (written_for schema request is.chosen of_it.object)) (sym of_it.is)
             (joined_for served schema request of_it.env of_it.object is),

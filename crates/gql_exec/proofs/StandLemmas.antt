@@ -86,8 +86,7 @@ module _ {R Own World Future P : Type 0} (set : Resolving R Own World Future) (t
       let scene : Scene Own = scene_for schema request env object in
       let basis : Basis = basis_by by scene in
       let keys = merged (reading (setting_by basis)) (collected basis (root_spot scene).object (root_selections scene)) in
-      let counted : length (key_jobs_by by scene) ≡ length (asking serving basis (root_spot scene) keys) = as_many serving basis (root_spot scene) keys in
-      (
+      let counted : length (key_jobs_by by scene) ≡ length (asking serving basis (root_spot scene) keys) = as_many serving basis (root_spot scene) keys in (
         subst (λ n. roots ≤ n) (counted ∙ keys_joined served schema request env object is) stand.within,
         stand.world ∙ behind serving basis (root_spot scene) keys roots served.world ∙ behind_joined served schema request env object is roots,
       )

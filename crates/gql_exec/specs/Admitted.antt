@@ -1,5 +1,5 @@
--- Requests that are refused, and requests that are admitted (GraphQL, October 2021, section 6.1): by
--- the stages before their execution, and by the root of their operation.
+-- Requests that are refused, and requests that are admitted (GraphQL, October 2021, section 6.1):
+-- by the stages before their execution, and by the root of their operation.
 use Rattle.std.specs.Prelude.{◌≡◌, ℕ, List, [], ◌∷◌, None, Result, Ok, Err}
 use Rattle.gql_base.specs.declared.server_error.ServerError.{ServerError}
 use Rattle.gql_base.specs.declared.value.Value.TheVariants as value

@@ -34,7 +34,8 @@ module _ {R Own World Future P : Type 0} (set : Resolving R Own World Future)
     -- of one that asks for the schema alone nothing is seen
     pub idle : is_schema_only schema request.inner ≡ true → new ≡ old
 
-  -- memory ran out for a request of a batch, with so many root keys of a mutation after their effects
+  -- memory ran out for a request of a batch, with so many root keys of a mutation after their
+  -- effects
   pub record StopsOne (request : DynamicRequest Own) (roots : ℕ) (old new : Seen R P) : Type 0
     where
       pub world : set.is_lawful old.set

@@ -69,8 +69,8 @@ module _ {R Own World Future P : Type 0} (set : Resolving R Own World Future)
   abbrev pub StopsAs : Ask Own → Grouping → ℕ → Type 0
   StopsAs ask by roots = ((new ≡ old) × (roots ≡ 0)) ⊎ IsHalted ask by roots
 
--- the record of a request, where occurrences are grouped so: nothing is told of one that is refused,
--- and no turn is taken for it; of an admitted one it is that of its scene
+-- the record of a request, where occurrences are grouped so: nothing is told of one that is
+-- refused, and no turn is taken for it; of an admitted one it is that of its scene
 pub data TellsAs {R Own World Future P : Type 0} (set : Resolving R Own World Future)
     (turns : Choosing P) (old new : Seen R P) (ask : Ask Own) (by : Grouping) : Type 0 where
   tells_none : (response : Response) → IsRefused ask.schema ask.request.inner response

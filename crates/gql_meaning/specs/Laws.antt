@@ -33,8 +33,8 @@ HasNoConflicts told written =
     written.asked.object written.asked.selections ≡ []
 
 -- an operation without conflicts comes to the same place, whether each occurrence is answered apart
--- or each key once; the worlds of a mutation are the same in both, since its root keys are merged in
--- both
+-- or each key once; the worlds of a mutation are the same in both, since its root keys are merged
+-- in both
 abbrev pub ApartIsMerged : (V W E : Type 0) → Type 0
 ApartIsMerged V W E =
     (served : Served V W) (written : Written V) (told : Positioned Field → E)

@@ -94,7 +94,8 @@ module _ {V : Type 0} (execution : Execution) where
 
 module _ {V W : Type 0} (served : Served V W) (written : Written V) where
   -- how the fields of a query become places, by the answers in the world in which it begins
-  abbrev pub placing : Placing (List ℕ) (FieldValue V) (Positioned Field) (Positioned Selection) Place
+  abbrev pub placing : Placing (List ℕ) (FieldValue V) (Positioned Field) (Positioned Selection)
+      Place
   placing = record {
     reading = kept_reading written.execution;
     place = placed written.execution false (λ call. served.answer call served.world);

@@ -24,8 +24,7 @@ returns-clause-refused g c = λ refusal is.
 pub returns-clause-untouched : goal.returns-clause-untouched
 returns-clause-untouched g c = λ refusal is.
     let same = untouched g.R.ResolverSet g.P.Turns (seen c.args.resolvers.now c.args.turns.now) (seen c.execute_by_key.new.resolvers c.execute_by_key.new.turns)
-    (asks c.args.self.now c.args.request.now) grouping.ByKey refusal is c.execute_by_key.result c.execute_by_key.ensures.executed c.execute_by_key.ensures.stopped in
-    (
+    (asks c.args.self.now c.args.request.now) grouping.ByKey refusal is c.execute_by_key.result c.execute_by_key.ensures.executed c.execute_by_key.ensures.stopped in (
       same.0,
       same.1,
       counts_no_refusal g.R.ResolverSet c.args.resolvers.now (asks c.args.self.now c.args.request.now) c.args.steps.now c.execute_by_key.new.steps
