@@ -9,7 +9,7 @@ use Rattle.gql_bench.specs.declared.bench.Bench.{Bench}
 use Rattle.gql_bench.specs.declared.list_turns.ListTurns.{ListTurns}
 use Rattle.gql_cli.proofs.ExecutionLemmas.{all_executed, Stands}
 use Rattle.gql_cli.proofs.LawLemmas.{if-response}
-use Rattle.gql_cli.specs.Answer.{IsAnswerOver, IsAnswerTo, IsResponseTo}
+use Rattle.gql_cli.specs.Answer.{IsAnswerOver, IsAnswerTo, IsResponseToBench}
 use Rattle.gql_cli.specs.Execution.{first_of}
 use Rattle.gql_cli.specs.Gives.{BenchGives, errors_in, Gives, HoldsTold, IsAnswer, JsonGives, json_of, outcome_for, response_text, WithRecord}
 use Rattle.gql_cli.specs.Request.{AreAlike, requests_for}
@@ -30,7 +30,7 @@ use Rattle.gql_resolve.specs.declared.resolver_set.ResolverSet.{Ghosts as Resolv
 -- the response to the requests of a bench, over a set and turns that were made for the bench
 pub response_to : {S F : Type 0} (set : Resolving S ℤ (List ℤ) F) (bench : Bench) (start new : Seen S ListTurns) → Stands set bench [] (first_of bench) start
     → (schema : Schema) → IsSchemaOf bench.builder schema → (response : BatchResponse) → AreAlike bench.requests response
-    → ExecutesAll set ghosts schema (requests_for bench) (responses_of response) start new → IsResponseTo bench (set.told new.set) response
+    → ExecutesAll set ghosts schema (requests_for bench) (responses_of response) start new → IsResponseToBench bench (set.told new.set) response
 response_to set bench start new at schema made response alike executes =
     let (entries, told, is) = all_executed set bench schema (requests_for bench) (responses_of response) [] (first_of bench) start new at executes in
     record { schema = schema; is = made; alike = alike; entries = entries; is_told = told; executed = is }
@@ -69,7 +69,7 @@ module _ (command : Command) (bench : Bench) where
   -- a response is given with the record that the set which is held told
   pub response_gives : {S E : Type 0} (told : S → Option (List RecordEntry)) (held : Option S) (set : S) → held ≡ Some set → (shown : List RecordEntry)
       → MatchOption held (shown ≡ []) (λ s. IfSome (told s) (λ entries. shown ≡ entries)) → is_built bench ≡ true → (response : BatchResponse)
-      → IsResponseTo bench (told set) response → (result : Result Outcome E)
+      → IsResponseToBench bench (told set) response → (result : Result Outcome E)
       → IfOk result (λ outcome. outcome ≡ outcome_for (errors_in (responses_of response)) (response_text command shown response))
       → IfOk result (WithRecord (BenchGives command bench) (HoldsTold held told))
   response_gives told held set is shown shows built response answered (Err want) made = tt
@@ -81,7 +81,7 @@ module _ (command : Command) (bench : Bench) where
       let gives : IsAnswer command bench outcome entries = record {
         built = built;
         response = response;
-        answered = subst (λ t. IsResponseTo bench t response) answered.is_told answered;
+        answered = subst (λ t. IsResponseToBench bench t response) answered.is_told answered;
         is = made';
       } in
       let holds : HoldsTold held told entries

@@ -12,7 +12,7 @@ use Rattle.gql_bench.specs.Table.{table_delay}
 use Rattle.gql_bench.specs.declared.bench.Bench.{Bench}
 use Rattle.gql_cli.proofs.RecordLaws.{IsWhole, one-record, one-record-in-turn}
 use Rattle.gql_cli.proofs.RefusalLemmas.{never-sound, one-refusal}
-use Rattle.gql_cli.specs.Answer.{IsRefusedTable, IsResponseTo}
+use Rattle.gql_cli.specs.Answer.{IsRefusedTable, IsResponseToBench}
 use Rattle.gql_cli.specs.Execution.{bench_served, bench_serving, Between, ExecutedInOrder, first_of, IsExecuted, IsRecordAtOnce, IsRecordOf, of_refused, of_scene, RecordBy, story}
 use Rattle.gql_cli.specs.Gives.{BenchGives, errors_in, Gives, IfResponse, IsAnswer, IsBadShape, IsUnbuilt, IsUnsound, JsonGives, json_of, outcome_for, response_text, schema_line, shape_line}
 use Rattle.gql_cli.specs.Request.{AreAlike, requests_for}
@@ -132,7 +132,7 @@ module _ (bench : Bench) where
       let settings : schema_settings one ≡ schema_settings other = a.settings ∙ sym b.settings in
       one_schema one other table settings
 
-  pub response-same : (told said : Option (List RecordEntry)) (r s : BatchResponse) → (a : IsResponseTo bench told r) → (b : IsResponseTo bench said s)
+  pub response-same : (told said : Option (List RecordEntry)) (r s : BatchResponse) → (a : IsResponseToBench bench told r) → (b : IsResponseToBench bench said s)
       → AreOne r s a.entries b.entries
   response-same told said r s a b =
       let schema = schemas-same a.schema b.schema a.is b.is in

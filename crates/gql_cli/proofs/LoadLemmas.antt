@@ -4,7 +4,7 @@ use Rattle.gql_bench.specs.Bench.{IsBenchOf}
 use Rattle.gql_bench.specs.declared.bench.Bench.{Bench}
 use Rattle.gql_cli.proofs.GivesLemmas.{shown-told}
 use Rattle.gql_cli.proofs.LawLemmas.{bench-same, response-same}
-use Rattle.gql_cli.specs.Answer.{IsResponseTo}
+use Rattle.gql_cli.specs.Answer.{IsResponseToBench}
 use Rattle.gql_cli.specs.Command.{IsLoad}
 use Rattle.gql_cli.specs.Gives.{HoldsTold, WithRecord}
 use Rattle.gql_cli.specs.Load.{IsLoaded, load_line, LoadGives}
@@ -19,7 +19,7 @@ use Rattle.gql_resolve.specs.declared.record_entry.RecordEntry.{RecordEntry}
 -- a response is given with the record that the set which is held told
 pub load_gives : {S : Type 0} (rows : ℕ) (bench : Bench) → IsBenchOf (load_form rows) bench → (told : S → Option (List RecordEntry)) (held : Option S) (set : S)
     → held ≡ Some set → (shown : List RecordEntry) → MatchOption held (shown ≡ []) (λ s. IfSome (told s) (λ entries. shown ≡ entries)) → (response : BatchResponse)
-    → IsResponseTo bench (told set) response → (text : List ℕ) → text ≡ load_line rows shown response
+    → IsResponseToBench bench (told set) response → (text : List ℕ) → text ≡ load_line rows shown response
     → WithRecord (LoadGives rows) (HoldsTold held told) (Loaded text)
 load_gives {S} rows bench made told held set is shown shows response answered text line =
     let entries = answered.entries in
@@ -28,7 +28,7 @@ load_gives {S} rows bench made told held set is shown shows response answered te
       bench = bench;
       made = made;
       response = response;
-      answered = subst (λ t. IsResponseTo bench t response) answered.is_told answered;
+      answered = subst (λ t. IsResponseToBench bench t response) answered.is_told answered;
       is = line ∙ ap (λ es. load_line rows es response) same;
     } in
     let holds : HoldsTold held told entries
@@ -77,7 +77,7 @@ module _ (Told : List RecordEntry → Type 0) (words : List (List ℕ)) where
     unread_due (Err want) due = tt
 
 module _ (rows : ℕ) (one other : List ℕ) (entries others : List RecordEntry) where
-  answers-same : (bench : Bench) (r s : BatchResponse) → IsResponseTo bench (Some entries) r → IsResponseTo bench (Some others) s → (r ≡ s) × (entries ≡ others)
+  answers-same : (bench : Bench) (r s : BatchResponse) → IsResponseToBench bench (Some entries) r → IsResponseToBench bench (Some others) s → (r ≡ s) × (entries ≡ others)
   answers-same bench r s a b =
       let (response, told) = response-same bench (Some entries) (Some others) r s a b in
       let mine : entries ≡ a.entries = let is = a.is_told in cc in
@@ -88,5 +88,5 @@ module _ (rows : ℕ) (one other : List ℕ) (entries others : List RecordEntry)
   pub one_load : IsLoaded rows one entries → IsLoaded rows other others → (one ≡ other) × (entries ≡ others)
   one_load a b =
       let bench = bench-same (load_form rows) a.bench b.bench a.made b.made in
-      let (response, es) = answers-same b.bench a.response b.response (subst (λ bench. IsResponseTo bench (Some entries) a.response) bench a.answered) b.answered in
+      let (response, es) = answers-same b.bench a.response b.response (subst (λ bench. IsResponseToBench bench (Some entries) a.response) bench a.answered) b.answered in
       (a.is ∙ (λ i. load_line rows (es i) (response i)) ∙ sym b.is, es)

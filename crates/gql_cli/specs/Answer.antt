@@ -22,7 +22,7 @@ use Rattle.gql_schema.specs.Sound.{IsFirstRefusal}
 use Rattle.gql_schema.specs.declared.schema_error.SchemaError.{SchemaError}
 
 -- the response to the requests of a bench, and the record that was told of them
-pub record IsResponseTo (bench : Bench) (told : Option (List RecordEntry))
+pub record IsResponseToBench (bench : Bench) (told : Option (List RecordEntry))
     (response : BatchResponse) : Type 0 where
   pub schema : Schema
   pub is : IsSchemaOf bench.builder schema
@@ -33,17 +33,17 @@ pub record IsResponseTo (bench : Bench) (told : Option (List RecordEntry))
       (first_of bench)
 
 -- the table of a builder's types is refused, and this text says why
-abbrev pub IsRefused : SchemaBuilder → List ℕ → Type 0
-IsRefused builder text =
+abbrev pub IsRefusedBuilder : SchemaBuilder → List ℕ → Type 0
+IsRefusedBuilder builder text =
     (error : SchemaError) × IsFirstRefusal (whole_table builder) error × (text ≡ error.text)
 
 -- the same of a bench's types
 abbrev pub IsRefusedTable : Bench → List ℕ → Type 0
-IsRefusedTable bench text = IsRefused bench.builder text
+IsRefusedTable bench text = IsRefusedBuilder bench.builder text
 
 -- the answer to the requests of a bench, with what was told
 abbrev pub IsAnswerTo : Bench → Option (List RecordEntry) → Answer → Type 0
-IsAnswerTo bench told (answer.Response response) = IsResponseTo bench told response
+IsAnswerTo bench told (answer.Response response) = IsResponseToBench bench told response
 IsAnswerTo bench told (answer.BadSchema text) = IsRefusedTable bench text
 
 module _ {S World Future T : Type 0} (set : Resolving S ℤ World Future) (turns : Choosing T)
@@ -61,4 +61,4 @@ module _ {S World Future T : Type 0} (set : Resolving S ℤ World Future) (turns
     -- the answer to them
     abbrev pub IsAnswerOver : Answer → Type 0
     IsAnswerOver (answer.Response response) = IsResponseOver response
-    IsAnswerOver (answer.BadSchema text) = IsRefused builder text
+    IsAnswerOver (answer.BadSchema text) = IsRefusedBuilder builder text

@@ -11,7 +11,7 @@ use Rattle.gql_bench.specs.Built.{is_built}
 use Rattle.gql_bench.specs.Found.{HasTables, IsBadAt}
 use Rattle.gql_bench.specs.RecordText.{record_lines}
 use Rattle.gql_bench.specs.declared.bench.Bench.{Bench}
-use Rattle.gql_cli.specs.Answer.{IsRefusedTable, IsResponseTo}
+use Rattle.gql_cli.specs.Answer.{IsRefusedTable, IsResponseToBench}
 use Rattle.gql_cli.specs.Outcome.{line}
 use Rattle.gql_cli.specs.declared.outcome.Outcome.{Outcome}
 use Rattle.gql_cli.specs.declared.outcome.Outcome.TheVariants.{Answered, BadSchema}
@@ -55,7 +55,7 @@ pub record IsAnswer (command : Command) (bench : Bench) (outcome : Outcome)
     (entries : List RecordEntry) : Type 0 where
   pub built : is_built bench ≡ true
   pub response : BatchResponse
-  pub answered : IsResponseTo bench (Some entries) response
+  pub answered : IsResponseToBench bench (Some entries) response
   pub is : outcome
       ≡ outcome_for (errors_in (responses_of response)) (response_text command entries response)
 

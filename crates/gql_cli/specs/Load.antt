@@ -3,7 +3,7 @@ use Rattle.std.specs.Prelude.{◌≡◌, ℕ, List, ◌++◌, codes, length, Som
 use Rattle.std.specs.Fmt.{decimal}
 use Rattle.gql_bench.specs.Bench.{IsBenchOf}
 use Rattle.gql_bench.specs.declared.bench.Bench.{Bench}
-use Rattle.gql_cli.specs.Answer.{IsResponseTo}
+use Rattle.gql_cli.specs.Answer.{IsResponseToBench}
 use Rattle.gql_cli.specs.declared.outcome.Outcome.{Outcome}
 use Rattle.gql_cli.specs.declared.outcome.Outcome.TheVariants.{Loaded}
 use Rattle.gql_load.specs.Form.{load_form}
@@ -24,7 +24,7 @@ pub record IsLoaded (rows : ℕ) (text : List ℕ) (entries : List RecordEntry) 
   pub bench : Bench
   pub made : IsBenchOf (load_form rows) bench
   pub response : BatchResponse
-  pub answered : IsResponseTo bench (Some entries) response
+  pub answered : IsResponseToBench bench (Some entries) response
   pub is : text ≡ load_line rows entries response
 
 -- what a load of so many rows gives, with its record: its line alone
