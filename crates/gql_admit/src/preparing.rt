@@ -88,7 +88,7 @@ fn alone(alloc: Global, error: ServerError) -> Made<Items<ServerError>>
     Ok(errors)
 }
 
-#[tactic(auto, using(crate::proofs::StagesLemmas::limited_on, crate::proofs::StagesLemmas::beyond_limits))]
+#[tactic(auto, using(crate::proofs::StagesLemmas::limited_on))]
 fn prepare_document(
     alloc: Global,
     site: &Site<'_>,
