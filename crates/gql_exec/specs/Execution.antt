@@ -44,8 +44,9 @@ module _ {R Own World Future P : Type 0} (set : Resolving R Own World Future)
   StandAs by true scene roots = RootsStand set turns (key_work_by by scene) old new roots
   StandAs by false scene roots = (roots ≡ 0) × (set.world new.set ≡ set.world old.set)
 
-  -- the execution of a scene over a lawful set, to its end: its tasks took the turns that were
-  -- chosen for them, each for a group of occurrences, and the response is that of merged execution
+  -- the execution of a scene over a lawful set, to its end: the response is that of merged
+  -- execution; where the set tells a record and the turns a state, the tasks, each for a group of
+  -- occurrences, took the turns that were chosen for them
   pub record RunsAs (by : Grouping) (scene : Scene Own) (response : Response) : Type 0 where
     pub answered : response
         ≡ response_at (place_by (served_by set old.set) (mutates scene) scene)
@@ -58,8 +59,8 @@ module _ {R Own World Future P : Type 0} (set : Resolving R Own World Future)
     pub stands : StandAs by (mutates scene) scene roots
     pub tells : CutAs by (mutates scene) scene ⊎ RanAs by (mutates scene) scene
 
-  -- an execution over a lawful set until memory ran out, so many root keys of a mutation after
-  -- their effects
+  -- an execution until memory ran out: its request was admitted. Over a lawful set it went so far,
+  -- with so many root keys of a mutation after their effects
   pub record IsHalted (ask : Ask Own) (by : Grouping) (roots : ℕ) : Type 0 where
     pub scene : Scene Own
     pub is_of : IsSceneOf ask.schema ask.request scene
@@ -69,8 +70,9 @@ module _ {R Own World Future P : Type 0} (set : Resolving R Own World Future)
   abbrev pub StopsAs : Ask Own → Grouping → ℕ → Type 0
   StopsAs ask by roots = ((new ≡ old) × (roots ≡ 0)) ⊎ IsHalted ask by roots
 
--- the record of a request, where occurrences are grouped so: nothing is told of one that is
--- refused, and no turn is taken for it; of an admitted one it is that of its scene
+-- the record of a request, where occurrences are grouped so and the set tells one: nothing is told
+-- of a request that is refused, and no turn is taken for it; of an admitted one it is that of its
+-- scene
 pub data TellsAs {R Own World Future P : Type 0} (set : Resolving R Own World Future)
     (turns : Choosing P) (old new : Seen R P) (ask : Ask Own) (by : Grouping) : Type 0 where
   tells_none : (response : Response) → IsRefused ask.schema ask.request.inner response

@@ -16,21 +16,21 @@ use Rattle.gql_request.specs.declared.response.Response.{Response}
 use Rattle.gql_resolve.specs.declared.resolver_set.ResolverSet.{Ghosts as Resolving}
 
 module _ (V W : Type 0) where
-  -- a request has one response, over what is served
+  -- a request has at most one response, over what is served
   abbrev pub HasOneResponse : Type 0
   HasOneResponse =
       (schema : Schema) (request : DynamicRequest V) (served : Served V W) (one other : Response)
       → IsResponseTo schema request served one → IsResponseTo schema request served other
       → one ≡ other
 
-  -- it leaves one world
+  -- it leaves at most one world
   abbrev pub LeavesOneWorld : Type 0
   LeavesOneWorld =
       (schema : Schema) (request : DynamicRequest V) (served : Served V W) (one other : W)
       → IsWorldAfter schema request served one → IsWorldAfter schema request served other
       → one ≡ other
 
-  -- and asks one number of answers
+  -- and asks at most one number of answers
   abbrev pub AsksOneCount : Type 0
   AsksOneCount =
       (schema : Schema) (request : DynamicRequest V) (served : Served V W) (one other : ℕ)
@@ -54,8 +54,8 @@ module _ (V W : Type 0) where
       → response_apart served (written_of schema request admitted)
       ≡ response_merged served (written_of schema request admitted)
 
--- two sets of one type with equal rules and equal worlds have one response to a request, and leave
--- one world
+-- over two sets of one type with equal rules and equal worlds, two responses to a request are
+-- equal, and so are the worlds that it leaves
 pub record AlikeSetsRespondAlike {R Own World Future : Type 0}
     (set : Resolving R Own World Future) (one other : R) (schema : Schema)
     (request : DynamicRequest Own) : Type 0 where
@@ -66,6 +66,7 @@ pub record AlikeSetsRespondAlike {R Own World Future : Type 0}
       → IsWorldAfter schema request (served_by set one) a
       → IsWorldAfter schema request (served_by set other) b → a ≡ b
 
+-- the same of every such two sets, over any schema and for any request
 abbrev pub AlikeSets : {R Own World Future : Type 0} → Resolving R Own World Future → Type 0
 AlikeSets {R = R} {Own = Own} set =
     (one other : R) (schema : Schema) (request : DynamicRequest Own)

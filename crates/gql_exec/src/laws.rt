@@ -5,16 +5,17 @@ ghost use Rattle.gql_exec.specs.Laws.{AsksOneCount, HasOneResponse, KeptIsWritte
 
 use gql_resolve::ResolverSet;
 
-/// A request has one response over what is served, leaves one world and asks one number of answers,
-/// since what is served is no matter of turns (GraphQL, October 2021, section 6).
+/// A request has at most one response over what is served, leaves at most one world and asks at
+/// most one number of answers, since what is served is no matter of turns (GraphQL, October 2021,
+/// section 6).
 pub fn one_response_to_a_request<V, W>()
     ensures response { HasOneResponse V W }
     ensures world { LeavesOneWorld V W }
     ensures asked { AsksOneCount V W }
 {}
 
-/// So over two sets of one type with equal rules and equal worlds a request has one response, and
-/// leaves one world: whatever the turns of each are.
+/// So two responses to a request over two sets of one type with equal rules and equal worlds are
+/// equal, and so are the worlds that it leaves: whatever the turns of each are.
 pub fn alike_sets_respond_alike<R: ResolverSet>()
     ensures { AlikeSets R.ResolverSet }
 {}
