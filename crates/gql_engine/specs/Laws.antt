@@ -24,7 +24,7 @@ use Rattle.gql_engine.specs.TaskCounts.{count_by, merged_count, serial_count, se
 use Rattle.gql_complete.specs.FillShape.{tree_with}
 use Rattle.gql_objects.specs.Jobs.{jobs_at, jobs_by}
 use Rattle.gql_collect.specs.Levels.{asked_in}
-use Rattle.gql_objects.specs.ExecuteSelectionSet.{beneath_by, members_by}
+use Rattle.gql_objects.specs.ExecuteSelectionSet.{beneath_by, members_by, members_of_tasks}
 use Rattle.gql_engine.specs.ExecuteQuery.{AgreesInside, apart_response, merged_response, response_by}
 use Rattle.gql_engine.specs.ExecuteQuery.{work_by}
 use Rattle.gql_engine.specs.ExecuteMutation.{key_work_by}
