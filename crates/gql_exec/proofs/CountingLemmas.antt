@@ -6,7 +6,7 @@ use Rattle.gql_engine.specs.declared.scene.Scene.{Scene}
 use Rattle.gql_exec.proofs.BareLemmas.{execution-bare}
 use Rattle.gql_exec.specs.Bare.{bare_scene}
 use Rattle.gql_exec.proofs.AdmittedLemmas.{never_both}
-use Rattle.gql_exec.proofs.ExecutionLemmas.{executes_by_root, executes_by_stage, refused_by_root, refused_by_stage}
+use Rattle.gql_exec.proofs.ExecutionLemmas.{refused_by_root, refused_by_stage}
 use Rattle.gql_exec.proofs.JoinedLemmas.{kept_is_written}
 use Rattle.gql_exec.specs.Admitted.{error_response, fault_response, IsAdmitted, IsRefused}
 use Rattle.gql_exec.specs.Counting.{counts_none, counts_scene, CountsTasks}
@@ -118,6 +118,3 @@ module _ {R Own World Future : Type 0} (set : Resolving R Own World Future) (old
       → root_for ask.schema env.operation.node.ty ≡ Err text → CountsTasks set old by ask steps steps
   counts_by_root env text ready root =
       counts_none (fault_response text) (refused_by_root ask.schema ask.request.inner env text (fault_response text) ready root refl) refl
-
--- what comes of a request that is refused
-pub ruleset refusals = (executes_by_stage, executes_by_root, counts_by_stage, counts_by_root)

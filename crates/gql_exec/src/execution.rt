@@ -201,7 +201,7 @@ impl Schema {
 
     /// The response to a request, where occurrences are grouped so, and each start of a resolver
     /// that answered is a step.
-    #[tactic(auto, using(gql_tasks::proofs::KeepsLemmas::keeps_none, crate::proofs::CountingLemmas::refusals))]
+    #[tactic(auto, using(gql_tasks::proofs::KeepsLemmas::keeps_none))]
     fn execute_grouped<R: ResolverSet, P: Turns, S: Ledger>(
         &self,
         alloc: Global,

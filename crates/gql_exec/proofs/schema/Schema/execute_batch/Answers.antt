@@ -12,8 +12,8 @@ loop-request-preserved g c =
     c.in-Ok.ensures.response c.in-Ok.ensures.world c.in-Ok.ensures.refused c.execute.ensures.untouched c.in-Ok.ensures.«record» c.execute.ensures.keeps c.execute.ensures.idle)
     c.in-Ok-push.ensures.ok
 
-pub returns-in-Ok-in-Err-clause-stopped : goal.returns-in-Ok-in-Err-clause-stopped
-returns-in-Ok-in-Err-clause-stopped g c =
+pub returns-in-Err-push-clause-stopped : goal.returns-in-Err-push-clause-stopped
+returns-in-Err-push-clause-stopped g c =
     ends_behind g.R.ResolverSet g.P.Turns c.args.self.now c.args.requests.now c.loop-request.request-index c.request-item.result c.loop-request.responses
     (seen c.args.resolvers.now c.args.turns.now) (seen c.loop-request.resolvers c.loop-request.turns) (seen c.execute.new.resolvers c.execute.new.turns)
     c.in-Ok.response c.len-done.result c.loop-request.invariant c.loop-request-test.true c.request-item.is
