@@ -1,5 +1,5 @@
 -- What was run of a request's scene is the execution of the request, and what an execution means for its caller.
-use Rattle.std.proofs.Common.{◌≡◌, ◌⊎◌, ℕ, Bool, List, [], Result, Ok, Err, IfErr, IfOk, OnOk, inl, inr, refl, ap, sym, ◌∙◌, subst}
+use Rattle.std.proofs.Common.{◌≡◌, ◌⊎◌, ℕ, Bool, false, List, [], Result, Ok, Err, IfErr, IfOk, OnOk, inl, inr, refl, ap, sym, ◌∙◌, subst}
 use Rattle.gql_base.specs.declared.no_memory.NoMemory.{NoMemory}
 use Rattle.gql_base.specs.declared.server_error.ServerError.{ServerError}
 use Rattle.gql_tasks.specs.Progress.{Seen}
@@ -77,11 +77,11 @@ module _ {R Own World Future P : Type 0} (set : Resolving R Own World Future) (t
     executes (Ok response) runs = as_scene (bare_scene scene) scene_of runs
     executes (Err want) runs = tt
 
-    pub halts : (result : Result Response NoMemory)
+    pub halts : (result : Result Response NoMemory) → (mutates scene ≡ false → IfErr result (λ want. want.roots ≡ 0))
         → (set.is_lawful old.set → IfErr result (λ want. HaltsAs set turns old new by (bare_scene scene) want.roots))
         → IfErr result (λ want. StopsAs set turns old new ask by want.roots)
-    halts (Ok response) halted = tt
-    halts (Err want) halted = inr record { scene = bare_scene scene; is_of = scene_of; told = halted }
+    halts (Ok response) none halted = tt
+    halts (Err want) none halted = inr record { scene = bare_scene scene; is_of = scene_of; none = none; told = halted }
 
 -- what was run of a scene whose operation is a mutation, or none
 module _ {R Own World Future P : Type 0} (set : Resolving R Own World Future) (turns : Choosing P) (old new : Seen R P) (by : Grouping) (scene : Scene Own) (mutation : Bool)

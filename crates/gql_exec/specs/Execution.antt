@@ -59,11 +59,13 @@ module _ {R Own World Future P : Type 0} (set : Resolving R Own World Future)
     pub stands : StandAs by (mutates scene) scene roots
     pub tells : CutAs by (mutates scene) scene ⊎ RanAs by (mutates scene) scene
 
-  -- an execution until memory ran out: its request was admitted. Over a lawful set it went so far,
-  -- with so many root keys of a mutation after their effects
+  -- an execution until memory ran out: its request was admitted. Of an operation that is no mutation
+  -- no root key is told, over every set; over a lawful one it went so far, with so many root keys of
+  -- a mutation after their effects
   pub record IsHalted (ask : Ask Own) (by : Grouping) (roots : ℕ) : Type 0 where
     pub scene : Scene Own
     pub is_of : IsSceneOf ask.schema ask.request scene
+    pub none : mutates scene ≡ false → roots ≡ 0
     pub told : set.is_lawful old.set → HaltsAs by scene roots
 
   -- an execution that ended out of memory: before any resolver was asked, or by then

@@ -284,6 +284,7 @@ fn respond<R: ResolverSet, P: Turns, S: Ledger>(
         (seen_in run.old) (seen_in run.new) by (bare_scene scene.now)) }
     ensures halts { R.is_lawful run.old.set.now → IfErr result (λ want. HaltsAs R.ResolverSet
         P.Turns (seen_in run.old) (seen_in run.new) by (bare_scene scene.now) want.roots) }
+    ensures roots { mutates scene.now ≡ false → IfErr result (λ want. want.roots ≡ 0) }
     ensures keeps { Keeps R.ResolverSet ⟦<Hooks as Rounds>⟧ run.old run.new }
     ensures asked { R.is_lawful run.old.set.now → OnOk result (run.new.steps.now
         ≡ run.old.steps.now
@@ -311,6 +312,7 @@ fn respond_at_once<R: ResolverSet, P: Turns, S: Ledger>(
         (seen_in run.old) (seen_in run.new) by (bare_scene scene.now)) }
     ensures halts { R.is_lawful run.old.set.now → IfErr result (λ want. HaltsAs R.ResolverSet
         P.Turns (seen_in run.old) (seen_in run.new) by (bare_scene scene.now) want.roots) }
+    ensures roots { IfErr result (λ want. want.roots ≡ 0) }
     ensures keeps { Keeps R.ResolverSet ⟦<Hooks as Rounds>⟧ run.old run.new }
     ensures asked { R.is_lawful run.old.set.now → OnOk result (run.new.steps.now
         ≡ run.old.steps.now

@@ -26,7 +26,7 @@ returns-in-Ok-root_for-clause-stopped g c =
       root = rw c.in-Ok-root_for.is at c.root_for.ensures;
       same = c.scene-scene.ensures.shows;
     }
-    c.respond.result c.respond.ensures.halts
+    c.respond.result c.respond.ensures.roots c.respond.ensures.halts
 
 pub respond-requires-clause-agrees : goal.respond-requires-clause-agrees
 respond-requires-clause-agrees g c =
