@@ -1,3 +1,5 @@
+//! What a field asks of its object: nothing, its name, or ResolveFieldValue (GraphQL, October 2021,
+//! section 6.4.2).
 ghost use Rattle.std.specs.Prelude.{◌≡◌, true};
 
 use gql_base::{Pairs, TypeRef, Value};

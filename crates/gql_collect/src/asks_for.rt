@@ -1,3 +1,5 @@
+//! How the head of ExecuteField finds what a field asks (GraphQL, October 2021, sections 6.4 and
+//! 6.4.1).
 ghost use Rattle.std.specs.Prelude.{◌≡◌, Some, IfOk};
 ghost use Rattle.gql_collect.specs.Execution.{is_typename};
 ghost use Rattle.gql_collect.specs.TableSetting.{field_in};

@@ -1,3 +1,5 @@
+//! What ExecuteSelectionSet goes by, and how it groups the occurrences of fields (GraphQL, October
+//! 2021, section 6.3).
 use crate::collect::Collector;
 use gql_request::QueryEnv;
 use gql_resolve::Layers;

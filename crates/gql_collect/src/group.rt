@@ -1,3 +1,4 @@
+//! The grouped field set that CollectFields gives (GraphQL, October 2021, section 6.3.2).
 ghost use Rattle.std.specs.Prelude.{◌≡◌, length};
 ghost use Rattle.gql_collect.specs.KeyNames.{names_in};
 

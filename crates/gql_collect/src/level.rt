@@ -1,3 +1,5 @@
+//! The fields of an object, as ExecuteSelectionSet goes through them (GraphQL, October 2021,
+//! section 6.3).
 ghost use Rattle.std.specs.Prelude.{◌≡◌, length};
 ghost use Rattle.std.specs.Coded.{Coded-set, Π_prop};
 ghost use Rattle.std.proofs.Props.{props};
