@@ -1,3 +1,4 @@
+//! The named types that answers are completed at (GraphQL, October 2021, section 6.4.3).
 ghost use Rattle.gql_collect.specs.Known.{IsUnder, copied_set};
 
 use gql_schema::{SchemaType, Types};
