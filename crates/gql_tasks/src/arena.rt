@@ -1,3 +1,4 @@
+//! How far each task has come, and which of them wait.
 use crate::given::Given;
 use crate::waiting::Waiting;
 

@@ -1,3 +1,5 @@
+//! What ResolveFieldValue gives a task, or a hook in its place (GraphQL, October 2021, section
+//! 6.4.2).
 use gql_base::{Error, Value};
 use gql_resolve::Answer;
 

@@ -1,3 +1,4 @@
+//! How what a task was given is kept: the plan completes it and makes the tasks under it.
 ghost use Rattle.std.specs.Prelude.{ℕ, ◌≡◌, ◌<◌, ◌++◌, Some, length, slice_get, slice_set, OnOk};
 ghost use Rattle.gql_tasks.specs.Arena.{marks_of, fresh_states};
 ghost use Rattle.gql_tasks.specs.Given.{beneath_given};

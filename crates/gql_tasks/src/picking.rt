@@ -1,3 +1,4 @@
+//! Which of the waiting tasks takes a turn.
 ghost use Rattle.std.specs.Prelude.{◌≡◌, ◌<◌, Some, length, slice_get, option_map};
 ghost use Rattle.std.specs.Option.{ForSome};
 

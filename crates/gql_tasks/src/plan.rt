@@ -1,3 +1,5 @@
+//! What the scheduler knows of what it executes: a growing list of tasks, each of which is one
+//! ExecuteField (GraphQL, October 2021, section 6.4).
 ghost use Rattle.std.specs.Prelude.{ℕ, false, ◌≡◌, ◌<◌, List, Some, length, slice_get, OnOk, IfOk};
 ghost use Rattle.gql_resolve.specs.declared.answer.Answer.{Answer};
 ghost use Rattle.gql_tasks.specs.Given.{beneath_given};

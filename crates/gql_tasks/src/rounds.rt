@@ -1,3 +1,4 @@
+//! The rounds of hooks around the call of a resolver.
 ghost use Rattle.std.specs.Prelude.{◌≡◌};
 ghost use Rattle.gql_resolve.specs.Record.{with_more};
 ghost use Rattle.gql_tasks.specs.Turn.{GoesOn, happened};

@@ -1,3 +1,5 @@
+//! The turns of tasks until all have their answers, in any order (GraphQL, October 2021, section
+//! 6.3.1).
 ghost use Rattle.std.specs.Prelude.{◌≡◌, ◌<◌, [], true, length, IfOk, OnOk};
 ghost use Rattle.gql_tasks.specs.Advance.{Advanced, ReachedNearer, roots_turned};
 ghost use Rattle.gql_tasks.specs.Arena.{events_left};

@@ -1,3 +1,4 @@
+//! The list of tasks as it grows and as tasks get their answers.
 ghost use Rattle.std.specs.Prelude.{ℕ, ◌≡◌, ◌<◌, ◌++◌, Some, length, slice_get, slice_set, OnOk};
 ghost use Rattle.std.specs.Prelude.{IfOk};
 ghost use Rattle.gql_tasks.specs.Record.{waiting_from, begun};

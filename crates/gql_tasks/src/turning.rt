@@ -1,3 +1,5 @@
+//! One turn of one task: its hooks, the start of its resolver, and the polls of the future
+//! (GraphQL, October 2021, section 6.4.2).
 ghost use Rattle.std.specs.Prelude.{◌≡◌, IfOk};
 ghost use Rattle.gql_resolve.specs.Record.{with_more, entries_of_poll};
 ghost use Rattle.gql_resolve.specs.Lawful.{plain_answer, PromisesPoll};
