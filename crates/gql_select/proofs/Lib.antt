@@ -12,5 +12,6 @@ pub mod NestLemmas
 pub mod OccurrenceLemmas
 pub mod Rows
 pub mod SerialLemmas
+pub mod StandingLemmas
 pub mod UnitingLemmas
 pub mod ZipLemmas

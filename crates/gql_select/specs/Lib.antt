@@ -10,3 +10,4 @@ pub mod Grouped
 pub mod Kept
 pub mod Laws
 pub mod Reading
+pub mod Standing
