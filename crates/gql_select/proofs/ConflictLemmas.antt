@@ -22,13 +22,13 @@ nothing_each : {A B : Type 0} (h : A → List B) (xs : List A) → flat_map h xs
 nothing_each h [] e = tt
 nothing_each h (x ∷ xs) e = (nothing_first (h x) (flat_map h xs) e, nothing_each h xs (nothing_second (h x) (flat_map h xs) e))
 
-each_at : {A : Type 0} (P : A → Type 0) (xs : List A) (x : A) → AllByRecursion P xs → Contains xs x → P x
+pub each_at : {A : Type 0} (P : A → Type 0) (xs : List A) (x : A) → AllByRecursion P xs → Contains xs x → P x
 each_at P [] x all (k, within, is) = absurd (omega arith)
 each_at P (y ∷ ys) x all (zero, within, is) = subst P is all.0
 each_at P (y ∷ ys) x all (suc k, within, is) = each_at P ys x all.1 (k, omega arith, is)
 
 -- the first pair of a key is there, and this holds of its value
-abbrev Found : {T : Type 0} → List ℕ → (T → Type 0) → List (List ℕ × T) → Type 0
+abbrev pub Found : {T : Type 0} → List ℕ → (T → Type 0) → List (List ℕ × T) → Type 0
 Found k P [] = ⊥
 Found k P (p ∷ ps) = (bytes_eq k p.0 ≡ true → P p.1) × (bytes_eq k p.0 ≡ false → Found k P ps)
 
@@ -42,14 +42,14 @@ module _ {T : Type 0} (k : List ℕ) where
       (λ e. found_together P Q S G ps (one.1 e) (two.1 e) all.1 then)
 
   module _ (j : T → T → T) (P : T → Type 0) where
-    found_on : ((a b : T) → P a → P (j a b)) → (ps : List (List ℕ × T)) (q : List ℕ × T) → Found k P ps → Found k P (unite j ps q.0 q.1)
+    pub found_on : ((a b : T) → P a → P (j a b)) → (ps : List (List ℕ × T)) (q : List ℕ × T) → Found k P ps → Found k P (unite j ps q.0 q.1)
     found_on keeps [] q found = absurd found
     found_on keeps (p ∷ ps) q found =
         either (bytes_eq q.0 p.0) (Found k P (unite j (p ∷ ps) q.0 q.1))
         (λ e. subst (Found k P) (sym (unite_here j p ps q.0 q.1 e)) ((λ f. keeps p.1 q.1 (found.0 f)), found.1))
         (λ e. subst (Found k P) (sym (unite_past j p ps q.0 q.1 e)) (found.0, λ f. found_on keeps ps q (found.1 f)))
 
-    found_new : (v : T) → P v → ((a : T) → P (j a v)) → (ps : List (List ℕ × T)) → Found k P (unite j ps k v)
+    pub found_new : (v : T) → P v → ((a : T) → P (j a v)) → (ps : List (List ℕ × T)) → Found k P (unite j ps k v)
     found_new v one both [] = ((λ e. one), λ e. let same : bytes_eq k k ≡ true = same_itself k in cc)
     found_new v one both (p ∷ ps) =
         either (bytes_eq k p.0) (Found k P (unite j (p ∷ ps) k v))
@@ -81,10 +81,10 @@ module _ {O F X : Type 0} (reading : Reading O F X) (is : IsReading reading) whe
   abbrev IsTaken : F → F → Type 0
   IsTaken f m = reading.alike m f ≡ true → Within (reading.set f) (reading.set m)
 
-  merged_in : (m g : F) → reading.alike m g ≡ true → both_alike reading m g ≡ reading.both m g
+  pub merged_in : (m g : F) → reading.alike m g ≡ true → both_alike reading m g ≡ reading.both m g
   merged_in m g e = rw e refl
 
-  left_out : (m g : F) → reading.alike m g ≡ false → both_alike reading m g ≡ m
+  pub left_out : (m g : F) → reading.alike m g ≡ false → both_alike reading m g ≡ m
   left_out m g e = rw e refl
 
   module _ (f : F) where

@@ -55,11 +55,11 @@ module _ (fragments : Fragments) (covers : List ℕ → List ℕ → Bool) (bene
   reading_in levels = reading (setting_in levels)
 
   -- the selections of a field's own set nest within so many levels, and where there are none, within any
-  abbrev Nests : ℕ → List (Positioned Selection) → Type 0
+  abbrev pub Nests : ℕ → List (Positioned Selection) → Type 0
   Nests zero selections = selections ≡ []
   Nests (suc n) selections = first_in (λ selection. option_and_then (deep_from fragments n) (set_beneath fragments selection)) selections ≡ None
 
-  nests_set : (n : ℕ) (set : Positioned SelectionSet) → deep_from fragments n set ≡ None → Nests n (selections_of set)
+  pub nests_set : (n : ℕ) (set : Positioned SelectionSet) → deep_from fragments n set ≡ None → Nests n (selections_of set)
   nests_set zero set none = cc
   nests_set (suc n) set none = none
 
@@ -128,7 +128,7 @@ module _ (fragments : Fragments) (covers : List ℕ → List ℕ → Bool) (bene
       selection_same (Selection-F.InlineFragment fragment) none also =
           condition_same (out-InlineFragment fragment.node).type_condition (out-InlineFragment fragment.node).selection_set none also
 
-    collect_same : (n k : ℕ) (xs : List (Positioned Selection)) → Nests n xs → Nests k xs
+    pub collect_same : (n k : ℕ) (xs : List (Positioned Selection)) → Nests n xs → Nests k xs
         → collect_within (setting_in one) n object xs ≡ collect_within (setting_in other) k object xs
     collect_same zero zero xs none also = refl
     collect_same zero (suc k) xs none also = sym (ap (collect_within (setting_in other) (suc k) object) none)

@@ -2,6 +2,8 @@ pub mod AgreeLemmas
 pub mod AlikeLemmas
 pub mod ConflictLemmas
 pub mod DocumentLemmas
+pub mod FewerConflictLemmas
+pub mod FewerLemmas
 pub mod GivenLemmas
 pub mod GroupLemmas
 pub mod KeptLemmas
@@ -10,8 +12,10 @@ pub mod LevelLemmas
 pub mod MergeLemmas
 pub mod NestLemmas
 pub mod OccurrenceLemmas
+pub mod OnceLemmas
 pub mod Rows
 pub mod SerialLemmas
 pub mod StandingLemmas
+pub mod ThinLemmas
 pub mod UnitingLemmas
 pub mod ZipLemmas

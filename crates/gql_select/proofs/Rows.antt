@@ -1,6 +1,7 @@
 -- Some selections, computed.
-use Rattle.std.proofs.Common.{rules, cond, ◌≡◌, ℕ, pos, true, false, ◌||◌, List, [], ◌∷◌, ◌++◌, Some, None, ap, ◌∙◌}
+use Rattle.std.proofs.Common.{rules, cond, ◌≡◌, ℕ, pos, true, false, ◌||◌, List, [], ◌∷◌, ◌++◌, Some, None, ap, refl, ◌∙◌}
 use Rattle.std.specs.Prelude.{codes}
+use denote.Hole.Carrier.{hidden, out, roll, shown}
 use Rattle.std.specs.Str.{bytes_eq}
 use Rattle.gql_base.specs.declared.pos.Pos.{Pos}
 use Rattle.gql_base.specs.declared.value.Value.{the_lemmas as value_lemmas}
@@ -9,10 +10,12 @@ use Rattle.gql_doc.specs.declared.document.Argument.{Argument}
 use Rattle.gql_doc.specs.declared.document.Directive.{Directive}
 use Rattle.gql_doc.specs.declared.document.DocValue.{DocValue, the_lemmas as doc_lemmas}
 use Rattle.gql_doc.specs.declared.document.DocValue.TheVariants as doc
-use Rattle.gql_doc.specs.declared.document.Field.{Field, roll-Field}
-use Rattle.gql_doc.specs.declared.document.InlineFragment.{InlineFragment, roll-InlineFragment, out-roll-InlineFragment}
+use Rattle.gql_doc.specs.declared.document.Field.{Field, out-Field, roll-Field}
+use Rattle.gql_doc.specs.declared.document.FragmentDefinition.{FragmentDefinition}
+use Rattle.gql_doc.specs.declared.document.InlineFragment.{out-InlineFragment, roll-InlineFragment, out-roll-InlineFragment}
 use Rattle.gql_doc.specs.declared.document.Positioned.{Positioned}
 use Rattle.gql_doc.specs.declared.document.Selection.{Selection, out-Selection, the_lemmas}
+use Rattle.gql_doc.specs.declared.document.Selection.TheBlock.{shown-the_row-SelectionSet-items-2-0}
 use Rattle.gql_doc.specs.declared.document.Selection.TheOpen.{Selection-F}
 use Rattle.gql_doc.specs.Depth.{selections_of}
 use Rattle.gql_doc.specs.declared.document.Selection.TheVariants as selection
@@ -20,6 +23,7 @@ use Rattle.gql_doc.specs.declared.document.SelectionSet.{SelectionSet, roll-Sele
 use Rattle.gql_select.specs.Collected.{Setting, collect, collect_within, fields_of, fields_under}
 use Rattle.gql_select.specs.Constants.{constants}
 use Rattle.gql_select.specs.Kept.{is_kept}
+use Rattle.gql_select.specs.Once.{collect_once}
 
 abbrev place : Pos
 place = record { line = 1; column = 1 }
@@ -99,3 +103,53 @@ skipped = search (rules, doc_lemmas, value_lemmas)
 
 not_included : is_kept (λ name. value.Null) (directive (codes "include") (doc.Variable (codes "v")) ∷ []) ≡ false
 not_included = search (rules, doc_lemmas, value_lemmas)
+
+-- a spread of the fragment of a name
+abbrev spread : List ℕ → Positioned Selection
+spread name = placed (selection.FragmentSpread (placed (record { fragment_name = placed name; directives = [] })))
+
+abbrev leaf : List ℕ → Positioned Selection
+leaf name = placed (selection.Field (field name))
+
+-- fragment F on A { a }, fragment G on A { ...F b }
+abbrev spreading : ℕ → Setting
+spreading levels = record setting {
+  fragments = (codes "F", fragment (leaf (codes "a") ∷ [])) ∷ (codes "G", fragment (spread (codes "F") ∷ leaf (codes "b") ∷ [])) ∷ [];
+  levels = levels;
+}
+  where
+    fragment : List (Positioned Selection) → Positioned FragmentDefinition
+    fragment selections = placed (record { type_condition = placed (codes "A"); directives = []; selection_set = set_of selections })
+
+-- { ...F ...F }: entered where it stands, and entered once
+doubled : collect (spreading 3) (codes "A") (spread (codes "F") ∷ spread (codes "F") ∷ []) ≡ field (codes "a") ∷ field (codes "a") ∷ []
+unfolding out-Selection out-Field out-InlineFragment roll-Field roll-InlineFragment out roll shown-the_row-SelectionSet-items-2-0 shown hidden
+doubled = refl
+
+doubled_once : collect_once (spreading 3) (codes "A") (spread (codes "F") ∷ spread (codes "F") ∷ []) ≡ field (codes "a") ∷ []
+unfolding out-Selection out-Field out-InlineFragment roll-Field roll-InlineFragment out roll shown-the_row-SelectionSet-items-2-0 shown hidden
+doubled_once = refl
+
+-- { ...G ...F b }: within G it stands first, and fields that stand twice stay
+beneath_once : collect_once (spreading 3) (codes "A") (spread (codes "G") ∷ spread (codes "F") ∷ leaf (codes "b") ∷ [])
+    ≡ field (codes "a") ∷ field (codes "b") ∷ field (codes "b") ∷ []
+unfolding out-Selection out-Field out-InlineFragment roll-Field roll-InlineFragment out roll shown-the_row-SelectionSet-items-2-0 shown hidden
+beneath_once = refl
+
+-- { ... on B { ...F } ...F }: a spread under a condition that doesn't let the object in isn't the first
+other_first : collect_once (spreading 3) (codes "A") (on (codes "B") (spread (codes "F") ∷ []) ∷ spread (codes "F") ∷ []) ≡ field (codes "a") ∷ []
+unfolding out-Selection out-Field out-InlineFragment roll-Field roll-InlineFragment out roll shown-the_row-SelectionSet-items-2-0 shown hidden
+other_first = refl
+
+-- { ...F } on another object, and in one level alone
+other_object : collect_once (spreading 3) (codes "B") (spread (codes "F") ∷ []) ≡ []
+unfolding out-Selection out-Field out-InlineFragment roll-Field roll-InlineFragment out roll shown-the_row-SelectionSet-items-2-0 shown hidden
+other_object = refl
+
+one_level : collect_once (spreading 1) (codes "A") (spread (codes "F") ∷ []) ≡ []
+unfolding out-Selection out-Field out-InlineFragment roll-Field roll-InlineFragment out roll shown-the_row-SelectionSet-items-2-0 shown hidden
+one_level = refl
+
+two_levels : collect_once (spreading 2) (codes "A") (spread (codes "F") ∷ []) ≡ field (codes "a") ∷ []
+unfolding out-Selection out-Field out-InlineFragment roll-Field roll-InlineFragment out roll shown-the_row-SelectionSet-items-2-0 shown hidden
+two_levels = refl

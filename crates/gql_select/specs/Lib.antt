@@ -5,9 +5,12 @@ pub mod Conflicts
 pub mod Constants
 pub mod Crowded
 pub mod Documents
+pub mod Fewer
 pub mod Given
 pub mod Grouped
 pub mod Kept
 pub mod Laws
+pub mod Once
 pub mod Reading
 pub mod Standing
+pub mod Thinned

@@ -1,8 +1,10 @@
 //! Laws on selections. Each is the contract of a function without parameters.
 
+ghost use Rattle.gql_select.specs.Fewer.{FewerAreGrouped, FewerAreSerial, FewerConflict};
 ghost use Rattle.gql_select.specs.Laws.{ApartIsMerged, DocumentsAreRead, KeptAgrees};
 ghost use Rattle.gql_select.specs.Laws.{KeptApartIsMerged, MergedGroupsAreGrouped};
 ghost use Rattle.gql_select.specs.Laws.{MutationApartIsMerged, NoConflictAgrees, SameConstants};
+ghost use Rattle.gql_select.specs.Once.{OnceLeavesOut};
 
 /// A set without conflicts between the fields of one key agrees with itself (GraphQL, October 2021,
 /// section 5.3.2).
@@ -47,4 +49,27 @@ pub fn kept_agrees()
 /// kept of a document without conflicts.
 pub fn kept_apart_is_merged<P, Pl, E>()
     ensures { KeptApartIsMerged P Pl E }
+{}
+
+/// Merged execution is the same over fewer occurrences of fields, where those that are left out
+/// stand before, too. With numbers for places it says that of the number of answers asked.
+pub fn fewer_are_grouped<O, P, F, X, Pl>()
+    ensures { FewerAreGrouped O P F X Pl }
+{}
+
+/// The same of a mutation, whose root keys are answered one after another (section 6.2.2).
+pub fn fewer_are_serial<O, P, F, X, Pl, W>()
+    ensures { FewerAreSerial O P F X Pl W }
+{}
+
+/// Fewer occurrences have the same conflicts, in the same order, where those that are left out
+/// stand before, too (section 5.3.2).
+pub fn fewer_conflict<O, F, X, E>()
+    ensures { FewerConflict O F X E }
+{}
+
+/// Entering each fragment at its first spread alone (section 6.3.2) leaves out nothing but what
+/// stands before, in sets that nest within the levels that are entered.
+pub fn once_leaves_out()
+    ensures { OnceLeavesOut }
 {}

@@ -1,0 +1,5 @@
+use Rattle.gql_select.proofs.LawProofs.{fewer_are_serial as law}
+use Rattle.gql_select.proofs.laws.fewer_are_serial.Goals as goal
+
+pub returns : goal.returns
+returns g c = law _ _ _ _ _ _
