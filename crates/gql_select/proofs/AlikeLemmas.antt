@@ -6,7 +6,7 @@ use Rattle.std.specs.Bool.{Decides}
 use Rattle.std.specs.List.{list_all}
 use Rattle.std.specs.Str.{bytes_eq}
 use Rattle.std.specs.Cmp.Lexicographic.{bytes_decides}
-use Rattle.gql_base.specs.Same.{is_same, is_same-decides}
+use Rattle.gql_base.specs.Same.{is_same-decides}
 use Rattle.gql_base.specs.declared.value.Value.{Value}
 use Rattle.gql_doc.specs.contracts.document.DocValue.{the_row}
 use Rattle.gql_doc.specs.declared.document.Argument.{Argument}
