@@ -1,4 +1,5 @@
 pub mod AgreeLemmas
+pub mod AgreeingLemmas
 pub mod AlikeLemmas
 pub mod ConflictLemmas
 pub mod DocumentLemmas
@@ -13,6 +14,7 @@ pub mod MergeLemmas
 pub mod NestLemmas
 pub mod OccurrenceLemmas
 pub mod OnceLemmas
+pub mod PairwiseLemmas
 pub mod Rows
 pub mod SerialLemmas
 pub mod StandingLemmas

@@ -11,6 +11,7 @@ pub mod Grouped
 pub mod Kept
 pub mod Laws
 pub mod Once
+pub mod Pairwise
 pub mod Reading
 pub mod Standing
 pub mod Thinned

@@ -5,11 +5,28 @@ ghost use Rattle.gql_select.specs.Laws.{ApartIsMerged, DocumentsAreRead, KeptAgr
 ghost use Rattle.gql_select.specs.Laws.{KeptApartIsMerged, MergedGroupsAreGrouped};
 ghost use Rattle.gql_select.specs.Laws.{MutationApartIsMerged, NoConflictAgrees, SameConstants};
 ghost use Rattle.gql_select.specs.Once.{OnceLeavesOut};
+ghost use Rattle.gql_select.specs.Pairwise.{AgreeingHasNone, CleanPairs, PairsClean};
 
 /// A set without conflicts between the fields of one key agrees with itself (GraphQL, October 2021,
 /// section 5.3.2).
 pub fn no_conflict_agrees<O, F, X, E>()
     ensures { NoConflictAgrees O F X E }
+{}
+
+/// A set that agrees with itself has no conflicts: whether there is one is a question about pairs
+/// of occurrences that are reached together.
+pub fn agreeing_has_none<O, F, X, E>()
+    ensures { AgreeingHasNone O F X E }
+{}
+
+/// Sets of which each two agree have no conflicts together.
+pub fn clean_pairs<O, F, X, E, N>()
+    ensures { CleanPairs O F X E N }
+{}
+
+/// Each two of some sets agree where they have no conflicts together.
+pub fn pairs_clean<O, F, X, E, N>()
+    ensures { PairsClean O F X E N }
 {}
 
 /// Answering by groups is merged execution, where a group is all occurrences of a key: nothing is
