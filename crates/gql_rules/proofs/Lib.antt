@@ -1,6 +1,7 @@
 pub mod AddingLemmas
 pub mod BreachLemmas
 pub mod ChosenLemmas
+pub mod CircleLemmas
 pub mod ConstantLemmas
 pub mod CycleLemmas
 pub mod DefinitionLemmas

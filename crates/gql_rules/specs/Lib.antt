@@ -2,6 +2,7 @@ pub mod Adds
 pub mod Asked
 pub mod BreachTexts
 pub mod ChosenOperation
+pub mod Circles
 pub mod FieldMerging
 pub mod FragmentCycles
 pub mod FragmentSpreads

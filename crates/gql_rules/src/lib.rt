@@ -9,6 +9,7 @@
 #![tactic(auto)]
 
 mod chosen_operation;
+mod circles;
 mod definition_fault;
 mod definition_texts;
 mod field_merging;

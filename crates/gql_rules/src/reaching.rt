@@ -1,8 +1,9 @@
 //! Which places of a graph reach themselves. A walk enters each place once.
-ghost use Rattle.std.specs.Prelude.{◌≡◌, ◌<◌, [], ℕ, true, length, IfOk, OnOk};
+ghost use Rattle.std.specs.Prelude.{◌≡◌, ◌<◌, [], ℕ, Bool, Some, true, length, slice_get, IfOk};
+ghost use Rattle.std.specs.Prelude.{OnOk};
 ghost use Rattle.std.specs.Bool.{Decides};
 ghost use Rattle.gql_rules.specs.Reaching.{AreBelow, AreReached, AreWithin, Marks, Reaches, is_in};
-ghost use Rattle.gql_rules.specs.Reaching.{with_number, with_numbers};
+ghost use Rattle.gql_rules.specs.Reaching.{ReachesFrom, with_number, with_numbers};
 
 use gql_base::{Items, Made};
 use std::alloc::Global;
@@ -42,6 +43,20 @@ pub fn reached_from(alloc: Global, graph: &[Items<usize>], starts: &[usize]) -> 
 {
     let mut marks = vec![in alloc; false; graph.len()]?;
     walk_from(alloc, graph, starts, marks.as_mut_slice())
+}
+
+/// Beside each place of the graph, whether it is reached from some or among them.
+pub fn marks_from(alloc: Global, graph: &[Items<usize>], starts: &[usize]) -> Made<Vec<bool>>
+    requires starts { AreBelow (length graph.now) starts.now }
+    requires within { AreWithin graph.now }
+    ensures long { IfOk result (λ marks. length marks.items ≡ length graph.now) }
+    ensures marks { IfOk result (λ marks. (place : ℕ) (mark : Bool)
+        → slice_get marks.items place ≡ Some mark
+        → Decides mark (ReachesFrom graph.now starts.now place)) }
+{
+    let mut marks = vec![in alloc; false; graph.len()]?;
+    walk_from(alloc, graph, starts, marks.as_mut_slice())?;
+    Ok(marks)
 }
 
 /// The same, where no place is marked yet. Those that are reached are marked.
