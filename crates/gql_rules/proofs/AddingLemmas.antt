@@ -1,9 +1,10 @@
 -- Breaches that are added one after another.
-use Rattle.std.proofs.Common.{◌≡◌, ◌⊎◌, inl, inr, List, ◌++◌, sym, subst}
+use Rattle.std.proofs.Common.{◌≡◌, ◌⊎◌, inl, inr, List, ◌++◌, refl, sym, subst}
 use Rattle.std.specs.List.{Contains}
 use Rattle.std.proofs.lemmas.List.Elements.{Contains-append_cases, Contains-append_left, Contains-append_right}
 use Rattle.gql_fields.specs.declared.breach.Breach.{Breach}
-use Rattle.gql_rules.specs.Adds.{Adds}
+use Rattle.gql_fields.specs.BreachOrder.{Lists}
+use Rattle.gql_rules.specs.Adds.{Adds, HoldsSame}
 
 -- what is put after others is added
 pub adds_told : (old told new : List Breach) → new ≡ old ++ told → Adds (Contains told) old new
@@ -37,4 +38,18 @@ adds_same P Q old new to back adds = record {
   kept = adds.kept;
   has = λ found meant. adds.has found (back found meant);
   only = λ found there. elim (adds.only found there) [ inl before ↦ inl before | inr h ↦ inr (to found h) ];
+}
+
+-- the same breaches, in another list
+pub holds_itself : (found : List Breach) → HoldsSame found found
+holds_itself found = record { same = λ one. (λ there. there, λ there. there) }
+
+pub holds_listed : (old list new : List Breach) → Lists (Contains old) list → new ≡ list → HoldsSame old new
+holds_listed old list new lists is = rw is (record { same = λ one. lists.exact one })
+
+pub adds_held : (P : Breach → Type 0) (old now new : List Breach) → Adds P old now → HoldsSame now new → Adds P old new
+adds_held P old now new adds held = record {
+  kept = λ found there. (held.same found).1 (adds.kept found there);
+  has = λ found meant. (held.same found).1 (adds.has found meant);
+  only = λ found there. adds.only found ((held.same found).0 there);
 }

@@ -1,10 +1,12 @@
 pub mod AddingLemmas
+pub mod AlikeLemmas
 pub mod BreachLemmas
 pub mod ChosenLemmas
 pub mod CircleLemmas
 pub mod ConstantLemmas
 pub mod CycleLemmas
 pub mod DefinitionLemmas
+pub mod GatheringLemmas
 pub mod ListedLemmas
 pub mod ListedOperations
 pub mod MarkLemmas

@@ -10,24 +10,24 @@ use Rattle.gql_base.specs.Pairs.{names_of, values_of}
 use Rattle.gql_base.proofs.NamesLemmas.{place_within}
 use Rattle.gql_doc.specs.Depth.{Fragments}
 use Rattle.gql_doc.specs.declared.document.FragmentDefinition.{FragmentDefinition}
-use Rattle.gql_doc.specs.declared.document.OperationDefinition.{OperationDefinition}
 use Rattle.gql_doc.specs.declared.document.Positioned.{Positioned}
 use Rattle.gql_doc.specs.declared.document.VariableDefinition.{VariableDefinition}
 use Rattle.gql_fields.specs.BuiltIn.{built_in}
-use Rattle.gql_fields.specs.Places.{OnCondition, OnDirective, OnField, OnSpread, Place, fragment_places, operation_places}
+use Rattle.gql_fields.specs.Places.{OnCondition, OnDirective, OnField, OnSpread, Place, fragment_places}
 use Rattle.gql_fields.specs.Terms.{Terms}
 use Rattle.gql_fields.specs.declared.breach.Breach.{Breach}
 use Rattle.gql_fields.specs.declared.built_in_arguments.BuiltIn.{BuiltIn}
 use Rattle.gql_rules.specs.Adds.{Adds}
-use Rattle.gql_rules.specs.Reaching.{AreBelow, AreReached, AreWithin, is_in, led_to}
+use Rattle.gql_rules.specs.AlikeOperations.{WrongSpread}
+use Rattle.gql_rules.specs.Reaching.{AreBelow, AreReached, AreWithin, ReachesFrom, at_once, further, is_in, led_to}
 use Rattle.gql_fields.specs.UsePlaceViews.{shown}
 use Rattle.gql_rules.specs.Spread.{IsSpread}
 use Rattle.gql_fields.specs.UsePlaces.{kept}
-use Rattle.gql_rules.specs.ReachedUses.{IsReached, WrongUseIn, WrongUseOf, fragment_spreads, operation_spreads, own, place_graph, spread, spread_at, spreads_at, uses_told_in}
-use Rattle.gql_rules.specs.VariableUses.{uses_told, uses_told_at}
+use Rattle.gql_rules.specs.ReachedUses.{fragment_spreads, place_graph, spread_at, spreads_at, uses_told_in}
+use Rattle.gql_rules.specs.VariableUses.{uses_told_at}
 use Rattle.gql_rules.specs.declared.spread.Spread.{Spread}
 use Rattle.gql_fields.specs.declared.use_place.UsePlace.{UsePlace}
-use Rattle.gql_rules.proofs.AddingLemmas.{adds_same, adds_then, adds_told}
+use Rattle.gql_rules.proofs.AddingLemmas.{adds_same, adds_told}
 use Rattle.gql_rules.proofs.BreachLemmas.{first_in, given_at, given_from, later_in, none_in, one_in}
 use Rattle.gql_rules.proofs.MarkLemmas.{reached_within}
 use Rattle.gql_lists.proofs.SetLemmas.{among-append, among-take, or-either, or-left, or-right}
@@ -75,7 +75,8 @@ spreads_below names places = record { below = λ k there. each places k there }
     each : (ps : List Place) (k : ℕ) → is_in k (spreads_at names ps) ≡ true → k < length names
     each [] k there = absurd (never there)
     each (p ∷ ps) k there =
-        elim (or-either (is_in k (spread_at names p)) (is_in k (spreads_at names ps)) (sym (among-append ◌==◌ k (spread_at names p) (spreads_at names ps)) ∙ there)) [
+        elim (or-either (is_in k (spread_at names p)) (is_in k (spreads_at names ps)) (sym (among-append ◌==◌ k (spread_at names p)
+        (spreads_at names ps)) ∙ there)) [
           | inl here ↦ at-one p k here
           | inr behind ↦ each ps k behind
         ]
@@ -88,20 +89,24 @@ graph_within terms fragments = record { within = λ from to there. subst (λ n. 
     names = names_of fragments
 
     long : length (place_graph terms fragments) ≡ length names
-    long = length-map (values_of fragments) (fragment_spreads terms fragments) ∙ length-map fragments (λ p. p.1) ∙ sym (length-map fragments (λ p. p.0))
+    long = length-map (values_of fragments) (fragment_spreads terms fragments) ∙ length-map fragments (λ p. p.1) ∙ sym
+        (length-map fragments (λ p. p.0))
 
-    led : (fs : List (Positioned FragmentDefinition)) (from to : ℕ) → is_in to (led_to (map (fragment_spreads terms fragments) fs) from) ≡ true → to < length names
+    led : (fs : List (Positioned FragmentDefinition)) (from to : ℕ)
+        → is_in to (led_to (map (fragment_spreads terms fragments) fs) from) ≡ true → to < length names
     led [] from to there = absurd (never there)
     led (f ∷ fs) zero to there = (spreads_below names (fragment_places terms f)).below to there
     led (f ∷ fs) (suc from) to there = led fs from to there
 
 -- the graph that is made of the places that matter
 graph-of : (terms : Terms) (names : List (List ℕ)) (fs : List (Positioned FragmentDefinition))
-    → map (spreads_at names) (map (λ fragment. kept (fragment_places terms fragment)) fs) ≡ map (λ fragment. spreads_at names (fragment_places terms fragment)) fs
+    → map (spreads_at names) (map (λ fragment. kept (fragment_places terms fragment)) fs) ≡ map
+    (λ fragment. spreads_at names (fragment_places terms fragment)) fs
 graph-of terms names [] = refl
 graph-of terms names (f ∷ fs) = λ i. spreads_kept names (fragment_places terms f) i ∷ graph-of terms names fs i
 
-over_shown : {B : Type 0} (f : List Place → B) (lists : List (List UsePlace)) → map (λ places. f (shown places)) lists ≡ map f (map shown lists)
+over_shown : {B : Type 0} (f : List Place → B) (lists : List (List UsePlace))
+    → map (λ places. f (shown places)) lists ≡ map f (map shown lists)
 over_shown f [] = refl
 over_shown f (places ∷ lists) = ap (λ bs. f (shown places) ∷ bs) (over_shown f lists)
 
@@ -137,138 +142,78 @@ module _ {A : Type 0} (f : A → List Place) where
       ap f same
   list_is (y ∷ xs) (suc at) x stands = list_is xs at x stands
 
-module _ (terms : Terms) (fragments : Fragments) where
-  module _ (operation : Positioned OperationDefinition) where
-    abbrev definitions : List (Positioned VariableDefinition)
-    definitions = operation.node.variable_definitions
+module _ (terms : Terms) (fragments : Fragments) (definitions : List (Positioned VariableDefinition)) where
+  abbrev tells_spread : List ℕ → List Breach
+  tells_spread reached = flat_map (uses_told_in built_in terms definitions (map (fragment_places terms) (values_of fragments))) reached
 
-    abbrev tells_own : List Breach
-    tells_own = uses_told built_in terms definitions (operation_places terms operation)
+  -- what is told of the places that matter in the fragment at a place
+  kept_in : (fs : List (Positioned FragmentDefinition)) (at : ℕ)
+      → uses_told_in built_in terms definitions (map (λ fragment. kept (fragment_places terms fragment)) fs) at
+      ≡ uses_told_in built_in terms definitions (map (fragment_places terms) fs) at
+  kept_in [] zero = refl
+  kept_in [] (suc at) = refl
+  kept_in (f ∷ fs) zero = uses_kept built_in terms definitions (fragment_places terms f)
+  kept_in (f ∷ fs) (suc at) = kept_in fs at
 
-    abbrev tells_spread : List ℕ → List Breach
-    tells_spread reached = flat_map (uses_told_in built_in terms definitions (map (fragment_places terms) (values_of fragments))) reached
+  spread_kept : (reached : List ℕ)
+      → flat_map (uses_told_in built_in terms definitions (map (λ fragment. kept (fragment_places terms fragment)) (values_of fragments)))
+      reached
+      ≡ tells_spread reached
+  spread_kept [] = refl
+  spread_kept (at ∷ reached) = λ i. kept_in (values_of fragments) at i ++ spread_kept reached i
 
-    -- what is told of the places that matter in the fragment at a place
-    kept_in : (fs : List (Positioned FragmentDefinition)) (at : ℕ)
-        → uses_told_in built_in terms definitions (map (λ fragment. kept (fragment_places terms fragment)) fs) at
-        ≡ uses_told_in built_in terms definitions (map (fragment_places terms) fs) at
-    kept_in [] zero = refl
-    kept_in [] (suc at) = refl
-    kept_in (f ∷ fs) zero = uses_kept built_in terms definitions (fragment_places terms f)
-    kept_in (f ∷ fs) (suc at) = kept_in fs at
-
-    spread_kept : (reached : List ℕ)
-        → flat_map (uses_told_in built_in terms definitions (map (λ fragment. kept (fragment_places terms fragment)) (values_of fragments))) reached
-        ≡ tells_spread reached
-    spread_kept [] = refl
-    spread_kept (at ∷ reached) = λ i. kept_in (values_of fragments) at i ++ spread_kept reached i
-
-    own_wrong : (found : Breach) → Contains tells_own found → WrongUseOf terms fragments operation found
-    own_wrong found there =
-        let from = given_from (uses_told_at built_in terms definitions) (operation_places terms operation) found there in
-        record { place = from.item; reached = own from.item from.there; told = from.gives }
-
-    spread_wrong : (reached : List ℕ) → AreReached (place_graph terms fragments) (operation_spreads terms fragments operation) reached
-        → (found : Breach) → Contains (tells_spread reached) found → WrongUseOf terms fragments operation found
-    spread_wrong reached are found there =
+  module _ (starts reached : List ℕ) (are : AreReached (place_graph terms fragments) starts reached) where
+    told_wrong : (found : Breach) → Contains (tells_spread reached) found → WrongSpread terms fragments definitions starts found
+    told_wrong found there =
         let lists = map (fragment_places terms) (values_of fragments) in
         let from = given_from (uses_told_in built_in terms definitions lists) reached found there in
         let inner = given_from (uses_told_at built_in terms definitions) (slice_index_or lists from.item []) found from.gives in
         let listed = listed_at (fragment_places terms) (values_of fragments) from.item inner.item inner.there in
         record {
+          at = from.item;
+          fragment = listed.item;
           place = inner.item;
-          reached = spread from.item listed.item inner.item (are.sound from.item (contains_in reached from.item from.there)) listed.stands listed.there;
+          reaches = are.sound from.item (contains_in reached from.item from.there);
+          stands = listed.stands;
+          there = listed.there;
           told = inner.gives;
         }
 
-    by_either : (reached : List ℕ) → AreReached (place_graph terms fragments) (operation_spreads terms fragments operation) reached
-        → (found : Breach) (place : Place) → IsReached terms fragments operation place → Contains (uses_told_at built_in terms definitions place) found
-        → Contains tells_own found ⊎ Contains (tells_spread reached) found
-    by_either reached are found _ (own place there) told =
-        inl (given_at (uses_told_at built_in terms definitions) (operation_places terms operation) place found there told)
-    by_either reached are found _ (spread at fragment place reaches stands there) told =
+    wrong_told : (found : Breach) → WrongSpread terms fragments definitions starts found → Contains (tells_spread reached) found
+    wrong_told found wrong =
         let lists = map (fragment_places terms) (values_of fragments) in
-        let list = list_is (fragment_places terms) (values_of fragments) at fragment stands in
-        inr (given_at (uses_told_in built_in terms definitions lists) reached at found (in_contains reached at (are.all at reaches))
-        (given_at (uses_told_at built_in terms definitions) (slice_index_or lists at []) place found
-        (subst (λ ps. Contains ps place) (sym list) there) told))
+        let list = list_is (fragment_places terms) (values_of fragments) wrong.at wrong.fragment wrong.stands in
+        given_at (uses_told_in built_in terms definitions lists) reached wrong.at found
+        (in_contains reached wrong.at (are.all wrong.at wrong.reaches))
+        (given_at (uses_told_at built_in terms definitions) (slice_index_or lists wrong.at []) wrong.place found
+        (subst (λ ps. Contains ps wrong.place) (sym list) wrong.there) wrong.told)
 
-    -- the uses at all places that an operation reaches, where those are listed that matter
-    pub operation_told : (built : BuiltIn) (places : List Place) (lists : List (List Place)) (graph : List (List ℕ)) (starts reached : List ℕ)
-        (old now new : List Breach) → built ≡ built_in → places ≡ kept (operation_places terms operation)
-        → lists ≡ map (λ fragment. kept (fragment_places terms fragment)) (values_of fragments) → graph ≡ place_graph terms fragments
-        → starts ≡ spreads_at (names_of fragments) places → AreReached graph starts reached → now ≡ old ++ uses_told built terms definitions places
-        → new ≡ now ++ flat_map (uses_told_in built terms definitions lists) reached → Adds (WrongUseOf terms fragments operation) old new
-    operation_told built places lists graph starts reached old now new same own_listed listed made begun are first second =
-        let names : List (List ℕ) = names_of fragments in
-        let spreads : starts ≡ operation_spreads terms fragments operation
-        = begun ∙ ap (spreads_at names) own_listed ∙ spreads_kept names (operation_places terms operation) in
-        let reaches : AreReached (place_graph terms fragments) (operation_spreads terms fragments operation) reached
-        = subst (λ g. AreReached g (operation_spreads terms fragments operation) reached) made (subst (λ s. AreReached graph s reached) spreads are) in
-        let told_own : now ≡ old ++ tells_own
-        = first ∙ (λ i. old ++ uses_told (same i) terms definitions (own_listed i))
-        ∙ ap (λ told. old ++ told) (uses_kept built_in terms definitions (operation_places terms operation)) in
-        let told_spread : new ≡ now ++ tells_spread reached
-        = second ∙ (λ i. now ++ flat_map (uses_told_in (same i) terms definitions (listed i)) reached) ∙ ap (λ told. now ++ told) (spread_kept reached) in
-        adds_then (Contains tells_own) (Contains (tells_spread reached)) (WrongUseOf terms fragments operation) old now new own_wrong
-        (spread_wrong reached reaches) (λ found wrong. by_either reached reaches found wrong.place wrong.reached wrong.told)
-        (adds_told old tells_own now told_own) (adds_told now (tells_spread reached) new told_spread)
+  -- the uses in the fragments that are reached from some, where the places are listed that matter
+  pub spread_told : (built : BuiltIn) (lists : List (List Place)) (graph : List (List ℕ)) (starts reached : List ℕ) (old new : List Breach)
+      → built ≡ built_in
+      → lists ≡ map (λ fragment. kept (fragment_places terms fragment)) (values_of fragments) → graph ≡ place_graph terms fragments
+      → AreReached graph starts reached → new ≡ old ++ flat_map (uses_told_in built terms definitions lists) reached
+      → Adds (WrongSpread terms fragments definitions starts) old new
+  spread_told built lists graph starts reached old new same listed made are told =
+      let reaches : AreReached (place_graph terms fragments) starts reached = subst (λ g. AreReached g starts reached) made are in
+      adds_same (Contains (tells_spread reached)) (WrongSpread terms fragments definitions starts) old new
+      (told_wrong starts reached reaches)
+      (wrong_told starts reached reaches)
+      (adds_told old (tells_spread reached) new
+      (told ∙ (λ i. old ++ flat_map (uses_told_in (same i) terms definitions (listed i)) reached) ∙ ap (λ tells. old ++ tells) (spread_kept
+      reached)))
 
-  -- no operation yet, and one more
-  pub none_wrong : (old : List Breach) → Adds (WrongUseIn terms fragments []) old old
-  none_wrong old = record {
+  none_from : (graph : List (List ℕ)) (to : ℕ) → ReachesFrom graph [] to → ⊥
+  none_from graph _ (at_once to among) = never among
+  none_from graph _ (further via to before leads) = none_from graph via before
+
+  -- from nowhere nothing is reached
+  pub none_spread : (starts : List ℕ) (old : List Breach) → starts ≡ [] → Adds (WrongSpread terms fragments definitions starts) old old
+  none_spread starts old none = rw none (record {
     kept = λ found there. there;
-    has = λ found wrong. none_in wrong.operation (Contains old found) wrong.stands;
+    has = λ found wrong. absurd (none_from (place_graph terms fragments) wrong.at wrong.reaches);
     only = λ found there. inl there;
-  }
-
-  one_operation : (operation : Positioned OperationDefinition) (found : Breach) → WrongUseOf terms fragments operation found
-      → WrongUseIn terms fragments (operation ∷ []) found
-  one_operation operation found wrong = record { operation = operation; stands = first_in operation []; wrong = wrong }
-
-  -- the only operation
-  pub one_wrong : (operation : Positioned OperationDefinition) (old new : List Breach) → Adds (WrongUseOf terms fragments operation) old new
-      → Adds (WrongUseIn terms fragments (operation ∷ [])) old new
-  one_wrong operation old new adds =
-      adds_same (WrongUseOf terms fragments operation) (WrongUseIn terms fragments (operation ∷ [])) old new (one_operation operation)
-      (λ found wrong. subst (λ o. WrongUseOf terms fragments o found) (sym (one_in operation wrong.operation wrong.stands)) wrong.wrong) adds
-
-taken_more : {A : Type 0} (xs : List A) (i : ℕ) (x : A) → slice_get xs i ≡ Some x → take (suc i) xs ≡ take i xs ++ x ∷ []
-taken_more [] i x at = cc
-taken_more (y ∷ ys) zero x at =
-    let same : y ≡ x = cc in
-    ap (λ z. z ∷ []) same
-taken_more (y ∷ ys) (suc i) x at = ap (λ zs. y ∷ zs) (taken_more ys i x at)
-
-module _ (terms : Terms) (fragments : Fragments) where
-  -- one operation more
-  pub wrong_more : (operations : List (Positioned OperationDefinition)) (i : ℕ) (operation : Positioned OperationDefinition) (old now new : List Breach)
-      → slice_get operations i ≡ Some operation → Adds (WrongUseIn terms fragments (take i operations)) old now
-      → Adds (WrongUseOf terms fragments operation) now new → Adds (WrongUseIn terms fragments (take (i + 1) operations)) old new
-  wrong_more operations i operation old now new at first second =
-      adds_then (WrongUseIn terms fragments front) (WrongUseOf terms fragments operation) (WrongUseIn terms fragments (take (i + 1) operations)) old now new
-      (λ found wrong. record {
-        operation = wrong.operation;
-        stands = subst (λ os. Contains os wrong.operation) (sym whole) (Contains-append_left front (operation ∷ []) wrong.operation wrong.stands);
-        wrong = wrong.wrong;
-      })
-      (λ found wrong. record {
-        operation = operation;
-        stands = subst (λ os. Contains os operation) (sym whole) (Contains-append_right front (operation ∷ []) operation (first_in operation []));
-        wrong = wrong;
-      })
-      (λ found wrong.
-      elim (Contains-append_cases front (operation ∷ []) wrong.operation (subst (λ os. Contains os wrong.operation) whole wrong.stands)) [
-        | inl before ↦ inl (record { operation = wrong.operation; stands = before; wrong = wrong.wrong })
-        | inr here ↦ inr (subst (λ o. WrongUseOf terms fragments o found) (sym (one_in operation wrong.operation here)) wrong.wrong)
-      ])
-      first second
-    where
-      front : List (Positioned OperationDefinition)
-      front = take i operations
-
-      whole : take (i + 1) operations ≡ front ++ operation ∷ []
-      whole = ap (λ n. take n operations) (add-one i) ∙ taken_more operations i operation at
+  })
 
 -- what an operation starts from and reaches are fragments, whose places are listed
 module _ (terms : Terms) (fragments : Fragments) (listed : Spread) (is : IsSpread terms fragments listed) where
@@ -283,18 +228,18 @@ module _ (terms : Terms) (fragments : Fragments) (listed : Spread) (is : IsSprea
       ∙ length-map (values_of fragments) (λ fragment. kept (fragment_places terms fragment)) ∙ length-map fragments (λ p. p.1)
       ∙ sym (length-map fragments (λ p. p.0))
 
-  pub starts_below : (places : List Place) (starts : List ℕ) → starts ≡ spreads_at (names_of fragments) places → AreBelow (length listed.graph.now) starts
-  starts_below places starts begun = subst (λ n. AreBelow n starts) (sym graph-long) (subst (AreBelow (length (names_of fragments))) (sym begun) (spreads_below (names_of fragments) places))
+  pub starts_below : (starts : List ℕ) → AreBelow (length (names_of fragments)) starts → AreBelow (length listed.graph.now) starts
+  starts_below starts below = subst (λ n. AreBelow n starts) (sym graph-long) below
 
   pub graph_inside : AreWithin listed.graph.now
   graph_inside = subst AreWithin (sym is.graph) (graph_within terms fragments)
 
-  pub reached_below : (places : List Place) (starts reached : List ℕ) → starts ≡ spreads_at (names_of fragments) places
+  pub reached_below : (starts reached : List ℕ) → AreBelow (length (names_of fragments)) starts
       → AreReached listed.graph.now starts reached → AreBelow (length listed.places.now) reached
-  reached_below places starts reached begun are = record {
+  reached_below starts reached below are = record {
     below = λ k there.
         subst (λ n. k < n) (graph-long ∙ sym places-long)
-        (reached_within listed.graph.now starts k graph_inside (starts_below places starts begun) (are.sound k there));
+        (reached_within listed.graph.now starts k graph_inside (starts_below starts below) (are.sound k there));
   }
 
 -- a number that was read is below the bound of all

@@ -1,4 +1,5 @@
 pub mod Adds
+pub mod AlikeOperations
 pub mod Asked
 pub mod BreachTexts
 pub mod ChosenOperation

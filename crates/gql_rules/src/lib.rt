@@ -8,6 +8,7 @@
 //! list of all breaches in their order.
 #![tactic(auto)]
 
+mod alike_operations;
 mod chosen_operation;
 mod circles;
 mod definition_fault;

@@ -40,7 +40,7 @@ fn eases(definition: &VariableDefinition, place: &ValuePlace<'_>) -> bool
         && (has_value_default(&definition.default) || place.has_default)
 }
 
-fn has_value_default(default: &Option<Positioned<Value>>) -> bool
+pub fn has_value_default(default: &Option<Positioned<Value>>) -> bool
     ensures { result ≡ has_default default.now }
 {
     match default {

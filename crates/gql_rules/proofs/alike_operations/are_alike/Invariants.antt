@@ -1,0 +1,6 @@
+use Rattle.std.proofs.Common.{◌≡◌, length, take}
+use Rattle.gql_rules.specs.AlikeOperations.{AskAlike}
+use Rattle.gql_rules.proofs.alike_operations.are_alike.Given as goal
+
+abbrev pub invariant-loop-place : goal.invariant-loop-place
+invariant-loop-place l = AskAlike (take l.place l.one) (take l.place l.other)
