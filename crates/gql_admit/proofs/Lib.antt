@@ -1,4 +1,5 @@
 pub mod ChoiceLemmas
+pub mod CountedLemmas
 pub mod CrowdedLemmas
 pub mod DepthLemmas
 pub mod FragmentLemmas

@@ -1,4 +1,5 @@
 pub mod Choice
+pub mod Counted
 pub mod KeptParts
 pub mod KnownVariables
 pub mod Limits

@@ -16,8 +16,8 @@ mod preparing;
 mod refusals;
 
 pub use chosen::Chosen;
-pub use depth::check_depth;
-pub use directives::check_directives;
+pub use depth::{check_depth, check_depth_counted};
+pub use directives::{check_directives, check_directives_counted};
 pub use gql_fields::Site;
 pub use gql_rules::check_rules;
 pub use keeping::keep;

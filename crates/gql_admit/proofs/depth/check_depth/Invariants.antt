@@ -1,0 +1,4 @@
+use Rattle.gql_admit.proofs.depth.check_depth.Given as goal
+
+abbrev pub ghosts-check_on_blank : goal.ghosts-check_on_blank
+ghosts-check_on_blank a = record { name = a.blank.name; parts = a.blank.parts }
