@@ -1,11 +1,15 @@
 pub mod AlikeLemmas
 pub mod AsksLemmas
 pub mod CoerceLemmas
+pub mod CollectOnceLemmas
+pub mod CollectedLemmas
+pub mod DeclaredFieldLemmas
 pub mod GroupLemmas
 pub mod GroupingLemmas
 pub mod LevelLemmas
 pub mod NestingLemmas
 pub mod NodesLemmas
 pub mod OccurrenceLemmas
+pub mod OnceAlikeLemmas
 pub mod Rows
 pub mod UnitingLemmas

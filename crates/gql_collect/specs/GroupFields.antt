@@ -6,15 +6,35 @@ use Rattle.gql_doc.specs.declared.document.Positioned.{Positioned}
 use Rattle.gql_doc.specs.declared.document.Selection.{Selection}
 use Rattle.gql_select.specs.Collected.{collect, Setting}
 use Rattle.gql_select.specs.Documents.{reading}
-use Rattle.gql_select.specs.Reading.{keyed, merged}
-use Rattle.gql_collect.specs.Basis.{setting_by}
+use Rattle.gql_select.specs.Fewer.{reading_over}
+use Rattle.gql_select.specs.Once.{collect_once}
+use Rattle.gql_select.specs.Reading.{keyed, merged, Reading}
+use Rattle.gql_collect.specs.Basis.{execution_of, setting_by}
+use Rattle.gql_collect.specs.DeclaredFields.{declared_among}
 use Rattle.gql_collect.specs.declared.basis.Basis.{Basis}
 use Rattle.gql_collect.specs.declared.basis.Grouping.{Grouping}
 use Rattle.gql_collect.specs.declared.basis.Grouping.TheVariants as grouping
 
--- the fields of the objects of a name in selections, as an execution reads them
-abbrev pub collected : Basis → List ℕ → List (Positioned Selection) → List (Positioned Field)
-collected basis object selections = collect (setting_by basis) object selections
+-- the fields of the objects of a name in selections: each occurrence apart as often as it stands,
+-- and merged those of each fragment at its first spread
+abbrev pub collect_by : Grouping → Setting → List ℕ → List (Positioned Selection)
+    → List (Positioned Field)
+collect_by grouping.ByKey setting object selections = collect_once setting object selections
+collect_by grouping.ByKeyWhole setting object selections = collect_once setting object selections
+collect_by grouping.Each setting object selections = collect setting object selections
+
+-- those of them that the object has, as an execution reads them
+abbrev pub collected : Grouping → Basis → List ℕ → List (Positioned Selection)
+    → List (Positioned Field)
+collected by basis object selections =
+    declared_among (execution_of basis) object (collect_by by (setting_by basis) object selections)
+
+-- how an execution reads sets, where occurrences are grouped so
+abbrev pub reading_by : Grouping → Basis
+    → Reading (List ℕ) (Positioned Field) (Positioned Selection)
+reading_by by basis =
+    reading_over (reading (setting_by basis))
+    (λ object selections. collected by basis object selections)
 
 -- the fields that stand for groups of occurrences, under their keys
 abbrev pub groups_by : Grouping → Setting → List (Positioned Field)
@@ -39,4 +59,4 @@ abbrev pub groups_in : (is_root : Bool) → Basis → List ℕ → List (Positio
     → List (List ℕ × Positioned Field)
 groups_in is_root basis object selections =
     groups_by (grouping_at is_root basis.grouping) (setting_by basis)
-    (collected basis object selections)
+    (collected basis.grouping basis object selections)

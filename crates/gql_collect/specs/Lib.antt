@@ -2,6 +2,8 @@ pub mod Asks
 pub mod Basis
 pub mod CoerceArguments
 pub mod CollectFields
+pub mod CollectOnce
+pub mod DeclaredFields
 pub mod Execution
 pub mod GroupFields
 pub mod Groups

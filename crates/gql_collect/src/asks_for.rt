@@ -76,7 +76,8 @@ fn ask_resolved(
     ask_named(alloc, basis, object, name, written)
 }
 
-fn is_only_introspection(mode: IntrospectionMode) -> bool
+/// Whether fields of the schema alone have values.
+pub(crate) fn is_only_introspection(mode: IntrospectionMode) -> bool
     ensures { result ≡ is_introspection_only mode }
 {
     match mode {

@@ -9,6 +9,8 @@ mod asks_for;
 mod basis;
 mod coerce_arguments;
 mod collect;
+mod collect_once;
+mod declared_fields;
 mod group;
 mod group_fields;
 mod key_names;
@@ -19,6 +21,10 @@ mod object_fields;
 pub use asks::Asks;
 pub use basis::{Basis, Grouping};
 pub use collect::{Collector, collect_fields, collect_merged_fields};
+pub use collect_once::{
+    collect_counted, collect_fields_counted, collect_merged_counted, collect_once_fields,
+    collect_once_merged_fields,
+};
 pub use group::Group;
 pub use key_names::Keys;
 pub use level::{Level, Node};

@@ -6,8 +6,7 @@ ghost use Rattle.gql_request.specs.QueryEnv.{NestsIn};
 ghost use Rattle.gql_select.specs.Collected.{own_selections};
 ghost use Rattle.gql_collect.specs.Basis.{setting_by};
 ghost use Rattle.gql_select.specs.Behind.{all_behind};
-ghost use Rattle.gql_collect.specs.GroupFields.{collected};
-ghost use Rattle.gql_collect.specs.GroupFields.{groups_by};
+ghost use Rattle.gql_collect.specs.GroupFields.{collect_by, collected, groups_by};
 ghost use Rattle.gql_collect.specs.Groups.{united};
 ghost use Rattle.gql_collect.specs.Known.{IsOfAsked};
 ghost use Rattle.gql_collect.specs.Levels.{asked_behind, asked_by, asked_of, asked_on, members_of};
@@ -17,6 +16,8 @@ use crate::asks::Asks;
 use crate::asks_for::asks_for;
 use crate::basis::{Basis, Grouping};
 use crate::collect::{collect_fields, collect_merged_fields};
+use crate::collect_once::{collect_once_fields, collect_once_merged_fields};
+use crate::declared_fields::declared_fields;
 use crate::group::{Group, Groups};
 use crate::group_fields::group_fields;
 use crate::key_names::Keys;
@@ -28,31 +29,72 @@ use gql_schema::{SchemaType, Types};
 use std::alloc::Global;
 use std::rc::Rc;
 
-/// The fields of an object in selections.
+/// The fields that an object declares, in selections.
 pub fn fields_in<'a>(
     alloc: Global,
     basis: &Basis<'a>,
     object: &str,
     selections: &'a [Positioned<Selection>],
 ) -> Made<Vec<&'a Positioned<Field>>>
-    ensures { IfOk result (λ fields. all_behind fields.items
-        ≡ collected basis.entry.now object.now selections.entry.now) }
+    ensures { IfOk result (λ fields. all_behind fields.items ≡ collected basis.entry.now.grouping
+        basis.entry.now object.now selections.entry.now) }
 {
-    collect_fields(alloc, &basis.collector(), object, selections)
+    let fields = collect_in(alloc, basis, object, selections)?;
+    Ok(declared_fields(basis, object, fields))
 }
 
-/// The fields of an object in the sets of all occurrences of a key.
+/// The fields that an object declares, in the sets of all occurrences of a key.
 pub fn fields_beneath<'a>(
     alloc: Global,
     basis: &Basis<'a>,
     object: &str,
     group: &Group<'a>,
 ) -> Made<Vec<&'a Positioned<Field>>>
-    ensures { IfOk result (λ fields. all_behind fields.items
-        ≡ collected basis.entry.now object.now (own_selections (united group.entry.now))) }
+    ensures { IfOk result (λ fields. all_behind fields.items ≡ collected basis.entry.now.grouping
+        basis.entry.now object.now (own_selections (united group.entry.now))) }
 {
+    let fields = collect_beneath(alloc, basis, object, group)?;
+    Ok(declared_fields(basis, object, fields))
+}
+
+/// All fields in selections: each occurrence as often as it stands where each is a group of its own,
+/// and else those of a fragment at its first spread.
+fn collect_in<'a>(
+    alloc: Global,
+    basis: &Basis<'a>,
+    object: &str,
+    selections: &'a [Positioned<Selection>],
+) -> Made<Vec<&'a Positioned<Field>>>
+    ensures { IfOk result (λ fields. all_behind fields.items ≡ collect_by basis.entry.now.grouping
+        (setting_by basis.entry.now) object.now selections.entry.now) }
+{
+    let collector = basis.collector();
+    match basis.grouping {
+        Grouping::ByKey | Grouping::ByKeyWhole => {
+            collect_once_fields(alloc, &collector, object, selections)
+        }
+        Grouping::Each => collect_fields(alloc, &collector, object, selections),
+    }
+}
+
+/// The same in the sets of all occurrences of a key.
+fn collect_beneath<'a>(
+    alloc: Global,
+    basis: &Basis<'a>,
+    object: &str,
+    group: &Group<'a>,
+) -> Made<Vec<&'a Positioned<Field>>>
+    ensures { IfOk result (λ fields. all_behind fields.items ≡ collect_by basis.entry.now.grouping
+        (setting_by basis.entry.now) object.now (own_selections (united group.entry.now))) }
+{
+    let collector = basis.collector();
     let more = group.more.as_slice();
-    collect_merged_fields(alloc, &basis.collector(), object, group.first, more)
+    match basis.grouping {
+        Grouping::ByKey | Grouping::ByKeyWhole => {
+            collect_once_merged_fields(alloc, &collector, object, group.first, more)
+        }
+        Grouping::Each => collect_merged_fields(alloc, &collector, object, group.first, more),
+    }
 }
 
 /// The level of an object with these fields, grouped so, whose sets nest within the levels of the

@@ -14,18 +14,18 @@ use Rattle.gql_place.specs.Answered.{IsAnswering}
 use Rattle.gql_resolve.specs.Call.{Call}
 use Rattle.gql_resolve.specs.declared.answer.Answer.{Answer}
 use Rattle.gql_resolve.specs.declared.field_value.FieldValue.{FieldValue}
-use Rattle.gql_select.proofs.DocumentLemmas.{is_reading}
-use Rattle.gql_select.specs.Documents.{reading}
-use Rattle.gql_collect.specs.Basis.{execution_of, setting_by}
-use Rattle.gql_engine.specs.ExecuteQuery.{AgreesInside, apart_response, basis_of, merged_response, place_at_root, response_by, root_selections, root_spot}
+use Rattle.gql_collect.specs.Basis.{execution_of}
+use Rattle.gql_collect.specs.DeclaredFields.{declared_reading}
+use Rattle.gql_engine.specs.ExecuteQuery.{AgreesInside, apart_response, basis_of, merged_response, place_at_root, reading_in, response_by, root_selections, root_spot}
 use Rattle.gql_engine.specs.ExecuteMutation.{root_asked, serial_apart_response, serial_response, serial_response_by}
 use Rattle.gql_collect.specs.declared.basis.Grouping.{Grouping}
 use Rattle.gql_collect.specs.declared.basis.Grouping.TheVariants as grouping
+use Rattle.gql_engine.proofs.FewerKeyLemmas.{is_read}
 use Rattle.gql_engine.proofs.GroupedLemmas.{by_key_is_merged, by_key_whole_is_merged, each_is_apart, serial_by_key, serial_by_key_whole, serial_each}
 
 -- answers hang on what a field asks alone, by whatever fragments the fields are read
 answers_alike : {V : Type 0} (is_root : Bool) (execution : Execution) (answer : Call V → Answer V)
-    → IsAnswering (reading (setting_in execution)) (λ field. field.pos) (field_outcome is_root execution answer)
+    → IsAnswering (declared_reading execution (setting_in execution)) (λ field. field.pos) (field_outcome is_root execution answer)
 answers_alike is_root execution answer =
     let kept = is_answering execution.known (setting_in execution) (declared_arguments execution.schema) (named_outcome is_root execution answer)
     (are_fitting is_root execution answer) in
@@ -41,8 +41,8 @@ module _ {V : Type 0} (scene : Scene V) where
   apart_is_merged answer n agree =
       let execution = execution_of (basis_of scene) in
       ap (place_at_root scene)
-      (places_apart_are_merged (List ℕ) (FieldValue V) (Positioned Field) (Positioned Selection) (reading (setting_by (basis_of scene)))
-      (is_reading (setting_by (basis_of scene))) (λ field. field.pos) (field_outcome false execution answer) (answers_alike false execution answer)
+      (places_apart_are_merged (List ℕ) (FieldValue V) (Positioned Field) (Positioned Selection) (reading_in scene)
+      (is_read scene) (λ field. field.pos) (field_outcome false execution answer) (answers_alike false execution answer)
       n (root_spot scene).object (root_spot scene).parent (root_selections scene) agree)
 
   -- so it is for any grouping
@@ -58,8 +58,8 @@ module _ {V : Type 0} (scene : Scene V) where
     serial_apart_is_merged (suc n) agree =
         let execution = execution_of (basis_of scene) in
         ap (place_at_root scene)
-        (mutation_places_apart_are_merged (List ℕ) (FieldValue V) (Positioned Field) (Positioned Selection) W (reading (setting_by (basis_of scene)))
-        (is_reading (setting_by (basis_of scene))) (world_after execution effect (root_asked scene)) (λ field. field.pos)
+        (mutation_places_apart_are_merged (List ℕ) (FieldValue V) (Positioned Field) (Positioned Selection) W (reading_in scene)
+        (is_read scene) (world_after execution effect (root_asked scene)) (λ field. field.pos)
         (λ w. field_outcome true execution (λ call. answer call w)) (λ w. field_outcome false execution (λ call. answer call w))
         (λ w. answers_alike true execution (λ call. answer call w)) (λ w. answers_alike false execution (λ call. answer call w))
         n (root_spot scene).object (root_spot scene).parent (root_selections scene) world agree)

@@ -20,19 +20,19 @@ use Rattle.gql_resolve.specs.Call.{Call}
 use Rattle.gql_resolve.specs.Layers.{layers_of}
 use Rattle.gql_resolve.specs.declared.answer.Answer.{Answer}
 use Rattle.gql_resolve.specs.declared.field_value.FieldValue.{FieldValue}
+use Rattle.gql_select.proofs.FewerLemmas.{serial_fewer}
 use Rattle.gql_select.proofs.GroupLemmas.{by_merged_groups}
 use Rattle.gql_select.specs.Collected.{own_selections}
-use Rattle.gql_select.specs.Documents.{placing_by}
-use Rattle.gql_select.specs.Grouped.{below_root, in_turn, respond_by}
+use Rattle.gql_select.specs.Fewer.{FirstCountsInTurn}
+use Rattle.gql_select.specs.Grouped.{in_turn, respond_by}
 use Rattle.gql_collect.specs.Asks.{asking_by, asks_of}
 use Rattle.gql_objects.specs.Outcomes.{outcome_by}
 use Rattle.gql_collect.specs.Basis.{execution_of, setting_by}
-use Rattle.gql_engine.specs.TaskCounts.{counting_keys, counts_by, serial_count, serial_count_by, tasks_in, tasks_of}
-use Rattle.gql_collect.specs.GroupFields.{collected}
-use Rattle.gql_collect.specs.GroupFields.{groups_by}
+use Rattle.gql_engine.specs.TaskCounts.{counting_among, counting_keys, counts_by, serial_count, serial_count_by, tasks_in, tasks_of}
+use Rattle.gql_collect.specs.GroupFields.{collected, groups_by, reading_by}
 use Rattle.gql_objects.specs.Jobs.{Job, job_of, jobs_of_as}
-use Rattle.gql_engine.specs.ExecuteQuery.{basis_by, job_subject, Nests, root_selections, root_spot}
-use Rattle.gql_engine.specs.ExecuteMutation.{answer_in_phase, key_jobs_by, keys_of}
+use Rattle.gql_engine.specs.ExecuteQuery.{basis_by, basis_of, job_subject, Nests, root_selections, root_spot}
+use Rattle.gql_engine.specs.ExecuteMutation.{answer_in_phase, key_jobs_by, keys_by, root_asked}
 use Rattle.gql_complete.specs.FoundObjects.{Spot, spots}
 use Rattle.gql_collect.specs.Nesting.{IsWithin}
 use Rattle.gql_collect.specs.declared.asks.Asks.{Asks}
@@ -45,6 +45,8 @@ use Rattle.gql_objects.proofs.OutcomeLemmas.{outcome_is}
 use Rattle.gql_objects.proofs.ObjectLevelLemmas.{jobs_all_as}
 use Rattle.gql_engine.proofs.TaskCountLemmas.{counting_is, parents-Absent, parents-Leaf, spots_counted, TaskWithin}
 use Rattle.gql_engine.proofs.MutationLemmas.{below_outcome}
+use Rattle.gql_engine.proofs.FewerKeyLemmas.{counted_first, is_read, nest_in, operation_nests, world_first}
+use Rattle.gql_collect.proofs.CollectedLemmas.{all_collected, collected_leaves}
 use Rattle.gql_collect.proofs.NestingLemmas.{both_within, merged_all, nests_within}
 
 -- the tasks of root keys with all under them, each by the answers of its own phase
@@ -75,8 +77,11 @@ module _ {V W : Type 0} (basis : Basis) (answer : Call V → W → Answer V) (be
       → tasks_in basis (answer_between answer before behind) n object parent selections ≡ tasks_in basis (λ call. answer call behind) n object parent selections
   below_counted n object parent selections =
       λ i. total (values_of (respond_by
-      (placing_by (setting_by basis) (λ o p f below. one_if (field_asking false (execution_of basis) o p f)
-      + total (map (λ (inner : List ℕ × FieldValue V). total (values_of (below inner.0 inner.1))) (parents_in (below_outcome basis answer before behind o p f i).shape))))
+      (record {
+        reading = reading_by basis.grouping basis;
+        place = λ o p f below. one_if (field_asking false (execution_of basis) o p f)
+            + total (map (λ (inner : List ℕ × FieldValue V). total (values_of (below inner.0 inner.1))) (parents_in (below_outcome basis answer before behind o p f i).shape));
+      })
       (λ one other. one + other) (groups_by basis.grouping (setting_by basis)) n object parent selections))
 
 module _ {V W : Type 0} (how : Grouping) (scene : Scene V) (serving : Serving V W) (n : ℕ) where
@@ -156,8 +161,9 @@ module _ {V W : Type 0} (how : Grouping) (scene : Scene V) (serving : Serving V 
       let basis = basis_by how scene in
       jobs_all_as (TaskWithin n) (λ field. IsWithin (setting_by basis) n (own_selections field)) basis (root_spot scene) (λ field asking q. q) true (root_selections scene)
       (merged_all (λ field. IsWithin (setting_by basis) n (own_selections field)) (λ f g h k. both_within (setting_by basis) n f g h k)
-      (setting_by basis) (collected basis (root_spot scene).object (root_selections scene))
-      (nests_within (setting_by basis) n (operation_set scene.env.now.operation) nests (root_spot scene).object))
+      (setting_by basis) (collected how basis (root_spot scene).object (root_selections scene))
+      (all_collected how basis (root_spot scene).object (λ field. IsWithin (setting_by basis) n (own_selections field)) (root_selections scene)
+      (nests_within (setting_by basis) n (operation_set scene.env.now.operation) nests (root_spot scene).object)))
 
   -- the tasks of a whole mutation are counted by its definition
   pub mutation_counted : {State : Type 0} (choice : Choice State) (world : W) (old new : Stage (Job V) State)
@@ -168,15 +174,29 @@ module _ {V W : Type 0} (how : Grouping) (scene : Scene V) (serving : Serving V 
       let chain = phases_counted serving n choice world (key_jobs_by how scene) old new phases (keys_within n nests)
       (ap length no_marks ∙ sym (ap length no_tasks)) (subst (AllByRecursion (TaskWithin n)) (sym no_tasks) tt) (ap (waiting_from 0) no_marks) in
       let none : length old.made.tasks ≡ 0 = ap length no_tasks in
-      let keys = keys_counted how scene serving n (keys_of scene) world in
+      let keys = keys_counted how scene serving n (keys_by how scene) world in
       let first : length new.made.tasks ≡ keys_total serving n world (key_jobs_by how scene) = omega arith in
       first ∙ keys
+
+-- what is asked hangs on first occurrences
+counting_first : {V W : Type 0} (scene : Scene V) (answer : Call V → W → Answer V) (effect : Call V → W → W)
+    → FirstCountsInTurn (counting_keys scene answer effect)
+counting_first scene answer effect = record {
+  root = λ world. counted_first true (execution_of (basis_of scene)) (λ call. answer call world) (setting_by (basis_of scene));
+  place = λ world. counted_first false (execution_of (basis_of scene)) (λ call. answer call world) (setting_by (basis_of scene));
+  effect = λ world f g. world_first (execution_of (basis_of scene)) effect (root_asked scene) world f g;
+}
 
 -- by merged execution
 pub serial_count_is : {V W : Type 0} (scene : Scene V) (answer : Call V → W → Answer V) (effect : Call V → W → W) (world : W) (n : ℕ)
     → serial_count_by scene answer effect world n grouping.ByKey ≡ serial_count scene answer effect world n
 serial_count_is scene answer effect world n =
-    λ i. total (values_of (in_turn (counting_keys scene answer effect).effect
+    (λ i. total (values_of (in_turn (counting_keys scene answer effect).effect
     (λ before behind field. (counting_keys scene answer effect).root before (root_spot scene).object (root_spot scene).parent field
-    (λ object parent. by_merged_groups (below_root (counting_keys scene answer effect) behind) (λ one other. one + other) (levels_beneath n) object parent (own_selections field) i))
-    world (keys_of scene)))
+    (λ object parent. by_merged_groups (counting_among (basis_of scene) (λ call. answer call behind)) (λ one other. one + other) (levels_beneath n) object parent
+    (own_selections field) i))
+    world (keys_by grouping.ByKey scene))))
+    ∙ ap (λ ps. total (values_of ps))
+    (serial_fewer (counting_keys scene answer effect) (is_read scene) (counting_first scene answer effect) (collected grouping.ByKey (basis_of scene)) (nest_in scene)
+    (collected_leaves (basis_of scene)) (levels_beneath n) (root_spot scene).object (root_spot scene).parent (root_selections scene) world
+    (operation_nests scene))

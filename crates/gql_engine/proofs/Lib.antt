@@ -1,5 +1,6 @@
 pub mod ApartLemmas
 pub mod ContextLemmas
+pub mod FewerKeyLemmas
 pub mod GivenLemmas
 pub mod GroupedLemmas
 pub mod KeyCountLemmas

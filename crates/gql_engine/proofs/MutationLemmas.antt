@@ -24,7 +24,7 @@ use Rattle.gql_resolve.specs.Layers.{layers_of}
 use Rattle.gql_resolve.specs.declared.answer.Answer.{Answer}
 use Rattle.gql_resolve.specs.declared.field_value.FieldValue.{FieldValue}
 use Rattle.gql_select.specs.Collected.{own_selections}
-use Rattle.gql_select.specs.Documents.{both, placing_by, reading}
+use Rattle.gql_select.specs.Documents.{both, reading}
 use Rattle.gql_select.specs.Grouped.{in_turn, respond_by, world_behind}
 use Rattle.gql_select.specs.Reading.{keyed}
 use Rattle.gql_select.proofs.UnitingLemmas.{distinct_united, either, united_distinct}
@@ -33,13 +33,12 @@ use Rattle.gql_objects.specs.Outcomes.{outcome_by}
 use Rattle.gql_objects.specs.Members.{absent_place, members_with, typename_place}
 use Rattle.gql_objects.specs.Assembly.{IsRight}
 use Rattle.gql_collect.specs.Basis.{execution_of, setting_by}
-use Rattle.gql_collect.specs.GroupFields.{collected}
-use Rattle.gql_collect.specs.GroupFields.{groups_by, keeps_whole}
+use Rattle.gql_collect.specs.GroupFields.{collected, groups_by, keeps_whole, reading_by}
 use Rattle.gql_objects.specs.Jobs.{Job, job_of, jobs_of_as}
 use Rattle.gql_collect.specs.Levels.{Asked, asked_in_as, asked_on}
 use Rattle.gql_objects.specs.ExecuteSelectionSet.{beneath_by}
 use Rattle.gql_engine.specs.ExecuteQuery.{basis_by, job_subject, Nests, root_selections, root_spot}
-use Rattle.gql_engine.specs.ExecuteMutation.{answer_in_phase, answering, key_jobs_by, keys_of, last_world_of, PlacedInTurn, serial_members_by}
+use Rattle.gql_engine.specs.ExecuteMutation.{answer_in_phase, answering, key_jobs_by, keys_by, last_world_of, PlacedInTurn, serial_members_by}
 use Rattle.gql_objects.specs.PlaceStore.{present}
 use Rattle.gql_collect.specs.Nesting.{IsWithin}
 use Rattle.gql_collect.specs.declared.asks.Asks.{Asks}
@@ -49,7 +48,9 @@ use Rattle.gql_collect.specs.declared.basis.Grouping.{Grouping}
 use Rattle.gql_collect.proofs.AsksLemmas.{asking_is}
 use Rattle.gql_objects.proofs.OutcomeLemmas.{outcome_is}
 use Rattle.gql_objects.proofs.MembersLemmas.{fill-Absent, fill-Leaf, places_under}
+use Rattle.gql_collect.proofs.CollectedLemmas.{all_collected}
 use Rattle.gql_collect.proofs.NestingLemmas.{both_within, merged_all, nests_within}
+use Rattle.gql_engine.proofs.FewerKeyLemmas.{keys_leave}
 
 -- one place more
 module _ {V W : Type 0} (serving : Serving V W) where
@@ -83,8 +84,8 @@ module _ {V W : Type 0} (basis : Basis) (answer : Call V → W → Answer V) (be
       → beneath_by basis (answer_between answer before behind) n field object parent
       ≡ beneath_by basis (λ call. answer call behind) n field object parent
   below_alike n field object parent =
-      λ i. respond_by (placing_by (setting_by basis) (λ o p f below. place_with f.pos (below_outcome o p f i) below)) join (groups_by basis.grouping (setting_by basis))
-      n object parent (own_selections field)
+      λ i. respond_by (record { reading = reading_by basis.grouping basis; place = λ o p f below. place_with f.pos (below_outcome o p f i) below }) join
+      (groups_by basis.grouping (setting_by basis)) n object parent (own_selections field)
 
 -- keys that stand once each do so once they are answered
 module _ {F Pl W : Type 0} (effect : W → F → W) (placed : W → W → F → Pl) where
@@ -219,14 +220,15 @@ module _ {V W : Type 0} (how : Grouping) (scene : Scene V) (serving : Serving V 
   members_in_turn world os zero nests placed = cc
   members_in_turn world os (suc n) nests placed =
       let setting = setting_by (basis_by how scene) in
-      let fields : List (Positioned Field) = collected (basis_by how scene) (root_spot scene).object (root_selections scene) in
+      let fields : List (Positioned Field) = collected how (basis_by how scene) (root_spot scene).object (root_selections scene) in
       united_same (keeps_whole how) _ _
-      (keys_are how scene serving n (keys_of scene) world os
+      (keys_are how scene serving n (keys_by how scene) world os
       (merged_all (λ field. IsWithin setting n (own_selections field)) (λ f g h k. both_within setting n f g h k) setting fields
-      (nests_within setting n (operation_set scene.env.now.operation) nests (root_spot scene).object)) placed)
+      (all_collected how (basis_by how scene) (root_spot scene).object (λ field. IsWithin setting n (own_selections field)) (root_selections scene)
+      (nests_within setting n (operation_set scene.env.now.operation) nests (root_spot scene).object))) placed)
       (distinct_in_turn (answering scene serving.answer serving.effect).effect
       (λ before behind field. (answering scene serving.answer serving.effect).root before (root_spot scene).object (root_spot scene).parent field (beneath how scene serving n behind field))
-      (keys_of scene) world (distinct_united both [] (keyed (reading setting) fields) tt))
+      (keys_by how scene) world (distinct_united both [] (keyed (reading setting) fields) tt))
 
   -- one root key, and the world after it
   one_past : (world : W) (field : Positioned Field) (asking : Option (Asking V)) (jobs : List (Job V))
@@ -246,4 +248,4 @@ module _ {V W : Type 0} (how : Grouping) (scene : Scene V) (serving : Serving V 
 
   -- the world after the tasks of all root keys is the last one of the definition
   pub last_past : (world : W) → world_past serving job_subject world (key_jobs_by how scene) ≡ last_world_of scene serving.effect world
-  last_past world = keys_past (keys_of scene) world
+  last_past world = keys_past (keys_by how scene) world ∙ keys_leave scene serving.effect how world

@@ -7,7 +7,7 @@ use Rattle.std.specs.declared.alloc.Global.{Global}
 use Rattle.std.specs.declared.rc.Rc.{Rc}
 use Rattle.gql_base.specs.Pairs.{values_of}
 use Rattle.gql_base.specs.declared.pos.Pos.{Pos}
-use Rattle.gql_doc.specs.Depth.{operation_set}
+use Rattle.gql_doc.specs.Depth.{field_set, operation_set}
 use Rattle.gql_doc.specs.declared.document.Field.{Field}
 use Rattle.gql_doc.specs.declared.document.Positioned.{Positioned}
 use Rattle.gql_lists.proofs.SliceLemmas.{get_at, get_within}
@@ -29,7 +29,7 @@ use Rattle.gql_place.specs.Pieces.{place_in}
 use Rattle.gql_place.specs.declared.piece.Piece.{Piece}
 use Rattle.gql_place.specs.declared.place.Tree.TheVariants as tree
 use Rattle.gql_place.proofs.PieceLemmas.{object_same, place_same, same_trans}
-use Rattle.gql_request.specs.QueryEnv.{levels_of}
+use Rattle.gql_request.specs.QueryEnv.{levels_of, NestsIn}
 use Rattle.gql_resolve.specs.Call.{Call, is_mutation}
 use Rattle.gql_resolve.specs.declared.answer.Answer.{Answer}
 use Rattle.gql_resolve.specs.declared.resolver_set.ResolverSet.{Ghosts as Resolving}
@@ -62,6 +62,7 @@ use Rattle.gql_engine.proofs.TaskCountLemmas.{tasks_counted}
 use Rattle.gql_objects.proofs.JobLemmas.{at_root, root_level_jobs}
 use Rattle.gql_select.proofs.NestLemmas.{collected_nest}
 use Rattle.gql_objects.proofs.PlacedLemmas.{apart_at, root_right}
+use Rattle.gql_collect.proofs.CollectedLemmas.{all_collected}
 use Rattle.gql_collect.proofs.NestingLemmas.{nests_within}
 
 -- a list that begins with another
@@ -142,11 +143,12 @@ module _ {V : Type 0} (how : Grouping) (scene : Scene V) where
       })
 
   -- the fields of the root nest
-  pub root_nest : (object : List ℕ) (fields : List (Positioned Field)) → fields ≡ collected (basis_by how scene) object (root_selections scene) → AllNest scene.env.now fields
+  pub root_nest : (object : List ℕ) (fields : List (Positioned Field)) → fields ≡ collected how (basis_by how scene) object (root_selections scene) → AllNest scene.env.now fields
   root_nest object fields is =
       let setting = setting_by (basis_by how scene) in
       subst (AllNest scene.env.now) (sym is)
-      (collected_nest setting object (levels_of scene.env.now) setting.levels (operation_set scene.env.now.operation) scene.env.now.nests)
+      (all_collected how (basis_by how scene) object (λ field. NestsIn scene.env.now (field_set field)) (root_selections scene)
+      (collected_nest setting object (levels_of scene.env.now) setting.levels (operation_set scene.env.now.operation) scene.env.now.nests))
 
   -- the tasks of the root have paths of one segment
   root_short : AllByRecursion (λ (job : Job V). length job.path ≡ 1) (root_jobs_by how scene)

@@ -31,15 +31,15 @@ use Rattle.gql_resolve.specs.Layers.{layers_of}
 use Rattle.gql_resolve.specs.declared.answer.Answer.{Answer}
 use Rattle.gql_resolve.specs.declared.field_value.FieldValue.{FieldValue}
 use Rattle.gql_resolve.specs.declared.record_entry.RecordEntry.{RecordEntry}
+use Rattle.gql_select.proofs.FewerLemmas.{grouped_fewer}
 use Rattle.gql_select.proofs.GroupLemmas.{by_merged_groups}
 use Rattle.gql_select.specs.Collected.{own_selections, Setting}
 use Rattle.gql_select.specs.Reading.{over}
 use Rattle.gql_collect.specs.Asks.{asking_by, asks_of}
 use Rattle.gql_objects.specs.Outcomes.{outcome_by}
 use Rattle.gql_collect.specs.Basis.{execution_of, setting_by}
-use Rattle.gql_engine.specs.TaskCounts.{count_by, counting_by, counts_by, merged_count, tasks_in, tasks_of}
-use Rattle.gql_collect.specs.GroupFields.{collected}
-use Rattle.gql_collect.specs.GroupFields.{groups_by, groups_in}
+use Rattle.gql_engine.specs.TaskCounts.{count_by, counting_among, counting_by, counts_by, merged_count, tasks_in, tasks_of}
+use Rattle.gql_collect.specs.GroupFields.{collected, groups_by, groups_in}
 use Rattle.gql_objects.specs.Jobs.{completed_by, Job, job_of, jobs_at, jobs_beneath, jobs_of}
 use Rattle.gql_engine.specs.ExecuteQuery.{basis_by, basis_of, job_subject, Nests, root_jobs_by, root_selections, root_spot}
 use Rattle.gql_complete.specs.FoundObjects.{numbered, Spot, spots, spots_step}
@@ -52,6 +52,8 @@ use Rattle.gql_collect.specs.declared.basis.Grouping.TheVariants as grouping
 use Rattle.gql_collect.proofs.AsksLemmas.{asking_is}
 use Rattle.gql_objects.proofs.OutcomeLemmas.{outcome_is}
 use Rattle.gql_objects.proofs.ObjectLevelLemmas.{every_flat, every_of, jobs_all}
+use Rattle.gql_engine.proofs.FewerKeyLemmas.{counted_first, is_read, nest_in, operation_nests}
+use Rattle.gql_collect.proofs.CollectedLemmas.{all_collected, collected_leaves, none_collected}
 use Rattle.gql_collect.proofs.NestingLemmas.{both_within, every_map, groups_all, groups_none, nests_within}
 
 -- Sums.
@@ -253,13 +255,15 @@ module _ {V : Type 0} (basis : Basis) (answer : Call V → Answer V) where
       → tasks_in basis answer n object parent selections ≡ tasks_in basis answer (suc n) object parent selections
   enough zero selections within object parent =
       sym (level_is zero object parent selections
-      ∙ ap (λ fs. total (map (λ field. with_below object parent field (λ o p. 0)) (values_of (groups_by basis.grouping (setting_by basis) fs)))) (within object)
+      ∙ ap (λ fs. total (map (λ field. with_below object parent field (λ o p. 0)) (values_of (groups_by basis.grouping (setting_by basis) fs))))
+      (none_collected basis.grouping basis object selections (within object))
       ∙ ap (λ ms. total (map (λ field. with_below object parent field (λ o p. 0)) (values_of ms))) (groups_none basis.grouping (setting_by basis)))
   enough (suc n) selections within object parent =
       level_is n object parent selections
       ∙ ap total (each_field (enough n) (values_of (groups_in false basis object selections))
       (groups_all (λ field. IsWithin (setting_by basis) n (own_selections field)) (λ f g h k. both_within (setting_by basis) n f g h k)
-      basis.grouping (setting_by basis) (collected basis object selections) (within object)))
+      basis.grouping (setting_by basis) (collected basis.grouping basis object selections)
+      (all_collected basis.grouping basis object (λ field. IsWithin (setting_by basis) n (own_selections field)) selections (within object))))
       ∙ sym (level_is (suc n) object parent selections)
     where
       each_field : ((inner : List (Positioned Selection)) → IsWithin (setting_by basis) n inner → (o : List ℕ) (p : FieldValue V)
@@ -291,8 +295,9 @@ module _ {V : Type 0} (answer : Call V → Answer V) (n : ℕ) where
       at spot =
           jobs_all (TaskWithin n) (λ field. IsWithin (setting_by job.basis) n (own_selections field)) job.basis spot (λ field asking q. q) (own_selections job.field)
           (groups_all (λ field. IsWithin (setting_by job.basis) n (own_selections field)) (λ f g h k. both_within (setting_by job.basis) n f g h k)
-          job.basis.grouping (setting_by job.basis) (collected job.basis spot.object (own_selections job.field))
-          (within_more (setting_by job.basis) n (own_selections job.field) within spot.object))
+          job.basis.grouping (setting_by job.basis) (collected job.basis.grouping job.basis spot.object (own_selections job.field))
+          (all_collected job.basis.grouping job.basis spot.object (λ field. IsWithin (setting_by job.basis) n (own_selections field)) (own_selections job.field)
+          (within_more (setting_by job.basis) n (own_selections job.field) within spot.object)))
 
   -- the tasks under tasks are counted by the record's machine
   pub counting_is : (answers : Job V → Answer V) → ((job : Job V) → answers job ≡ answer job.asking.call)
@@ -314,8 +319,9 @@ module _ {V : Type 0} (by : Grouping) (scene : Scene V) (answer : Call V → Ans
       let basis = basis_by by scene in
       jobs_all (TaskWithin n) (λ field. IsWithin (setting_by basis) n (own_selections field)) basis (root_spot scene) (λ field asking q. q) (root_selections scene)
       (groups_all (λ field. IsWithin (setting_by basis) n (own_selections field)) (λ f g h k. both_within (setting_by basis) n f g h k)
-      by (setting_by basis) (collected basis (root_spot scene).object (root_selections scene))
-      (nests_within (setting_by basis) n (operation_set scene.env.now.operation) nests (root_spot scene).object))
+      by (setting_by basis) (collected by basis (root_spot scene).object (root_selections scene))
+      (all_collected by basis (root_spot scene).object (λ field. IsWithin (setting_by basis) n (own_selections field)) (root_selections scene)
+      (nests_within (setting_by basis) n (operation_set scene.env.now.operation) nests (root_spot scene).object)))
 
   -- a whole record of the tasks has as many as are counted
   pub tasks_counted : (answers : Job V → Answer V) → ((job : Job V) → answers job ≡ answer job.asking.call) → (entries : List RecordEntry) (made : Made (Job V))
@@ -333,4 +339,7 @@ module _ {V : Type 0} (by : Grouping) (scene : Scene V) (answer : Call V → Ans
 pub merged_count_is : {V : Type 0} (scene : Scene V) (answer : Call V → Answer V) (n : ℕ) → count_by scene answer n grouping.ByKey ≡ merged_count scene answer n
 merged_count_is scene answer n =
     ap (λ ps. total (values_of ps))
-    (by_merged_groups (counting_by (basis_of scene) answer) (λ one other. one + other) n (root_spot scene).object (root_spot scene).parent (root_selections scene))
+    (by_merged_groups (counting_among (basis_of scene) answer) (λ one other. one + other) n (root_spot scene).object (root_spot scene).parent (root_selections scene)
+    ∙ grouped_fewer (counting_by (basis_of scene) answer) (is_read scene) (counted_first false (execution_of (basis_of scene)) answer (setting_by (basis_of scene)))
+    (collected grouping.ByKey (basis_of scene)) (nest_in scene) (collected_leaves (basis_of scene)) n (root_spot scene).object (root_spot scene).parent
+    (root_selections scene) (operation_nests scene))

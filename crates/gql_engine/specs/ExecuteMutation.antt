@@ -16,16 +16,15 @@ use Rattle.gql_resolve.specs.Call.{Call}
 use Rattle.gql_resolve.specs.declared.answer.Answer.{Answer}
 use Rattle.gql_resolve.specs.declared.field_value.FieldValue.{FieldValue}
 use Rattle.gql_select.specs.Collected.{own_selections}
-use Rattle.gql_select.specs.Documents.{reading}
 use Rattle.gql_select.specs.Grouped.{in_turn, Mutating, serial_grouped, serial_respond, world_behind}
 use Rattle.gql_select.specs.Reading.{merged}
 use Rattle.gql_objects.specs.Assembly.{IsRight}
-use Rattle.gql_collect.specs.Basis.{execution_of, setting_by}
-use Rattle.gql_collect.specs.GroupFields.{collected}
+use Rattle.gql_collect.specs.Basis.{execution_of}
+use Rattle.gql_collect.specs.GroupFields.{groups_in}
 use Rattle.gql_objects.specs.Jobs.{Job, jobs_at_as}
 use Rattle.gql_objects.specs.ExecuteSelectionSet.{members_by}
 use Rattle.gql_engine.specs.ExecuteQuery.{basis_by, basis_of, job_subject, place_at_root, root_selections}
-use Rattle.gql_engine.specs.ExecuteQuery.{root_spot}
+use Rattle.gql_engine.specs.ExecuteQuery.{reading_in, root_spot}
 use Rattle.gql_collect.specs.declared.basis.Grouping.{Grouping}
 use Rattle.gql_collect.specs.declared.basis.Grouping.TheVariants as grouping
 
@@ -37,6 +36,11 @@ module _ {V : Type 0} (by : Grouping) (scene : Scene V) where
   -- what the execution has to do, one of these after another
   abbrev pub key_work_by : Work V (Job V)
   key_work_by = record { subject = job_subject; first = key_jobs_by }
+
+  -- the root keys in their order, each merged over its occurrences as they are collected
+  abbrev pub keys_by : List (List ℕ × Positioned Field)
+  keys_by =
+      groups_in true (basis_by by scene) (root_spot scene).object (root_selections scene)
 
 module _ {V : Type 0} (scene : Scene V) where
   -- the tasks of the root keys in merged execution
@@ -59,10 +63,10 @@ module _ {V : Type 0} (scene : Scene V) where
     selections = root_selections scene;
   }
 
-  -- the root keys in their order, each merged over its occurrences
+  -- the root keys in their order, each merged over all its occurrences
   abbrev pub keys_of : List (List ℕ × Positioned Field)
-  keys_of = merged (reading (setting_by (basis_of scene)))
-      (collected (basis_of scene) (root_spot scene).object (root_selections scene))
+  keys_of = merged (reading_in scene)
+      ((reading_in scene).fields (root_spot scene).object (root_selections scene))
 
   module _ {W : Type 0} (answer : Call V → W → Answer V) (effect : Call V → W → W) where
     -- how the mutation is answered: each root key in a world, and what is under it in the world
@@ -70,7 +74,7 @@ module _ {V : Type 0} (scene : Scene V) where
     abbrev pub answering : Mutating (List ℕ) (FieldValue V) (Positioned Field)
         (Positioned Selection) Place W
     answering = record {
-      reading = reading (setting_by (basis_of scene));
+      reading = reading_in scene;
       effect = world_after (execution_of (basis_of scene)) effect root_asked;
       root = λ world. placed (execution_of (basis_of scene)) true (λ call. answer call world);
       place = λ world. placed (execution_of (basis_of scene)) false (λ call. answer call world);
@@ -99,7 +103,7 @@ module _ {V : Type 0} (scene : Scene V) where
         (λ before behind field. answering.root before (root_spot scene).object
         (root_spot scene).parent field (λ object parent. members_by (basis_by by scene)
         (λ call. answer call behind) (levels_beneath n) object parent (own_selections field)))
-        world keys_of
+        world (keys_by by scene)
 
     -- the place of the whole response
     abbrev pub serial_response_by : Grouping → W → ℕ → Place

@@ -15,9 +15,10 @@ use Rattle.gql_resolve.specs.declared.answer.Answer.{Answer}
 use Rattle.gql_resolve.specs.declared.field_value.FieldValue.{FieldValue}
 use Rattle.gql_schema.specs.Object.{object_name}
 use Rattle.gql_select.specs.Conflicts.{Agree}
-use Rattle.gql_select.specs.Documents.{placing_by, reading}
 use Rattle.gql_select.specs.Grouped.{grouped, Placing, respond}
+use Rattle.gql_select.specs.Reading.{Reading}
 use Rattle.gql_collect.specs.Basis.{execution_of, setting_by}
+use Rattle.gql_collect.specs.DeclaredFields.{declared_reading}
 use Rattle.gql_engine.specs.GivenTasks.{asked_by_job}
 use Rattle.gql_objects.specs.Jobs.{Job, jobs_at, jobs_at_as, jobs_beneath}
 use Rattle.gql_objects.specs.ExecuteSelectionSet.{members_by}
@@ -100,16 +101,20 @@ module _ {V : Type 0} (scene : Scene V) where
   abbrev pub apart_work : Work V (Job V)
   apart_work = work_by grouping.Each scene
 
+  -- how its sets are read: all occurrences of the fields that an object declares
+  abbrev pub reading_in : Reading (List ℕ) (Positioned Field) (Positioned Selection)
+  reading_in = declared_reading (execution_of basis_of) (setting_by basis_of)
+
   -- how fields become places, by these answers
   abbrev pub placing_in : (Call V → Answer V)
       → Placing (List ℕ) (FieldValue V) (Positioned Field) (Positioned Selection) Place
   placing_in answer =
-      placing_by (setting_by basis_of) (placed (execution_of basis_of) false answer)
+      record { reading = reading_in; place = placed (execution_of basis_of) false answer }
 
   -- the operation agrees with itself, so many levels of sets deep: of one key there is one field
   abbrev pub AgreesInside : ℕ → Type 0
-  AgreesInside n = Agree (reading (setting_by basis_of)) n (root_spot scene).object
-      (root_selections scene) (root_selections scene)
+  AgreesInside n = Agree reading_in n (root_spot scene).object (root_selections scene)
+      (root_selections scene)
 
   -- the place of the whole response by merged execution, so many levels of sets deep
   abbrev pub merged_response : (Call V → Answer V) → ℕ → Place

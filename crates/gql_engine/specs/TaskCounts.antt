@@ -12,28 +12,40 @@ use Rattle.gql_resolve.specs.Call.{Call}
 use Rattle.gql_resolve.specs.declared.answer.Answer.{Answer}
 use Rattle.gql_resolve.specs.declared.field_value.FieldValue.{FieldValue}
 use Rattle.gql_select.specs.Collected.{own_selections}
-use Rattle.gql_select.specs.Documents.{placing_by, reading}
 use Rattle.gql_select.specs.Grouped.{grouped, in_turn, Mutating, Placing, respond_by, serial_grouped}
 use Rattle.gql_collect.specs.Basis.{execution_of, setting_by}
-use Rattle.gql_collect.specs.GroupFields.{groups_by}
+use Rattle.gql_collect.specs.DeclaredFields.{declared_reading}
+use Rattle.gql_collect.specs.GroupFields.{groups_by, reading_by}
 use Rattle.gql_objects.specs.Jobs.{completed_by, Job}
-use Rattle.gql_engine.specs.ExecuteQuery.{basis_by, basis_of, root_selections, root_spot}
-use Rattle.gql_engine.specs.ExecuteMutation.{keys_of, root_asked}
+use Rattle.gql_engine.specs.ExecuteQuery.{basis_by, basis_of, reading_in, root_selections}
+use Rattle.gql_engine.specs.ExecuteQuery.{root_spot}
+use Rattle.gql_engine.specs.ExecuteMutation.{keys_by, root_asked}
 use Rattle.gql_complete.specs.FoundObjects.{spots}
 use Rattle.gql_collect.specs.declared.basis.Basis.{Basis}
 use Rattle.gql_collect.specs.declared.basis.Grouping.{Grouping}
 
 module _ {V : Type 0} (basis : Basis) (answer : Call V → Answer V) where
-  -- how fields become numbers
+  -- how fields become numbers, all occurrences of those that an object declares
   abbrev pub counting_by : Placing (List ℕ) (FieldValue V) (Positioned Field) (Positioned Selection)
       ℕ
-  counting_by = placing_by (setting_by basis) (count_as (execution_of basis) answer false)
+  counting_by = record {
+    reading = declared_reading (execution_of basis) (setting_by basis);
+    place = count_as (execution_of basis) answer false;
+  }
+
+  -- the same of those that are collected
+  abbrev pub counting_among : Placing (List ℕ) (FieldValue V) (Positioned Field)
+      (Positioned Selection) ℕ
+  counting_among = record {
+    reading = reading_by basis.grouping basis;
+    place = count_as (execution_of basis) answer false;
+  }
 
   -- the numbers of the fields of an object with all under them, so many levels of sets deep
   abbrev pub counts_by : ℕ → List ℕ → FieldValue V → List (Positioned Selection)
       → List (List ℕ × ℕ)
   counts_by n object parent selections =
-      respond_by counting_by (λ one other. one + other)
+      respond_by counting_among (λ one other. one + other)
       (groups_by basis.grouping (setting_by basis)) n object parent selections
 
   -- their sum: the tasks of an object, and all under them
@@ -68,7 +80,7 @@ module _ {V W : Type 0} (scene : Scene V) (answer : Call V → W → Answer V)
   abbrev pub counting_keys : Mutating (List ℕ) (FieldValue V) (Positioned Field)
       (Positioned Selection) ℕ W
   counting_keys = record {
-    reading = reading (setting_by (basis_of scene));
+    reading = reading_in scene;
     effect = world_after (execution_of (basis_of scene)) effect (root_asked scene);
     root = λ world. count_as (execution_of (basis_of scene)) (λ call. answer call world) true;
     place = λ world. count_as (execution_of (basis_of scene)) (λ call. answer call world) false;
@@ -92,4 +104,4 @@ module _ {V W : Type 0} (scene : Scene V) (answer : Call V → W → Answer V)
         (λ before behind field. counting_keys.root before (root_spot scene).object
         (root_spot scene).parent field (λ object parent. counts_by (basis_by by scene)
         (λ call. answer call behind) (levels_beneath n) object parent (own_selections field)))
-        world (keys_of scene)))
+        world (keys_by by scene)))

@@ -16,6 +16,7 @@ mod shared;
 pub use apart::run_apart;
 pub use execute_mutation::run_mutation_grouped;
 pub use execute_query::run_grouped;
+pub use gql_collect::collect_counted;
 pub use gql_place::{Place, Tree, faults, header_ops, join, raise};
 pub use merged::run_merged;
 pub use scene::Scene;

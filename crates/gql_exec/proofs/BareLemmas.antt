@@ -20,7 +20,8 @@ use Rattle.gql_collect.specs.Execution.{Asking, Execution, field_asking, setting
 use Rattle.gql_meaning.specs.Responses.{Asked, levels_beneath, placed, root_place, world_after}
 use Rattle.gql_collect.specs.Basis.{execution_of}
 use Rattle.gql_objects.specs.Jobs.{Job, completed_by, job_of, jobs_at, jobs_at_as, jobs_beneath}
-use Rattle.gql_collect.specs.GroupFields.{grouping_at, groups_by}
+use Rattle.gql_collect.specs.DeclaredFields.{declared_among, declared_reading}
+use Rattle.gql_collect.specs.GroupFields.{collect_by, grouping_at, groups_by}
 use Rattle.gql_engine.specs.ExecuteQuery.{basis_by, basis_of, merged_response, root_jobs_by, root_selections, root_spot, work_by}
 use Rattle.gql_engine.specs.ExecuteMutation.{key_jobs_by, last_world_of, root_asked, serial_response}
 use Rattle.gql_complete.specs.FoundObjects.{Spot, spots}
@@ -35,10 +36,8 @@ use Rattle.gql_resolve.specs.declared.layers.Layers.{Layers}
 use Rattle.gql_resolve.specs.declared.resolver_set.ResolverSet.{Ghosts as Resolving}
 use Rattle.gql_resolve.specs.declared.turns.Turns.{Ghosts as Choosing}
 use Rattle.gql_select.specs.Collected.{collect, own_selections}
-use Rattle.gql_select.specs.Documents.{placing_by}
-use Rattle.gql_select.specs.Grouped.{Mutating, grouped, serial_grouped, world_behind}
+use Rattle.gql_select.specs.Grouped.{Beneath, Mutating, Placing, grouped, serial_grouped, world_behind}
 use Rattle.gql_select.specs.Reading.{merged}
-use Rattle.gql_select.specs.Documents.{reading}
 
 first-bare : (o : Option (Bor (List (ℕ × Value))))
     → option_to_list (option_copied (option_map (λ (layer : Bor (List (ℕ × Value))). shown layer.now) o)) ≡ option_to_list (option_copied o)
@@ -61,11 +60,27 @@ module _ {A B : Type 0} (f : A → B) where
   map-flat g h same [] = refl
   map-flat g h same (x ∷ xs) = (λ i. same x i ++ map-flat g h same xs i) ∙ sym (map-append f (g x) (flat_map g xs))
 
+-- how fields become places, by what is known of their execution
+abbrev pub placing_known : {P Pl : Type 0} → Execution → (List ℕ → P → Positioned Field → Beneath (List ℕ) P Pl → Pl)
+    → Placing (List ℕ) P (Positioned Field) (Positioned Selection) Pl
+placing_known execution place = record { reading = declared_reading execution (setting_in execution); place = place }
+
+-- the keys of an object's set, each merged over its occurrences
+abbrev pub keys_known : List ℕ → Execution → List (Positioned Selection) → List (List ℕ × Positioned Field)
+keys_known object execution selections =
+    merged (declared_reading execution (setting_in execution))
+    (declared_among execution object (collect (setting_in execution) object selections))
+
+-- the fields that stand for groups of its occurrences, which are collected as others are grouped
+abbrev pub groups_known : Grouping → Grouping → List ℕ → List (Positioned Selection) → Execution → List (List ℕ × Positioned Field)
+groups_known by collects object selections execution =
+    groups_by by (setting_in execution) (declared_among execution object (collect_by collects (setting_in execution) object selections))
+
 -- how a mutation is answered, by what is known of its execution
 abbrev pub mutating_in : {V W : Type 0} → Execution → (Call V → W → Answer V) → (Call V → W → W) → Asked V
     → Mutating (List ℕ) (FieldValue V) (Positioned Field) (Positioned Selection) Place W
 mutating_in execution answer effect asked = record {
-  reading = reading (setting_in execution);
+  reading = declared_reading execution (setting_in execution);
   effect = world_after execution effect asked;
   root = λ world. placed execution true (λ call. answer call world);
   place = λ world. placed execution false (λ call. answer call world);
@@ -81,7 +96,7 @@ module _ {V : Type 0} where
   abbrev jobs_knowing : Bool → Basis → List (Positioned Selection) → Spot V → Execution → List (Job V)
   jobs_knowing root basis selections spot execution =
       flat_map (λ (member : List ℕ × Positioned Field). job_of basis spot member.1 (field_asking root execution spot.object spot.parent member.1))
-      (groups_by (grouping_at root basis.grouping) (setting_in execution) (collect (setting_in execution) spot.object selections))
+      (groups_known (grouping_at root basis.grouping) basis.grouping spot.object selections execution)
 
   pub jobs-bare : (root : Bool) (basis : Basis) (selections : List (Positioned Selection)) (spot : Spot V)
       → jobs_at_as root (bare_basis basis) selections spot ≡ map bare_job (jobs_at_as root basis selections spot)
@@ -92,7 +107,7 @@ module _ {V : Type 0} where
       (λ (member : List ℕ × Positioned Field). job_of basis spot member.1 (field_asking root execution spot.object spot.parent member.1))
       (λ (member : List ℕ × Positioned Field). job_of (bare_basis basis) spot member.1 (field_asking root execution spot.object spot.parent member.1))
       (λ member. job-bare basis spot member.1 (field_asking root execution spot.object spot.parent member.1))
-      (groups_by (grouping_at root basis.grouping) (setting_in execution) (collect (setting_in execution) spot.object selections))
+      (groups_known (grouping_at root basis.grouping) basis.grouping spot.object selections execution)
 
   pub beneath-bare : (job : Job V) (answer : Answer V) → jobs_beneath (bare_job job) answer ≡ map bare_job (jobs_beneath job answer)
   beneath-bare job answer =
@@ -103,7 +118,7 @@ module _ {V : Type 0} where
   abbrev response_knowing : Scene V → (Call V → Answer V) → ℕ → Execution → Place
   response_knowing scene answer n execution =
       root_place scene.env.now.operation.pos
-      (grouped (placing_by (setting_in execution) (placed execution false answer)) n (root_spot scene).object (root_spot scene).parent
+      (grouped (placing_known execution (placed execution false answer)) n (root_spot scene).object (root_spot scene).parent
       (root_selections scene))
 
   pub response-bare : (scene : Scene V) (answer : Call V → Answer V) (n : ℕ) → merged_response (bare_scene scene) answer n ≡ merged_response scene answer n
@@ -129,7 +144,7 @@ module _ {V : Type 0} where
     abbrev last_knowing : W → Execution → W
     last_knowing world execution =
         world_behind (world_after execution effect (root_asked scene)) world
-        (merged (reading (setting_in execution)) (collect (setting_in execution) (root_spot scene).object (root_selections scene)))
+        (keys_known (root_spot scene).object execution (root_selections scene))
 
     pub last-bare : (world : W) → last_world_of (bare_scene scene) effect world ≡ last_world_of scene effect world
     last-bare world = ap (last_knowing world) (execution-bare (basis_of scene))

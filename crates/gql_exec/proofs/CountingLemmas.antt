@@ -2,8 +2,11 @@
 use Rattle.std.proofs.Common.{◌≡◌, ◌+◌, ℕ, Bool, true, false, List, Result, Ok, Err, OnOk, refl, ap, sym, ◌∙◌, subst, arith}
 use Rattle.gql_base.specs.Pairs.{values_of}
 use Rattle.gql_base.specs.declared.server_error.ServerError.{ServerError}
+use Rattle.gql_doc.specs.declared.document.Field.{Field}
+use Rattle.gql_doc.specs.declared.document.Positioned.{Positioned}
+use Rattle.gql_doc.specs.declared.document.Selection.{Selection}
 use Rattle.gql_engine.specs.declared.scene.Scene.{Scene}
-use Rattle.gql_exec.proofs.BareLemmas.{execution-bare}
+use Rattle.gql_exec.proofs.BareLemmas.{execution-bare, groups_known}
 use Rattle.gql_exec.specs.Bare.{bare_scene}
 use Rattle.gql_exec.proofs.AdmittedLemmas.{never_both}
 use Rattle.gql_exec.proofs.ExecutionLemmas.{refused_by_root, refused_by_stage}
@@ -23,7 +26,8 @@ use Rattle.gql_meaning.specs.Served.{Served, served_by}
 use Rattle.gql_engine.proofs.KeyCountLemmas.{serial_count_is}
 use Rattle.gql_engine.proofs.TaskCountLemmas.{merged_count_is}
 use Rattle.gql_engine.specs.TaskCounts.{count_by, serial_count_by}
-use Rattle.gql_collect.specs.GroupFields.{groups_by}
+use Rattle.gql_collect.specs.DeclaredFields.{declared_among}
+use Rattle.gql_collect.specs.GroupFields.{collect_by, groups_by}
 use Rattle.gql_engine.specs.ExecuteQuery.{basis_by, root_selections, root_spot}
 use Rattle.gql_engine.specs.ExecuteMutation.{root_asked}
 use Rattle.gql_collect.specs.declared.basis.Grouping.{Grouping}
@@ -33,19 +37,30 @@ use Rattle.gql_request.specs.declared.query_env.QueryEnv.{QueryEnv}
 use Rattle.gql_request.specs.declared.response.Response.{Response}
 use Rattle.gql_resolve.specs.Call.{Call}
 use Rattle.gql_resolve.specs.declared.answer.Answer.{Answer}
+use Rattle.gql_resolve.specs.declared.field_value.FieldValue.{FieldValue}
 use Rattle.gql_resolve.specs.declared.resolver_set.ResolverSet.{Ghosts as Resolving}
 use Rattle.gql_schema.specs.declared.object.Object.{Object}
-use Rattle.gql_select.specs.Collected.{collect, own_selections}
-use Rattle.gql_select.specs.Documents.{placing_by, reading}
-use Rattle.gql_select.specs.Grouped.{in_turn, respond_by}
-use Rattle.gql_select.specs.Reading.{merged}
+use Rattle.gql_select.specs.Collected.{own_selections}
+use Rattle.gql_select.specs.Documents.{reading}
+use Rattle.gql_select.specs.Fewer.{reading_over}
+use Rattle.gql_select.specs.Grouped.{in_turn, Placing, respond_by}
 
 -- what references show is all that matters of how many are asked
+
+-- how fields become numbers, where occurrences are grouped so
+abbrev counting_known : {V : Type 0} → Grouping → Execution → (Call V → Answer V)
+    → Placing (List ℕ) (FieldValue V) (Positioned Field) (Positioned Selection) ℕ
+counting_known by execution answer = record {
+  reading =
+      reading_over (reading (setting_in execution))
+      (λ object selections. declared_among execution object (collect_by by (setting_in execution) object selections));
+  place = count_as execution answer false;
+}
 
 module _ {V : Type 0} (by : Grouping) (scene : Scene V) where
   abbrev count_knowing : (Call V → Answer V) → ℕ → Execution → ℕ
   count_knowing answer n execution =
-      total (values_of (respond_by (placing_by (setting_in execution) (count_as execution answer false)) (λ one other. one + other) (groups_by by (setting_in execution))
+      total (values_of (respond_by (counting_known by execution answer) (λ one other. one + other) (groups_by by (setting_in execution))
       n (root_spot scene).object (root_spot scene).parent (root_selections scene)))
 
   pub count-bare : (answer : Call V → Answer V) (n : ℕ) → count_by (bare_scene scene) answer n by ≡ count_by scene answer n by
@@ -56,9 +71,9 @@ module _ {V : Type 0} (by : Grouping) (scene : Scene V) where
     serial_knowing world n execution =
         total (values_of (in_turn (world_after execution effect (root_asked scene))
         (λ before behind field. count_as execution (λ call. answer call before) true (root_spot scene).object (root_spot scene).parent field
-        (λ object parent. respond_by (placing_by (setting_in execution) (count_as execution (λ call. answer call behind) false)) (λ one other. one + other)
+        (λ object parent. respond_by (counting_known by execution (λ call. answer call behind)) (λ one other. one + other)
         (groups_by by (setting_in execution)) (levels_beneath n) object parent (own_selections field)))
-        world (merged (reading (setting_in execution)) (collect (setting_in execution) (root_spot scene).object (root_selections scene)))))
+        world (groups_known grouping.ByKey by (root_spot scene).object (root_selections scene) execution)))
 
     pub serial-count-bare : (world : W) (n : ℕ) → serial_count_by (bare_scene scene) answer effect world n by ≡ serial_count_by scene answer effect world n by
     serial-count-bare world n = ap (serial_knowing world n) (execution-bare (basis_by by scene))

@@ -14,12 +14,14 @@ use Rattle.gql_admit.specs.Prepared.{IsKept, kept_operation, known_of, Prepared}
 use Rattle.gql_admit.specs.Stages.{Staged}
 use Rattle.gql_admit.specs.declared.chosen.Chosen.{Chosen}
 use Rattle.gql_admit.proofs.KeepLemmas.{set_items}
-use Rattle.gql_collect.specs.Basis.{execution_of, is_introspection_only, setting_by}
+use Rattle.gql_collect.proofs.DeclaredFieldLemmas.{agree_declared}
+use Rattle.gql_collect.specs.Basis.{execution_of, is_introspection_only}
+use Rattle.gql_collect.specs.DeclaredFields.{declared_reading}
 use Rattle.gql_collect.specs.Execution.{Execution, field_asking, setting_in}
 use Rattle.gql_conflicts.specs.DocumentConflicts.{told}
 use Rattle.gql_engine.specs.ExecuteQuery.{AgreesInside, basis_of, root_selections}
 use Rattle.gql_engine.specs.declared.scene.Scene.{Scene}
-use Rattle.gql_exec.proofs.BareLemmas.{mutating_in}
+use Rattle.gql_exec.proofs.BareLemmas.{keys_known, mutating_in, placing_known}
 use Rattle.gql_exec.proofs.ConflictLemmas.{no_conflicts_written}
 use Rattle.gql_exec.specs.Admission.{terms_for}
 use Rattle.gql_exec.specs.Admitted.{Gives, IsAdmitted}
@@ -49,13 +51,11 @@ use Rattle.gql_schema.specs.declared.object.Object.{Object}
 use Rattle.gql_select.proofs.ConflictLemmas.{agree_from}
 use Rattle.gql_select.proofs.DocumentLemmas.{is_reading}
 use Rattle.gql_select.proofs.KeptLemmas.{agree_kept}
-use Rattle.gql_select.specs.Collected.{collect}
 use Rattle.gql_select.specs.Conflicts.{Agree}
 use Rattle.gql_select.specs.Constants.{variable_value}
-use Rattle.gql_select.specs.Documents.{placing_by, reading}
+use Rattle.gql_select.specs.Documents.{reading}
 use Rattle.gql_select.specs.Grouped.{grouped, Mutating, respond, serial_grouped, serial_respond, world_behind}
-use Rattle.gql_select.specs.Kept.{kept, kept_fragments}
-use Rattle.gql_select.specs.Reading.{merged}
+use Rattle.gql_select.specs.Kept.{kept, kept_fragments, kept_setting}
 use Rattle.gql_settings.specs.Settings.{mode_for}
 
 -- an environment is what is kept of an operation that the stages give, in the mode that the schema leaves it
@@ -121,15 +121,18 @@ module _ {V W : Type 0} (served : Served V W) where
   -- the place of a response, by what is known of its execution: of a query, and of a mutation
   abbrev query_knowing : Pos → List ℕ → FieldValue V → Execution → ℕ → List (Positioned Selection) → Place
   query_knowing pos object parent execution n left =
-      root_place pos (grouped (placing_by (setting_in execution) (placed execution false (λ call. served.answer call served.world))) n object parent left)
+      root_place pos
+      (grouped (placing_known execution (placed execution false (λ call. served.answer call served.world))) n object parent left)
 
   abbrev apart_knowing : Pos → List ℕ → FieldValue V → Execution → ℕ → List (Positioned Selection) → Place
   apart_knowing pos object parent execution n left =
-      root_place pos (respond (placing_by (setting_in execution) (placed execution false (λ call. served.answer call served.world))) join n object parent left)
+      root_place pos
+      (respond (placing_known execution (placed execution false (λ call. served.answer call served.world))) join n object parent left)
 
   abbrev count_knowing : List ℕ → FieldValue V → Execution → ℕ → List (Positioned Selection) → ℕ
   count_knowing object parent execution n left =
-      total (values_of (grouped (placing_by (setting_in execution) (count_as execution (λ call. served.answer call served.world) false)) n object parent left))
+      total
+      (values_of (grouped (placing_known execution (count_as execution (λ call. served.answer call served.world) false)) n object parent left))
 
   module _ (written : Written V) where
     -- how a mutation is answered, by what is known of its execution
@@ -138,7 +141,7 @@ module _ {V W : Type 0} (served : Served V W) where
 
     abbrev counts_knowing : Execution → Mutating (List ℕ) (FieldValue V) (Positioned Field) (Positioned Selection) ℕ W
     counts_knowing execution = record {
-      reading = reading (setting_in execution);
+      reading = declared_reading execution (setting_in execution);
       effect = world_after execution served.effect written.asked;
       root = λ world. count_as execution (λ call. served.answer call world) true;
       place = λ world. count_as execution (λ call. served.answer call world) false;
@@ -196,7 +199,7 @@ module _ {V W : Type 0} (served : Served V W) (schema : Schema) (request : Dynam
   world_joined false = refl
   world_joined true = λ i.
       world_behind (world_after (known i) served.effect written.asked) served.world
-      (merged (reading (setting_in (known i))) (collect (setting_in (known i)) (object_name object) (left i)))
+      (keys_known (object_name object) (known i) (left i))
 
   asked_joined : (mutation : Bool) → answers_by served mutation scene ≡ total (values_of (counts_by served written mutation))
   asked_joined false = λ i. count_knowing served (object_name object) request.root_value (known i) (is.levels i) (left i)
@@ -217,7 +220,7 @@ module _ {V W : Type 0} (served : Served V W) (schema : Schema) (request : Dynam
   abbrev asking_knowing : Execution → List (Positioned Selection) → List (List ℕ × Positioned Field)
   asking_knowing execution selections =
       filter (λ (key : List ℕ × Positioned Field). is_some (field_asking true execution (object_name object) request.root_value key.1))
-      (merged (reading (setting_in execution)) (collect (setting_in execution) (object_name object) selections))
+      (keys_known (object_name object) execution selections)
 
   pub keys_joined : length (asking_knowing (execution_of (basis_of scene)) (root_selections scene)) ≡ length (asking_keys written.execution written.asked)
   keys_joined = λ i. length (asking_knowing (known i) (left i))
@@ -263,9 +266,13 @@ module _ {V : Type 0} (schema : Schema) (request : DynamicRequest V) (env : Quer
       let setting = setting_in written.execution in
       let set = written.asked.selections in
       let none = no_conflicts_written schema request (admitted_for schema request.inner env object is root) in
-      let agree = agree_kept written.execution.known setting written.execution.levels (object_name object) set set
-      (agree_from (reading setting) (is_reading setting) told written.execution.levels (object_name object) set none) in
-      subst (λ (p : Execution × ℕ × List (Positioned Selection)). Agree (reading (setting_in p.0)) p.1 (object_name object) p.2 p.2)
+      let known = written.execution.known in
+      let agree = agree_declared written.execution (kept_setting known setting) written.execution.levels (object_name object)
+      (kept known set) (kept known set)
+      (agree_kept known setting written.execution.levels (object_name object) set set
+      (agree_from (reading setting) (is_reading setting) told written.execution.levels (object_name object) set none)) in
+      subst
+      (λ (p : Execution × ℕ × List (Positioned Selection)). Agree (declared_reading p.0 (setting_in p.0)) p.1 (object_name object) p.2 p.2)
       (λ i. (
         sym (executions schema request env object is) i,
         sym is.levels i,

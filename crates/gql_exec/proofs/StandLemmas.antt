@@ -2,16 +2,16 @@
 use Rattle.std.proofs.Common.{◌≡◌, ◌≤◌, ◌++◌, ℕ, zero, suc, Bool, true, false, cond, List, [], ◌∷◌, filter, is_some, length, take, Option, Some, None, Ok, refl, ap, sym, ◌∙◌, subst}
 use Rattle.gql_doc.specs.declared.document.Field.{Field}
 use Rattle.gql_doc.specs.declared.document.Positioned.{Positioned}
-use Rattle.gql_collect.specs.Basis.{execution_of, setting_by}
+use Rattle.gql_collect.specs.Basis.{execution_of}
 use Rattle.gql_collect.specs.Execution.{Asking, field_asking}
-use Rattle.gql_collect.specs.GroupFields.{collected}
 use Rattle.gql_collect.specs.declared.basis.Basis.{Basis}
 use Rattle.gql_collect.specs.declared.basis.Grouping.{Grouping}
 use Rattle.gql_complete.specs.FoundObjects.{Spot}
-use Rattle.gql_engine.specs.ExecuteMutation.{key_jobs_by, key_work_by}
-use Rattle.gql_engine.specs.ExecuteQuery.{basis_by, job_subject, root_selections, root_spot}
+use Rattle.gql_engine.specs.ExecuteMutation.{key_jobs_by, key_work_by, keys_by}
+use Rattle.gql_engine.specs.ExecuteQuery.{basis_by, job_subject, root_spot}
 use Rattle.gql_engine.specs.declared.scene.Scene.{Scene}
 use Rattle.gql_exec.proofs.JoinedLemmas.{admitted_for, behind_joined, IsKeptFrom, kept_from, keys_joined, kinds_joined}
+use Rattle.gql_exec.proofs.KeyLemmas.{keys_as_many, keys_behind}
 use Rattle.gql_exec.specs.Admitted.{IsAdmitted}
 use Rattle.gql_exec.specs.Execution.{StandAs}
 use Rattle.gql_exec.specs.Joined.{mutates}
@@ -27,9 +27,7 @@ use Rattle.gql_request.specs.declared.query_env.QueryEnv.{QueryEnv}
 use Rattle.gql_resolve.specs.declared.resolver_set.ResolverSet.{Ghosts as Resolving}
 use Rattle.gql_resolve.specs.declared.turns.Turns.{Ghosts as Choosing}
 use Rattle.gql_schema.specs.declared.object.Object.{Object}
-use Rattle.gql_select.specs.Documents.{reading}
 use Rattle.gql_select.specs.Grouped.{world_behind}
-use Rattle.gql_select.specs.Reading.{merged}
 use Rattle.gql_tasks.specs.Phases.{RootsStand, Serving, serving_by, world_past}
 use Rattle.gql_tasks.specs.Progress.{Seen}
 
@@ -85,10 +83,12 @@ module _ {R Own World Future P : Type 0} (set : Resolving R Own World Future) (t
       let serving : Serving Own World = serving_by set old.set in
       let scene : Scene Own = scene_for schema request env object in
       let basis : Basis = basis_by by scene in
-      let keys = merged (reading (setting_by basis)) (collected basis (root_spot scene).object (root_selections scene)) in
-      let counted : length (key_jobs_by by scene) ≡ length (asking serving basis (root_spot scene) keys) = as_many serving basis (root_spot scene) keys in (
-        subst (λ n. roots ≤ n) (counted ∙ keys_joined served schema request env object is) stand.within,
-        stand.world ∙ behind serving basis (root_spot scene) keys roots served.world ∙ behind_joined served schema request env object is roots,
+      let spot : Spot Own = root_spot scene in
+      let keys = keys_by by scene in
+      let counted : length (key_jobs_by by scene) ≡ length (asking serving basis spot keys) = as_many serving basis spot keys in (
+        subst (λ n. roots ≤ n) (counted ∙ keys_as_many scene by ∙ keys_joined served schema request env object is) stand.within,
+        stand.world ∙ behind serving basis spot keys roots served.world ∙ keys_behind scene serving.effect by roots served.world
+            ∙ behind_joined served schema request env object is roots,
       )
 
   scene-stands : (env : QueryEnv) (object : Object) (is : IsKeptFrom schema request.inner env) (admitted : IsAdmitted schema request.inner)

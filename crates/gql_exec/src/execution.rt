@@ -36,9 +36,12 @@ use std::sync::ledger::{Blank, Ledger};
 impl Schema {
     /// The response to a request, over a resolver set. Over a lawful set it is the response of
     /// merged execution, and the world is the one after it, whatever the turns are. A request that
-    /// is refused, by the first stage that it breaks or for want of a root, has exactly that error,
-    /// and leaves every set and all turns as they were. `NoMemory` tells of how many root keys of a
-    /// mutation that ask an answer the effects stand. Hooks do nothing yet.
+    /// is refused, by the first stage that it breaks or for want of a root, has exactly the errors
+    /// of that, and leaves every set and all turns as they were, as introspection-only mode does
+    /// (`idle`). The rules of a set stay, and so does that it is lawful or paced (`keeps`).
+    /// `NoMemory` may come of any request, also of one that would be refused; over a lawful set it
+    /// tells of how many root keys of a mutation that ask an answer the effects stand. Hooks do
+    /// nothing yet.
     pub fn execute<R: ResolverSet, P: Turns>(
         &self,
         alloc: Global,

@@ -1,5 +1,5 @@
 -- Whole queries, computed from a document to its response.
-use Rattle.std.proofs.Common.{rules, ◌≡◌, ℕ, pos, List, [], ◌∷◌, None, Ok, refl, ◌∙◌}
+use Rattle.std.proofs.Common.{rules, ◌≡◌, ℕ, pos, List, [], ◌∷◌, true, Some, None, Ok, refl, ◌∙◌}
 use Rattle.std.specs.Prelude.{codes}
 use Rattle.gql_base.specs.declared.error.Error.{Error}
 use Rattle.gql_base.specs.declared.path_segment.PathSegment.TheVariants.{Field, Index}
@@ -12,6 +12,7 @@ use Rattle.gql_doc.specs.declared.document.InlineFragment.{out-InlineFragment, r
 use Rattle.gql_doc.specs.declared.document.Selection.{out-Selection}
 use Rattle.gql_doc.specs.declared.document.Selection.TheBlock.{shown-the_row-SelectionSet-items-2-0}
 use denote.Hole.Carrier.{out, roll, shown, hidden}
+use Rattle.gql_collect.specs.Execution.{Execution}
 use Rattle.gql_meaning.specs.Completion.{no_value}
 use Rattle.gql_place.specs.Faults.{located}
 use Rattle.gql_place.specs.declared.place.Tree.{the_lemmas as tree_lemmas}
@@ -25,7 +26,7 @@ use Rattle.gql_schema.specs.TableReading.{TypeTable}
 use Rattle.gql_schema.specs.declared.scalar_rule.ScalarRule.TheVariants as rules_of
 use Rattle.gql_schema.specs.declared.schema_type.SchemaType.{SchemaType}
 use Rattle.gql_schema.specs.declared.schema_type.SchemaType.TheVariants as types
-use Rattle.gql_meaning.proofs.Written.{answered_by, apart_is, apart_response, at, count, count_is, fails, field, gives, gives_null, gives_number, keeps_field, leaf, merged_is, merged_response, object_of, over_table, Selections, set}
+use Rattle.gql_meaning.proofs.Written.{answered_by, apart_is, apart_response, at, count, count_is, fails, field, given_field, gives, gives_null, gives_number, keeps_field, leaf, merged_is, merged_response, object_of, over_table, placed, Selections, set}
 
 abbrev int : List ℕ × SchemaType
 int = (codes "Int", types.Scalar (record { name = codes "Int"; rule = rules_of.Int }))
@@ -226,6 +227,9 @@ added_table = int ∷ object_of (codes "Query") [] (answered_by 1 (codes "a") in
 abbrev added_answers : List (Answer ℕ)
 added_answers = gives_null ∷ record (gives_number (pos 1)) { added = bad ∷ [] } ∷ []
 
+abbrev numbered_answers : List (Answer ℕ)
+numbered_answers = gives_null ∷ gives_number (pos 1) ∷ []
+
 abbrev added : Selections
 added = leaf 3 (codes "a") ∷ []
 
@@ -237,16 +241,61 @@ unfolding out-Selection out-Field out-InlineFragment roll-Field roll-InlineFragm
 added_error = merged_is (over_table added_table []) added_answers added added refl (search (rules, keeps_field) depth 12)
     ∙ search (rules, type_lemmas, shape_lemmas, given_lemmas, value_lemmas, tree_lemmas)
 
--- `{ lost }`, which no type has: it is null (admission lets no such query through)
+-- `{ lost a }`, of which no type has `lost`: it is no member (admission lets no such query through)
 abbrev lost : Selections
-lost = leaf 3 (codes "lost") ∷ []
+lost = leaf 3 (codes "lost") ∷ leaf 8 (codes "a") ∷ []
 
 abbrev lost_due : Response
-lost_due = record { result = value.Object ((codes "lost", value.Null) ∷ []); extensions = []; errors = []; headers = [] }
+lost_due = record { result = value.Object ((codes "a", number 1) ∷ []); extensions = []; errors = []; headers = [] }
 
-unknown_field : merged_response (over_table added_table []) added_answers lost ≡ lost_due
+unknown_field : merged_response (over_table added_table []) numbered_answers lost ≡ lost_due
 unfolding out-Selection out-Field out-InlineFragment roll-Field roll-InlineFragment out roll shown-the_row-SelectionSet-items-2-0 shown hidden
-unknown_field = merged_is (over_table added_table []) added_answers lost lost refl (search (rules, keeps_field) depth 12)
+unknown_field = merged_is (over_table added_table []) numbered_answers lost lost refl (search (rules, keeps_field) depth 12)
+    ∙ search (rules, type_lemmas, shape_lemmas, given_lemmas, value_lemmas, tree_lemmas)
+
+unknown_field_apart : apart_response (over_table added_table []) numbered_answers lost ≡ lost_due
+unfolding out-Selection out-Field out-InlineFragment roll-Field roll-InlineFragment out roll shown-the_row-SelectionSet-items-2-0 shown hidden
+unknown_field_apart = apart_is (over_table added_table []) numbered_answers lost lost refl (search (rules, keeps_field) depth 12)
+    ∙ search (rules, type_lemmas, shape_lemmas, given_lemmas, value_lemmas, tree_lemmas)
+
+-- one answer is asked: that of `a`
+unknown_field_count : count (over_table added_table []) numbered_answers lost ≡ 1
+unfolding out-Selection out-Field out-InlineFragment roll-Field roll-InlineFragment out roll shown-the_row-SelectionSet-items-2-0 shown hidden
+unknown_field_count = count_is (over_table added_table []) numbered_answers lost lost refl (search (rules, keeps_field) depth 12)
+    ∙ search (rules, type_lemmas, shape_lemmas, given_lemmas, value_lemmas)
+
+-- `{ a: lost a }`: of the two under one key the declared one counts, with its place
+abbrev shadowed : Selections
+shadowed = given_field 3 (Some (placed 3 (codes "a"))) (codes "lost") [] (set 3 []) ∷ leaf 11 (codes "a") ∷ []
+
+abbrev shadowed_due : Response
+shadowed_due = record {
+  result = value.Object ((codes "a", number 1) ∷ []);
+  extensions = [];
+  errors = located (at 11) (Field (codes "a") ∷ []) bad ∷ [];
+  headers = [];
+}
+
+unknown_under_a_key : merged_response (over_table added_table []) added_answers shadowed ≡ shadowed_due
+unfolding out-Selection out-Field out-InlineFragment roll-Field roll-InlineFragment out roll shown-the_row-SelectionSet-items-2-0 shown hidden
+unknown_under_a_key = merged_is (over_table added_table []) added_answers shadowed shadowed refl (search (rules, keeps_field) depth 12)
+    ∙ search (rules, type_lemmas, shape_lemmas, given_lemmas, value_lemmas, tree_lemmas)
+
+-- in introspection-only mode each field is a member, without a value
+abbrev introspecting : Execution
+introspecting = record (over_table added_table []) { only_introspection = true }
+
+abbrev introspected_due : Response
+introspected_due = record {
+  result = value.Object ((codes "lost", value.Null) ∷ (codes "a", value.Null) ∷ []);
+  extensions = [];
+  errors = [];
+  headers = [];
+}
+
+unknown_in_introspection : merged_response introspecting numbered_answers lost ≡ introspected_due
+unfolding out-Selection out-Field out-InlineFragment roll-Field roll-InlineFragment out roll shown-the_row-SelectionSet-items-2-0 shown hidden
+unknown_in_introspection = merged_is introspecting numbered_answers lost lost refl (search (rules, keeps_field) depth 12)
     ∙ search (rules, type_lemmas, shape_lemmas, given_lemmas, value_lemmas, tree_lemmas)
 
 -- `{ o { x } }`, where `o` and `x` touch headers and `x` may not be null and fails: the object is null, and its headers are touched all

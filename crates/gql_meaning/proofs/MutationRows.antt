@@ -16,6 +16,7 @@ use Rattle.gql_doc.specs.declared.document.Selection.{out-Selection, Selection}
 use Rattle.gql_doc.specs.declared.document.Selection.TheBlock.{shown-the_row-SelectionSet-items-2-0}
 use denote.Hole.Carrier.{out, roll, shown, hidden}
 use Rattle.gql_meaning.specs.Counted.{answers_asked, count_as, total}
+use Rattle.gql_collect.specs.DeclaredFields.{declared_reading}
 use Rattle.gql_collect.specs.Execution.{Execution, setting_in}
 use Rattle.gql_meaning.specs.Responses.{Asked, Members, placed as place_of, response_merged, world_after, world_left, Written}
 use Rattle.gql_meaning.specs.Served.{Served}
@@ -30,7 +31,6 @@ use Rattle.gql_resolve.specs.declared.field_value.FieldValue.TheVariants as kind
 use Rattle.gql_schema.specs.TableReading.{TypeTable}
 use Rattle.gql_schema.specs.declared.scalar_rule.ScalarRule.TheVariants as rules_of
 use Rattle.gql_schema.specs.declared.schema_type.SchemaType.TheVariants as types
-use Rattle.gql_select.specs.Documents.{reading}
 use Rattle.gql_select.specs.Grouped.{Mutating, serial_grouped, world_behind}
 use Rattle.gql_select.specs.Kept.{kept}
 use Rattle.gql_select.specs.Reading.{merged}
@@ -86,7 +86,7 @@ kept_bumps = search (rules, keeps_field) depth 12
 -- how the mutation is answered, without looking for `@skip` and `@include`
 abbrev bumping_cells : Mutating (List ℕ) (FieldValue ℕ) (Positioned Field) (Positioned Selection) Place ℕ
 bumping_cells = record {
-  reading = reading (setting_in cells);
+  reading = declared_reading cells (setting_in cells);
   effect = world_after cells effect bumping;
   root = λ cell. place_of cells true (λ call. answer call cell);
   place = λ cell. place_of cells false (λ call. answer call cell);
@@ -113,13 +113,15 @@ doubled_roots = ap (λ left. response (members left)) kept_bumps
 last_cell : world_left served written ≡ 3
 unfolding out-Selection out-Field out-InlineFragment roll-Field roll-InlineFragment out roll shown-the_row-SelectionSet-items-2-0 shown hidden
 last_cell =
-    ap (λ left. world_behind (world_after cells effect bumping) 0 (merged (reading (setting_in cells)) ((reading (setting_in cells)).fields (codes "Mutation") left))) kept_bumps
+    ap
+    (λ left. world_behind (world_after cells effect bumping) 0
+    (merged (declared_reading cells (setting_in cells)) ((declared_reading cells (setting_in cells)).fields (codes "Mutation") left))) kept_bumps
     ∙ search (rules, doc_lemmas, value_lemmas)
 
 -- the same, with numbers in the stead of places
 abbrev counting_cells : Mutating (List ℕ) (FieldValue ℕ) (Positioned Field) (Positioned Selection) ℕ ℕ
 counting_cells = record {
-  reading = reading (setting_in cells);
+  reading = declared_reading cells (setting_in cells);
   effect = world_after cells effect bumping;
   root = λ cell. count_as cells (λ call. answer call cell) true;
   place = λ cell. count_as cells (λ call. answer call cell) false;

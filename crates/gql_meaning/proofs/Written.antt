@@ -22,6 +22,7 @@ use Rattle.gql_doc.specs.declared.document.Selection.TheOpen.{Field-F, InlineFra
 use Rattle.gql_doc.specs.declared.document.Selection.TheVariants as selection
 use Rattle.gql_doc.specs.declared.document.SelectionSet.{SelectionSet, roll-SelectionSet}
 use Rattle.gql_meaning.specs.Counted.{answers_asked, count_as, total}
+use Rattle.gql_collect.specs.DeclaredFields.{declared_reading}
 use Rattle.gql_collect.specs.Execution.{Execution, setting_in}
 use Rattle.gql_meaning.specs.PlaceResponse.{response_at}
 use Rattle.gql_meaning.specs.Responses.{Members, placed as place_of, response_apart, response_merged, root_place, Written}
@@ -36,8 +37,8 @@ use Rattle.gql_schema.specs.TableReading.{TypeTable}
 use Rattle.gql_schema.specs.declared.field.Field.{Field as ObjectField}
 use Rattle.gql_schema.specs.declared.schema_type.SchemaType.{SchemaType}
 use Rattle.gql_schema.specs.declared.schema_type.SchemaType.TheVariants as types
-use Rattle.gql_select.specs.Documents.{placing_by, reading}
-use Rattle.gql_select.specs.Grouped.{grouped, respond}
+use Rattle.gql_select.specs.Collected.{Setting}
+use Rattle.gql_select.specs.Grouped.{Beneath, grouped, Placing, respond}
 use Rattle.gql_select.specs.Kept.{if_kept, is_kept, kept, kept_fragments, kept_field, kept_if, kept_inline, kept_selection, kept_set, others}
 
 abbrev pub at : ℕ → Pos
@@ -148,16 +149,23 @@ apart_response execution answers selections = response_apart (serves answers) (q
 abbrev pub response : Members → Response
 response members = response_at (root_place (at 1) members)
 
+-- how the fields that objects declare become places, read by a setting
+abbrev pub placing_in : {P Pl : Type 0} → Execution → Setting → (List ℕ → P → Positioned Field → Beneath (List ℕ) P Pl → Pl)
+    → Placing (List ℕ) P (Positioned Field) (Positioned Selection) Pl
+placing_in execution setting place = record { reading = declared_reading execution setting; place = place }
+
 -- the responses to what is left of the selections
 abbrev pub merged_of : Execution → List (Answer ℕ) → Selections → Response
 merged_of execution answers left =
     response
-    (grouped (placing_by (setting_in execution) (place_of execution false (by_number answers))) execution.levels (codes "Query") (kind.Own 0) left)
+    (grouped (placing_in execution (setting_in execution) (place_of execution false (by_number answers))) execution.levels
+    (codes "Query") (kind.Own 0) left)
 
 abbrev pub apart_of : Execution → List (Answer ℕ) → Selections → Response
 apart_of execution answers left =
     response
-    (respond (placing_by (setting_in execution) (place_of execution false (by_number answers))) join execution.levels (codes "Query") (kind.Own 0) left)
+    (respond (placing_in execution (setting_in execution) (place_of execution false (by_number answers))) join execution.levels
+    (codes "Query") (kind.Own 0) left)
 
 -- how many answers a query for these selections asks
 abbrev pub count : Execution → List (Answer ℕ) → Selections → ℕ
@@ -168,7 +176,8 @@ abbrev pub count_of : Execution → List (Answer ℕ) → Selections → ℕ
 count_of execution answers left =
     total
     (values_of
-    (grouped (placing_by (setting_in execution) (count_as execution (by_number answers) false)) execution.levels (codes "Query") (kind.Own 0) left))
+    (grouped (placing_in execution (setting_in execution) (count_as execution (by_number answers) false)) execution.levels
+    (codes "Query") (kind.Own 0) left))
 
 module _ (execution : Execution) (answers : List (Answer ℕ)) (selections left : Selections)
     (fragments_stay : kept_fragments execution.known execution.fragments ≡ execution.fragments)
@@ -176,21 +185,24 @@ module _ (execution : Execution) (answers : List (Answer ℕ)) (selections left 
   pub merged_is : merged_response execution answers selections ≡ merged_of execution answers left
   merged_is = λ i.
       response
-      (grouped (placing_by (record (setting_in execution) { fragments = fragments_stay i }) (place_of execution false (by_number answers))) execution.levels
-      (codes "Query") (kind.Own 0) (is_left i))
+      (grouped
+      (placing_in execution (record (setting_in execution) { fragments = fragments_stay i }) (place_of execution false (by_number answers)))
+      execution.levels (codes "Query") (kind.Own 0) (is_left i))
 
   pub apart_is : apart_response execution answers selections ≡ apart_of execution answers left
   apart_is = λ i.
       response
-      (respond (placing_by (record (setting_in execution) { fragments = fragments_stay i }) (place_of execution false (by_number answers))) join execution.levels
-      (codes "Query") (kind.Own 0) (is_left i))
+      (respond
+      (placing_in execution (record (setting_in execution) { fragments = fragments_stay i }) (place_of execution false (by_number answers))) join
+      execution.levels (codes "Query") (kind.Own 0) (is_left i))
 
   pub count_is : count execution answers selections ≡ count_of execution answers left
   count_is = λ i.
       total
       (values_of
-      (grouped (placing_by (record (setting_in execution) { fragments = fragments_stay i }) (count_as execution (by_number answers) false)) execution.levels
-      (codes "Query") (kind.Own 0) (is_left i)))
+      (grouped
+      (placing_in execution (record (setting_in execution) { fragments = fragments_stay i }) (count_as execution (by_number answers) false))
+      execution.levels (codes "Query") (kind.Own 0) (is_left i)))
 
 -- What is kept where nothing is to be skipped.
 

@@ -21,7 +21,8 @@ module _ {V : Type 0} where
   typename_outcome object =
       record { non_null = true; added = []; headers = []; shape = shape.Leaf (value.String object) }
 
-  -- where nothing is asked nothing stands, which is null (admission lets no unknown field through)
+  -- where nothing is asked nothing stands, which is null (a field that isn't declared is asked
+  -- nothing, and in introspection-only mode alone it is an occurrence)
   abbrev pub absent_outcome : Outcome (List ℕ) (FieldValue V)
   absent_outcome = record { non_null = false; added = []; headers = []; shape = shape.Absent }
 

@@ -8,6 +8,7 @@ use Rattle.gql_base.specs.declared.pos.Pos.{Pos}
 use Rattle.gql_doc.specs.declared.document.Field.{Field}
 use Rattle.gql_doc.specs.declared.document.Positioned.{Positioned}
 use Rattle.gql_doc.specs.declared.document.Selection.{Selection}
+use Rattle.gql_collect.specs.DeclaredFields.{declared_reading}
 use Rattle.gql_collect.specs.Execution.{Asking, Execution, field_asking, setting_in}
 use Rattle.gql_meaning.specs.Outcomes.{field_outcome}
 use Rattle.gql_meaning.specs.PlaceResponse.{response_at}
@@ -20,7 +21,6 @@ use Rattle.gql_request.specs.declared.response.Response.{Response}
 use Rattle.gql_resolve.specs.Call.{Call}
 use Rattle.gql_resolve.specs.declared.answer.Answer.{Answer}
 use Rattle.gql_resolve.specs.declared.field_value.FieldValue.{FieldValue}
-use Rattle.gql_select.specs.Documents.{reading}
 use Rattle.gql_select.specs.Grouped.{Beneath, grouped, Mutating, Placing, respond}
 use Rattle.gql_select.specs.Grouped.{serial_grouped, serial_respond, world_behind}
 use Rattle.gql_select.specs.Kept.{kept, kept_setting}
@@ -45,9 +45,11 @@ pub record Written (V : Type 0) : Type 0 where
   pub pos : Pos
   pub asked : Asked V
 
--- what is left of the selections is read by what is left of the document
+-- what is left of the selections is read by what is left of the document; a field that its object
+-- doesn't declare is no occurrence
 abbrev pub kept_reading : Execution → Reading (List ℕ) (Positioned Field) (Positioned Selection)
-kept_reading execution = reading (kept_setting execution.known (setting_in execution))
+kept_reading execution =
+    declared_reading execution (kept_setting execution.known (setting_in execution))
 
 -- what `@skip` and `@include` leave of the selections
 abbrev pub kept_in : {V : Type 0} → Execution → Asked V → List (Positioned Selection)

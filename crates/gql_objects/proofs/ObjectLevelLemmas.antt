@@ -15,7 +15,7 @@ use Rattle.gql_doc.specs.declared.document.Positioned.{Positioned}
 use Rattle.gql_doc.specs.declared.document.Selection.{Selection}
 use Rattle.gql_collect.specs.KeyNames.{key_text}
 use Rattle.gql_collect.specs.Execution.{Asking, field_asking}
-use Rattle.gql_request.specs.QueryEnv.{levels_of}
+use Rattle.gql_request.specs.QueryEnv.{levels_of, NestsIn}
 use Rattle.gql_resolve.specs.declared.answer.Answer.{Answer}
 use Rattle.gql_select.specs.Collected.{own_selections}
 use Rattle.gql_collect.specs.Basis.{execution_of, setting_by}
@@ -39,6 +39,7 @@ use Rattle.gql_objects.specs.declared.step.Step.{Step}
 use Rattle.gql_objects.proofs.JobLemmas.{level_jobs}
 use Rattle.gql_select.proofs.NestLemmas.{collected_nest, every_both}
 use Rattle.gql_objects.proofs.PathLemmas.{trail_some}
+use Rattle.gql_collect.proofs.CollectedLemmas.{all_collected}
 use Rattle.gql_collect.proofs.NestingLemmas.{both_within, groups_all}
 
 -- what holds of all holds of each
@@ -127,7 +128,8 @@ module _ {V : Type 0} where
       jobs_all (IsBelow basis n) (λ field. IsWithin (setting_by basis) n (own_selections field)) basis spot
       (λ field asking q. record { basis_is = refl; within = q }) selections
       (groups_all (λ field. IsWithin (setting_by basis) n (own_selections field)) (λ f g h k. both_within (setting_by basis) n f g h k)
-      basis.grouping (setting_by basis) (collected basis spot.object selections) (within spot.object))
+      basis.grouping (setting_by basis) (collected basis.grouping basis spot.object selections)
+      (all_collected basis.grouping basis spot.object (λ field. IsWithin (setting_by basis) n (own_selections field)) selections (within spot.object)))
 
   pub below_all : (basis : Basis) (n : ℕ) (selections : List (Positioned Selection)) (ss : List (Spot V))
       → IsWithin (setting_by basis) (suc n) selections
@@ -138,10 +140,11 @@ module _ {V : Type 0} where
 
 -- the fields of an object under a field nest
 pub fields_nest : (node : Node) (object : List ℕ)
-    → AllNest node.basis.env.now (collected node.basis object (own_selections (united node.group)))
+    → AllNest node.basis.env.now (collected node.basis.grouping node.basis object (own_selections (united node.group)))
 fields_nest node object =
-    collected_nest (setting_by node.basis) object (levels_of node.basis.env.now) (setting_by node.basis).levels
-    (field_set (united node.group)) node.nests
+    all_collected node.basis.grouping node.basis object (λ field. NestsIn node.basis.env.now (field_set field)) (own_selections (united node.group))
+    (collected_nest (setting_by node.basis) object (levels_of node.basis.env.now) (setting_by node.basis).levels
+    (field_set (united node.group)) node.nests)
 
 -- no level is kept at first
 pub none_beneath : (node : Node) → AreBeneath node []

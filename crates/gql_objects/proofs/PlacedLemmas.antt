@@ -40,6 +40,7 @@ use Rattle.gql_complete.proofs.FillLemmas.{filled_is}
 use Rattle.gql_objects.proofs.JobLemmas.{level_jobs}
 use Rattle.gql_objects.proofs.SelectionSetLemmas.{members_merged}
 use Rattle.gql_objects.proofs.SeenLemmas.{distinct_asked, members_with_same, place_made_same}
+use Rattle.gql_collect.proofs.CollectedLemmas.{none_collected}
 use Rattle.gql_collect.proofs.NestingLemmas.{groups_none}
 
 -- where places aren't kept whole, occurrences are grouped by their keys
@@ -152,7 +153,8 @@ module _ {V : Type 0} (answer : Call V → Answer V) where
       → members_by basis answer (suc zero) object parent selections ≡ []
   members_none basis selections within object parent =
       ap (λ fs. unite_all join [] (over (λ f. placed (execution_of basis) false answer object parent f
-      (λ inner parent. [])) (groups_by basis.grouping (setting_by basis) fs))) (within object)
+      (λ inner parent. [])) (groups_by basis.grouping (setting_by basis) fs)))
+      (none_collected basis.grouping basis object selections (within object))
       ∙ ap (λ ms. unite_all join [] (over (λ f. placed (execution_of basis) false answer object parent f (λ inner parent. [])) ms))
       (groups_none basis.grouping (setting_by basis))
 

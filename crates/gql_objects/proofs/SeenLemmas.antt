@@ -256,5 +256,6 @@ distinct_asked is_root basis object selections by_key =
     let groups : List (List ℕ × Positioned Field) = groups_in is_root basis object selections in
     subst HasDistinctNames (sym (asked_over basis object groups))
     (distinct_over (asked_of basis object) groups
-    (distinct_groups (grouping_at is_root basis.grouping) (setting_by basis) (collected basis object selections)
+    (distinct_groups (grouping_at is_root basis.grouping) (setting_by basis)
+    (collected basis.grouping basis object selections)
     (by_key_at is_root basis.grouping by_key)))

@@ -11,22 +11,29 @@ use Rattle.gql_resolve.specs.Call.{Call}
 use Rattle.gql_resolve.specs.declared.answer.Answer.{Answer}
 use Rattle.gql_resolve.specs.declared.field_value.FieldValue.{FieldValue}
 use Rattle.gql_select.specs.Collected.{own_selections}
-use Rattle.gql_select.specs.Documents.{placing_by}
-use Rattle.gql_select.specs.Grouped.{respond_by}
+use Rattle.gql_select.specs.Grouped.{Placing, respond_by}
 use Rattle.gql_objects.specs.Members.{place_of_job, members_with}
 use Rattle.gql_collect.specs.Basis.{execution_of, setting_by}
-use Rattle.gql_collect.specs.GroupFields.{groups_by}
+use Rattle.gql_collect.specs.GroupFields.{groups_by, reading_by}
 use Rattle.gql_objects.specs.Jobs.{Job, jobs_at}
 use Rattle.gql_collect.specs.declared.basis.Basis.{Basis}
 use Rattle.gql_collect.specs.Levels.{asked_in}
 use Rattle.gql_complete.specs.FoundObjects.{Spot}
 
 module _ {V : Type 0} (basis : Basis) (answer : Call V → Answer V) where
+  -- how the fields that are collected become places
+  abbrev pub placing_among : Placing (List ℕ) (FieldValue V) (Positioned Field)
+      (Positioned Selection) Place
+  placing_among = record {
+    reading = reading_by basis.grouping basis;
+    place = placed (execution_of basis) false answer;
+  }
+
   -- the members of an object, each group answered once, so many levels of sets deep
   abbrev pub members_by : ℕ → List ℕ → FieldValue V → List (Positioned Selection) → Members
   members_by n object parent selections =
-      respond_by (placing_by (setting_by basis) (placed (execution_of basis) false answer)) join
-      (groups_by basis.grouping (setting_by basis)) n object parent selections
+      respond_by placing_among join (groups_by basis.grouping (setting_by basis)) n
+      object parent selections
 
   -- those under a field
   abbrev pub beneath_by : ℕ → Positioned Field → List ℕ → FieldValue V → Members

@@ -9,5 +9,5 @@ level_of-requires g c =
     let object = c.type_name-object.result.now in
     record {
       nest = root_nest c.args.by c.args.scene.now object _
-          (c.in_ok-fields.ensures ∙ ap (collected (basis_by c.args.by c.args.scene.now) object) c.as_slice-selections.ensures);
+          (c.in_ok-fields.ensures ∙ ap (collected c.args.by (basis_by c.args.by c.args.scene.now) object) c.as_slice-selections.ensures);
     }
