@@ -5,6 +5,7 @@ mod FittingLemmas
 mod ListedLemmas
 mod MarkLemmas
 mod GroupLemmas
+mod NestedLemmas
 mod Rows
 mod SameFieldLemmas
 mod WalkLemmas

@@ -15,9 +15,10 @@ use Rattle.gql_select.specs.Alike.{alike, name_of}
 use Rattle.gql_select.specs.Collected.{Setting, collect_within, own_selections}
 use Rattle.gql_select.specs.Conflicts.{first_differing}
 use Rattle.gql_select.specs.Documents.{reading, with_others}
+use Rattle.gql_select.specs.Once.{nothing, once_within}
 use Rattle.gql_select.proofs.DocumentLemmas.{set_of_both}
 use Rattle.gql_conflicts.specs.Classes.{key_at}
-use Rattle.gql_conflicts.specs.Reader.{setting_by}
+use Rattle.gql_conflicts.specs.Reader.{fields_by, setting_by}
 use Rattle.gql_select.specs.Behind.{all_behind}
 use Rattle.gql_conflicts.specs.DocumentConflicts.{told}
 use Rattle.gql_conflicts.specs.Groups.{AreGroups, Grown, fields_tell, groups_tell, told_of, united}
@@ -103,13 +104,21 @@ pub none_passed : (first : Positioned Field) (more : List (Bor (Positioned Field
     → own_selections (with_others first (all_behind more)) ≡ []
 none_passed first more i before over = subst (λ xs. own_selections (with_others first (all_behind xs)) ≡ []) (take_all i more over) before
 
-none_collected : (setting : Setting) (left : ℕ) (object : List ℕ) → collect_within setting left object [] ≡ []
-none_collected setting zero object = refl
-none_collected setting (suc left) object = refl
+none_within : (setting : Setting) (left : ℕ) (object : List ℕ) → collect_within setting left object [] ≡ []
+none_within setting zero object = refl
+none_within setting (suc left) object = refl
+
+none_entered : (setting : Setting) (left : ℕ) (object : List ℕ) → (once_within setting left object nothing []).fields ≡ []
+none_entered setting zero object = refl
+none_entered setting (suc left) object = refl
+
+none_collected : (once : Bool) (setting : Setting) (object : List ℕ) → fields_by once setting object [] ≡ []
+none_collected true setting object = none_entered setting setting.levels object
+none_collected false setting object = none_within setting setting.levels object
 
 none_told : (reader : Reader) (left : ℕ) (object : List ℕ) → set_tells reader left [] object ≡ []
 none_told reader zero object = refl
-none_told reader (suc left) object = ap (among_tells reader left object) (none_collected (setting_by reader) reader.levels object)
+none_told reader (suc left) object = ap (among_tells reader left object) (none_collected reader.once (setting_by reader) object)
 
 -- under a field without a set is nothing
 pub nothing_beneath : (reader : Reader) (left : ℕ) (object : List ℕ) (field : Positioned Field) → own_selections field ≡ [] → beneath_tells reader left object field ≡ []

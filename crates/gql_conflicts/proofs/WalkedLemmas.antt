@@ -10,16 +10,15 @@ use Rattle.gql_doc.specs.Depth.{operation_set, selections_of}
 use Rattle.gql_select.specs.Alike.{name_of}
 use Rattle.gql_select.specs.Collected.{own_selections}
 use Rattle.gql_select.specs.Behind.{all_behind}
-use Rattle.gql_conflicts.specs.DocumentConflicts.{conflicts_at}
 use Rattle.gql_conflicts.specs.Rooted.{objects_beneath, root_of, rooted_of}
 use Rattle.gql_conflicts.specs.Seen.{HasSeen, IsVisit, OnlyAdds}
-use Rattle.gql_conflicts.specs.Walk.{among_tells, beneath_tells, collected, operation_tells, set_tells}
+use Rattle.gql_conflicts.specs.Reader.{setting_by}
+use Rattle.gql_conflicts.specs.Walk.{among_tells, beneath_tells, collected, operation_tells, root_tells, set_tells}
 use Rattle.gql_conflicts.specs.Walked.{AllTold, Walks}
 use Rattle.gql_conflicts.specs.declared.conflict.Conflict.{Conflict}
 use Rattle.gql_conflicts.specs.declared.reader.Reader.{Reader}
 use Rattle.gql_conflicts.specs.declared.visit.Visit.{Visit}
 use Rattle.gql_conflicts.specs.declared.walked.Walked.{Walked}
-use Rattle.gql_conflicts.proofs.WalkLemmas.{flat_more}
 use Rattle.gql_conflicts.proofs.WalkLemmas.{flat_more}
 
 -- nothing has no item
@@ -141,7 +140,7 @@ module _ (reader : Reader) where
         → OnOk r (Walks reader (set_tells reader reader.levels selections root) old new) → OnOk r (Walks reader (operation_tells reader operation) old new)
     walks_root r operation root selections old new there are walks =
         let tells : Option (List ℕ) → List (Positioned Selection) → List Conflict
-        = λ found of_it. conflicts_at (rooted_of reader.rooted.now) reader.fragments.now reader.levels found of_it in
+        = λ found of_it. root_tells reader.once (setting_by reader) found of_it in
         subst (λ found. OnOk r (Walks reader (tells found (selections_of (operation_set operation))) old new)) (sym there)
         (subst (λ of_it. OnOk r (Walks reader (tells (Some root) of_it) old new)) are walks)
 
@@ -150,7 +149,7 @@ module _ (reader : Reader) where
       → Walks reader (operation_tells reader operation) walked walked
   walks_rootless operation walked none =
       walks_same [] (operation_tells reader operation) walked walked
-      (ap (λ found. conflicts_at (rooted_of reader.rooted.now) reader.fragments.now reader.levels found (selections_of (operation_set operation))) (sym none))
+      (ap (λ found. root_tells reader.once (setting_by reader) found (selections_of (operation_set operation))) (sym none))
       (walks_none walked)
 
 -- where nothing was walked through, all of it is told

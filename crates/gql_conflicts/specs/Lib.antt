@@ -2,6 +2,7 @@ pub mod Classes
 pub mod DocumentConflicts
 pub mod Groups
 pub mod Marks
+pub mod Nested
 pub mod Proposals
 pub mod Reader
 pub mod Rooted

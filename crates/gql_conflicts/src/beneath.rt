@@ -11,7 +11,9 @@ use crate::group::Group;
 use crate::reader::Reader;
 use crate::rooted_types::RootedTypes;
 use gql_base::Made;
-use gql_collect::{collect_fields, collect_merged_fields};
+use gql_collect::{
+    collect_fields, collect_merged_fields, collect_once_fields, collect_once_merged_fields,
+};
 use gql_doc::{Field, Positioned, Selection};
 use gql_schema::NameSet;
 use std::alloc::Global;
@@ -42,7 +44,7 @@ fn is_entities(rooted: &RootedTypes<'_>, object: &str, name: &str) -> bool
     rooted.entities && (name == "_entities" && object == rooted.query)
 }
 
-/// The fields of an object in selections.
+/// The fields of an object in selections, as the reader collects them.
 pub(crate) fn fields_in<'a>(
     alloc: Global,
     reader: &Reader<'a>,
@@ -52,7 +54,12 @@ pub(crate) fn fields_in<'a>(
     ensures { IfOk result (λ fields. all_behind fields.items
         ≡ collected reader.entry.now object.now selections.entry.now) }
 {
-    collect_fields(alloc, &reader.collector(), object, selections)
+    let read_by = reader.collector();
+    if reader.once {
+        collect_once_fields(alloc, &read_by, object, selections)
+    } else {
+        collect_fields(alloc, &read_by, object, selections)
+    }
 }
 
 /// The fields of an object in the sets of all occurrences of a group.
@@ -65,14 +72,14 @@ pub(crate) fn fields_beneath<'a>(
     ensures { IfOk result (λ fields. all_behind fields.items
         ≡ collected reader.entry.now object.now (own_selections (united group.entry.now))) }
 {
+    let first = group.first.field();
     let more = group.more.as_slice();
-    collect_merged_fields(
-        alloc,
-        &reader.collector(),
-        object,
-        group.first.field(),
-        more,
-    )
+    let read_by = reader.collector();
+    if reader.once {
+        collect_once_merged_fields(alloc, &read_by, object, first, more)
+    } else {
+        collect_merged_fields(alloc, &read_by, object, first, more)
+    }
 }
 
 /// True only where no occurrence of a group has a set.

@@ -1,10 +1,11 @@
 //! FieldsInSetCanMerge (GraphQL, October 2021, section 5.3.2) for each set of a document: all
 //! conflicts.
-ghost use Rattle.std.specs.Prelude.{◌≡◌, [], IfOk, OnOk};
+ghost use Rattle.std.specs.Prelude.{◌≡◌, [], true, IfOk, OnOk};
 ghost use Rattle.std.specs.List.{flat_map};
 ghost use Rattle.gql_base.specs.Pairs.{values_of};
 ghost use Rattle.gql_doc.specs.Depth.{operations_in};
 ghost use Rattle.gql_conflicts.specs.DocumentConflicts.{Lists};
+ghost use Rattle.gql_conflicts.specs.Nested.{AreNested};
 ghost use Rattle.gql_conflicts.specs.Rooted.{rooted_of};
 ghost use Rattle.gql_conflicts.specs.Walk.{operation_tells};
 ghost use Rattle.gql_conflicts.specs.Walked.{Walks};
@@ -31,10 +32,39 @@ pub fn conflicts_in(
 ) -> Made<Items<Conflict>>
     ensures { IfOk result (Lists (rooted_of rooted.now) doc.now levels) }
 {
+    conflicts_by(alloc, rooted, doc, levels, false)
+}
+
+/// The same where it is known that the sets nest so. Then each fragment is entered once within a
+/// set, so that no set is longer than all that stands in the document.
+pub fn conflicts_in_nested(
+    alloc: Global,
+    rooted: &RootedTypes<'_>,
+    doc: &ExecutableDocument,
+    levels: usize,
+) -> Made<Items<Conflict>>
+    requires { AreNested doc.now levels }
+    ensures { IfOk result (Lists (rooted_of rooted.now) doc.now levels) }
+{
+    conflicts_by(alloc, rooted, doc, levels, true)
+}
+
+/// The conflicts of a document, where each fragment is entered once within a set, or as often as it
+/// is spread.
+fn conflicts_by(
+    alloc: Global,
+    rooted: &RootedTypes<'_>,
+    doc: &ExecutableDocument,
+    levels: usize,
+    once: bool,
+) -> Made<Items<Conflict>>
+    requires { once ≡ true → AreNested doc.now levels }
+    ensures { IfOk result (Lists (rooted_of rooted.now) doc.now levels) }
+{
     if is_clear(alloc, doc)? {
         return Ok(Items::new(alloc));
     }
-    walk_document(alloc, rooted, doc, levels)
+    walk_document(alloc, rooted, doc, levels, once)
 }
 
 /// What the walk through all operations finds.
@@ -43,7 +73,9 @@ fn walk_document<'a>(
     rooted: &'a RootedTypes<'a>,
     doc: &'a ExecutableDocument,
     levels: usize,
+    once: bool,
 ) -> Made<Items<Conflict>>
+    requires { once ≡ true → AreNested doc.now levels }
     ensures { IfOk result (Lists (rooted_of rooted.entry.now) doc.entry.now levels) }
 {
     let fragments = &doc.fragments;
@@ -51,6 +83,7 @@ fn walk_document<'a>(
         rooted,
         fragments,
         levels,
+        once,
     };
     let mut walked = nothing_walked(alloc);
     add_operations(alloc, &reader, &doc.operations, &mut walked)?;

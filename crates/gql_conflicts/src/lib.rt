@@ -32,5 +32,5 @@ mod walked;
 
 pub use coarse::is_clear;
 pub use conflict::Conflict;
-pub use fields_in_set_can_merge::conflicts_in;
+pub use fields_in_set_can_merge::{conflicts_in, conflicts_in_nested};
 pub use rooted_types::RootedTypes;

@@ -7,13 +7,14 @@ use gql_base::Pairs;
 use gql_collect::Collector;
 use gql_doc::{FragmentDefinition, Positioned};
 
-/// What the sets of a document are read by: the types, the fragments, and the levels within which
-/// sets nest.
+/// What the sets of a document are read by: the types, the fragments, the levels within which sets
+/// nest, and whether each fragment is entered once within a set.
 #[derive(Clone, Copy)]
 pub(crate) struct Reader<'a> {
     pub rooted: &'a RootedTypes<'a>,
     pub fragments: &'a Pairs<Positioned<FragmentDefinition>>,
     pub levels: usize,
+    pub once: bool,
 }
 
 impl<'a> Reader<'a> {
