@@ -14,7 +14,7 @@ use Rattle.gql_doc.specs.declared.document.Positioned.{Positioned}
 use Rattle.gql_doc.specs.declared.document.VariableDefinition.{VariableDefinition}
 use Rattle.gql_request.specs.Defined.{defined_name, first_definition}
 use Rattle.gql_schema.specs.Fits.{is_input_type, nullable_of}
-use Rattle.gql_schema.specs.TableReading.{Declared, TypeTable}
+use Rattle.gql_schema.specs.TableReading.{Declared}
 use Rattle.gql_schema.specs.declared.input_value.InputValue.{InputValue}
 use Rattle.gql_fields.specs.Arguments.{argument_name}
 use Rattle.gql_fields.specs.Breach.{unless}
@@ -22,10 +22,9 @@ use Rattle.gql_fields.specs.Breaches.{is_condition}
 use Rattle.gql_fields.specs.FieldTypes.{known_field}
 use Rattle.gql_fields.specs.Places.{OnCondition, OnDirective, OnField, OnSpread, Place}
 use Rattle.gql_fields.specs.Terms.{Terms}
-use Rattle.gql_fields.specs.declared.breach.Breach.{Breach}
 use Rattle.gql_fields.specs.declared.built_in_arguments.BuiltIn.{BuiltIn}
 use Rattle.gql_rules.specs.AlikeOperations.{AskAlike, FoundAlike, IsAlike}
-use Rattle.gql_rules.specs.VariableUses.{TellsIn, ValuePlace, compatible, declared_place, fits_place, misplaced_variable, told_in_argument, told_in_arguments, told_in_field, told_of_variable, uses_told_at, value_step}
+use Rattle.gql_rules.specs.VariableUses.{TellsIn, ValuePlace, compatible, declared_place, fits_place, misplaced_variable, told_in_arguments, told_in_field, told_of_variable, uses_told_at, value_step}
 
 abbrev Definition : Type 0
 Definition = Positioned VariableDefinition
@@ -39,7 +38,7 @@ alike_itself definitions = record { alike = λ name. itself (first_definition na
     itself (Some one) = record { ty = refl; default = refl }
 
 -- what is found once one more stands at the end
-or_last : Option Definition → Option Definition → Option Definition
+abbrev or_last : Option Definition → Option Definition → Option Definition
 or_last None last = last
 or_last (Some found) last = Some found
 
@@ -62,9 +61,6 @@ one_alike true true x y same alike = alike
 one_alike true false x y same alike = cc
 one_alike false true x y same alike = cc
 one_alike false false x y same alike = tt
-
-pub none_alike : (xs ys : List Definition) → xs ≡ [] → ys ≡ [] → AskAlike xs ys
-none_alike xs ys no none = rw (no, none) (alike_itself [])
 
 -- one definition more in each
 pub alike_more : (xs ys : List Definition) (x y : Definition) → AskAlike xs ys → defined_name x ≡ defined_name y → IsAlike x y

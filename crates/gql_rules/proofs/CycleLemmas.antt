@@ -15,6 +15,7 @@ use Rattle.gql_fields.specs.declared.breach.Breach.{Breach}
 use Rattle.gql_fields.specs.declared.breach.BreachKind.TheVariants as kinds
 use Rattle.gql_rules.specs.BreachTexts.{circular_text}
 use Rattle.gql_rules.specs.Adds.{Adds}
+use Rattle.gql_rules.specs.Circles.{AreTold}
 use Rattle.gql_rules.specs.Reaching.{AreBelow, AreWithin, Reaches, is_in, led_to}
 use Rattle.gql_rules.specs.FragmentCycles.{CircularAt, IsCircular}
 use Rattle.gql_rules.specs.FragmentSpreads.{graph_of, spread_in}
@@ -65,6 +66,14 @@ pub graph_within : (fragments : Fragments) (graph : List (List ℕ)) → graph �
 graph_within fragments graph is all = record {
   within = λ from to among. subst (λ n. to < n) (sym (ap length is ∙ graph_long fragments)) (all.all from to among);
 }
+
+-- what is told of its places is told of the fragments
+pub told_for : (fragments : Fragments) (graph ahead : List (List ℕ)) (circular marks : List Bool) → graph ≡ graph_of fragments
+    → ahead ≡ graph → marks ≡ circular → AreTold ahead (length ahead) circular → AreTold (graph_of fragments) (length fragments) marks
+told_for fragments graph ahead circular marks is read same told =
+    subst (AreTold (graph_of fragments) (length fragments)) (sym same)
+    (subst (λ n. AreTold (graph_of fragments) n circular) (graph_long fragments)
+    (subst (λ g. AreTold g (length g) circular) (read ∙ is) told))
 
 -- Breaches that are added.
 

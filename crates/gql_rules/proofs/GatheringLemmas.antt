@@ -1,26 +1,23 @@
 -- What is told of the operations one by one, and of the fragments that they reach once for those that
 -- ask the same, is what is told of all.
-use Rattle.std.proofs.Common.{arith, ◌≡◌, ◌⊎◌, inl, inr, ℕ, zero, suc, ◌+◌, ◌<◌, true, false, ◌||◌, List, [], ◌∷◌, ◌++◌, map, length, Some, slice_get, slice_set, refl, ap, sym, subst, ◌∙◌, length-append}
+use Rattle.std.proofs.Common.{arith, ◌≡◌, ◌⊎◌, inl, inr, ℕ, zero, suc, ◌+◌, ◌<◌, Bool, true, false, List, [], ◌∷◌, ◌++◌, map, length, Some, get_or, slice_get, slice_set, refl, ap, sym, subst, ◌∙◌, length-append}
 use Rattle.std.proofs.lemmas.Bool.{cases_lt}
+use Rattle.std.proofs.lemmas.Option.{slice_get_read}
 use Rattle.std.specs.List.{Contains, flat_map}
 use Rattle.std.specs.Prelude.{◌==◌}
-use Rattle.gql_base.specs.Pairs.{names_of, values_of}
+use Rattle.gql_base.specs.Pairs.{names_of}
 use Rattle.gql_doc.specs.Depth.{Fragments}
-use Rattle.gql_doc.specs.declared.document.OperationDefinition.{OperationDefinition}
-use Rattle.gql_doc.specs.declared.document.Positioned.{Positioned}
-use Rattle.gql_doc.specs.declared.document.VariableDefinition.{VariableDefinition}
 use Rattle.gql_fields.specs.BuiltIn.{built_in}
-use Rattle.gql_fields.specs.Places.{Place, fragment_places, operation_places}
+use Rattle.gql_fields.specs.Places.{Place, operation_places}
 use Rattle.gql_fields.specs.Terms.{Terms}
 use Rattle.gql_fields.specs.UsePlaceViews.{listed_behind, listed_of, operation_behind, shown}
 use Rattle.gql_fields.specs.UsePlaces.{kept}
 use Rattle.gql_fields.specs.declared.breach.Breach.{Breach}
-use Rattle.gql_fields.specs.declared.built_in_arguments.BuiltIn.{BuiltIn}
 use Rattle.gql_fields.specs.declared.listed.OperationPlaces.{OperationPlaces}
 use Rattle.gql_lists.proofs.SetLemmas.{among-append, or-either, or-left, or-right}
 use Rattle.gql_lists.proofs.SliceLemmas.{length_set}
 use Rattle.gql_rules.specs.Adds.{Adds}
-use Rattle.gql_rules.specs.AlikeOperations.{AreEmpty, AreGathered, AskAlike, HasHead, IsGathered, IsHead, WrongBefore, WrongSpread, definitions_of, spread_from, told_listed}
+use Rattle.gql_rules.specs.AlikeOperations.{AreEmpty, AreGathered, AskAlike, IsGathered, IsHead, WrongBefore, WrongSpread, definitions_of, spread_from, told_listed}
 use Rattle.gql_rules.specs.ReachedUses.{IsReached, WrongUseIn, operation_spreads, own, place_graph, spread, spreads_at}
 use Rattle.gql_rules.specs.Reaching.{AreBelow, ReachesFrom, at_once, further, is_in, led_to}
 use Rattle.gql_rules.specs.VariableUses.{uses_told, uses_told_at}
@@ -141,7 +138,7 @@ module _ (names : List (List ℕ)) (operations : List OperationPlaces) where
           | inr most ↦
               let here : other ≡ bound = omega (arith, most, before) in
               let same : listed ≡ one = same_at operations bound listed one (subst (λ k. slice_get operations k ≡ Some listed) here stands)
-                  at in
+              at in
               record {
                 place = place;
                 head = subst (IsHead operations place) (sym same) head;
@@ -177,7 +174,7 @@ module _ (names : List (List ℕ)) (operations : List OperationPlaces) where
       fresh_here fragment there =
           ap (is_in fragment) (set_here starts place list (omega (arith, inside, are.long)))
           ∙ among-append ◌==◌ fragment (led_to starts place) (spread_from names one) ∙ or-right (is_in fragment (led_to starts place)) _
-              there
+          there
 
   -- what is gathered are fragments
   pub gathered_below : (bound place : ℕ) (starts : List (List ℕ)) → AreGathered names operations bound starts
@@ -192,6 +189,19 @@ module _ (names : List (List ℕ)) (operations : List OperationPlaces) where
 pub own_head : (operations : List OperationPlaces) (place : ℕ) (one : OperationPlaces) → slice_get operations place ≡ Some one
     → IsHead operations place one
 own_head operations place one at = record { head = one; stands = at; asks = alike_itself (definitions_of one) }
+
+-- another that was read asks the same
+pub asked_head : (operations : List OperationPlaces) (other place : ℕ) (head mine one : OperationPlaces) (asks : Bool)
+    → other < length operations → place < length operations → head ≡ get_or operations other head → mine ≡ get_or operations place mine
+    → (asks ≡ true → AskAlike (definitions_of head) (definitions_of mine)) → asks ≡ true → slice_get operations place ≡ Some one
+    → IsHead operations other one
+asked_head operations other place head mine one asks below inside read also alike so at = record {
+  head = head;
+  stands = slice_get_read operations (length operations) other head refl below read;
+  asks =
+      subst (λ o. AskAlike (definitions_of head) (definitions_of o))
+      (same_at operations place mine one (slice_get_read operations (length operations) place mine refl inside also) at) (alike so);
+}
 
 -- What is told.
 
@@ -212,10 +222,15 @@ module _ (terms : Terms) (fragments : Fragments) where
           → Adds (WrongBefore terms fragments operations starts (bound + 1)) old new
       before_more bound head old now new at first second =
           adds_then (WrongBefore terms fragments operations starts bound)
-              (WrongSpread terms fragments (definitions_of head) (led_to starts bound))
+          (WrongSpread terms fragments (definitions_of head) (led_to starts bound))
           (WrongBefore terms fragments operations starts (bound + 1)) old now new
-          (λ found wrong. record { place = wrong.place; before = omega (arith, wrong.before); head = wrong.head; listed = wrong.listed;
-              wrong = wrong.wrong })
+          (λ found wrong. record {
+            place = wrong.place;
+            before = omega (arith, wrong.before);
+            head = wrong.head;
+            listed = wrong.listed;
+            wrong = wrong.wrong;
+          })
           (λ found wrong. record { place = bound; before = omega arith; head = head; listed = at; wrong = wrong })
           (λ found wrong.
           elim (cases_lt wrong.place bound) [
@@ -238,7 +253,7 @@ module _ (terms : Terms) (fragments : Fragments) where
         → Adds (WrongUseIn terms fragments (map operation_behind operations)) old new
     uses_gathered starts old now new listed gathered told spread_told =
         adds_then (Contains (flat_map (told_listed built_in terms) operations))
-            (WrongBefore terms fragments operations starts (length operations))
+        (WrongBefore terms fragments operations starts (length operations))
         (WrongUseIn terms fragments (map operation_behind operations)) old now new own_wrong spread_wrong either
         (adds_told old (flat_map (told_listed built_in terms) operations) now told) spread_told
       where
@@ -250,7 +265,7 @@ module _ (terms : Terms) (fragments : Fragments) where
             → spread_from (names_of fragments) one ≡ operation_spreads terms fragments (operation_behind one)
         spreads_of place one at =
             ap (spreads_at (names_of fragments)) (places_of place one at) ∙ spreads_kept (names_of fragments)
-                (operation_places terms (operation_behind one))
+            (operation_places terms (operation_behind one))
 
         own_is : (place : ℕ) (one : OperationPlaces) → slice_get operations place ≡ Some one
             → told_listed built_in terms one ≡ uses_told built_in terms (definitions_of one) (operation_places terms (operation_behind one))
@@ -264,7 +279,7 @@ module _ (terms : Terms) (fragments : Fragments) where
             let from = given_from (told_listed built_in terms) operations found there in
             let at = stands_in operations from.item from.there in
             let inner = given_from (uses_told_at built_in terms (definitions_of from.item))
-                (operation_places terms (operation_behind from.item)) found
+            (operation_places terms (operation_behind from.item)) found
             (subst (λ xs. Contains xs found) (own_is at.place from.item at.stands) from.gives) in
             record {
               operation = operation_behind from.item;
@@ -280,33 +295,33 @@ module _ (terms : Terms) (fragments : Fragments) where
             let from = gathered.sound before.place begin.first begin.there in
             let at = stands_in operations from.one from.listed in
             let same : from.head.head ≡ before.head = same_at operations before.place from.head.head before.head from.head.stands
-                before.listed in
+            before.listed in
             let asks : AskAlike (definitions_of before.head) (definitions_of from.one) = subst
-                (λ o. AskAlike (definitions_of o) (definitions_of from.one)) same from.head.asks in
+            (λ o. AskAlike (definitions_of o) (definitions_of from.one)) same from.head.asks in
             record {
               operation = operation_behind from.one;
               stands = in_mapped operation_behind operations from.one from.listed;
               wrong = record {
                 place = wrong.place;
                 reached = spread wrong.at wrong.fragment wrong.place
-                (begin.goes (operation_spreads terms fragments (operation_behind from.one))
-                (subst (λ ks. is_in begin.first ks ≡ true) (spreads_of at.place from.one at.stands) from.spread))
-                wrong.stands wrong.there;
+                    (begin.goes (operation_spreads terms fragments (operation_behind from.one))
+                    (subst (λ ks. is_in begin.first ks ≡ true) (spreads_of at.place from.one at.stands) from.spread))
+                    wrong.stands wrong.there;
                 told = subst (λ xs. Contains xs found) (uses_alike built_in terms (definitions_of before.head) (definitions_of from.one)
                     asks wrong.place) wrong.told;
               };
             }
 
-        by_reached : (place : ℕ) (one : OperationPlaces) (found : Breach) (use : Place) → slice_get operations place ≡ Some one
-            → IsReached terms fragments (operation_behind one) use → Contains (uses_told_at built_in terms (definitions_of one) use) found
+        by_reached : (place : ℕ) (one : OperationPlaces) (found : Breach) (used : Place) → slice_get operations place ≡ Some one
+            → IsReached terms fragments (operation_behind one) used → Contains (uses_told_at built_in terms (definitions_of one) used) found
             → Contains (flat_map (told_listed built_in terms) operations) found ⊎ WrongBefore terms fragments operations starts
-                (length operations) found
-        by_reached place one found _ at (own use there) told =
+            (length operations) found
+        by_reached place one found _ at (own used there) told =
             inl (given_at (told_listed built_in terms) operations one found (in_at operations place one at)
             (subst (λ xs. Contains xs found) (sym (own_is place one at))
-            (given_at (uses_told_at built_in terms (definitions_of one)) (operation_places terms (operation_behind one)) use found there
-                told)))
-        by_reached place one found _ at (spread to fragment use reaches stands there) told =
+            (given_at (uses_told_at built_in terms (definitions_of one)) (operation_places terms (operation_behind one)) used found there
+            told)))
+        by_reached place one found _ at (spread to fragment used reaches stands there) told =
             let begin = begins (place_graph terms fragments) (operation_spreads terms fragments (operation_behind one)) to reaches in
             let head = gathered.all place begin.first one (within_at operations place one at) at
             (subst (λ ks. is_in begin.first ks ≡ true) (sym (spreads_of place one at)) begin.there) in
@@ -318,21 +333,21 @@ module _ (terms : Terms) (fragments : Fragments) where
               wrong = record {
                 at = to;
                 fragment = fragment;
-                place = use;
+                place = used;
                 reaches = begin.goes (led_to starts head.place) head.listed;
                 stands = stands;
                 there = there;
                 told = subst (λ xs. Contains xs found) (sym (uses_alike built_in terms (definitions_of head.head.head) (definitions_of one)
-                    head.head.asks use)) told;
+                    head.head.asks used)) told;
               };
             })
 
         either : (found : Breach) → WrongUseIn terms fragments (map operation_behind operations) found
             → Contains (flat_map (told_listed built_in terms) operations) found ⊎ WrongBefore terms fragments operations starts
-                (length operations) found
+            (length operations) found
         either found wrong =
             let from = becomes operation_behind operations wrong.operation wrong.stands in
             by_reached from.place from.item found wrong.wrong.place from.stands
             (subst (λ o. IsReached terms fragments o wrong.wrong.place) (sym from.is) wrong.wrong.reached)
             (subst (λ o. Contains (uses_told_at built_in terms o.node.variable_definitions wrong.wrong.place) found) (sym from.is)
-                wrong.wrong.told)
+            wrong.wrong.told)

@@ -1,5 +1,5 @@
 -- Numbers that fall along the ways of a graph.
-use Rattle.std.proofs.Common.{arith, ◌≡◌, ℕ, ◌-◌, ◌≤◌, ◌<◌, Bool, true, false, List, refl, sym, ◌∙◌}
+use Rattle.std.proofs.Common.{arith, ◌≡◌, ℕ, ◌-◌, ◌≤◌, ◌<◌, Bool, true, false, List, sym, ◌∙◌}
 use Rattle.std.specs.Bool.{Decides}
 use Rattle.gql_schema.proofs.GraphRankLemmas.{low_each}
 use Rattle.gql_schema.specs.GraphRanks.{AreRanks, all_at_most, rank_of}

@@ -1,10 +1,11 @@
 -- What is told of the variables at the places that an operation reaches.
-use Rattle.std.proofs.Common.{◌≡◌, ◌⊎◌, inl, inr, ℕ, zero, suc, ◌+◌, ◌<◌, true, false, List, [], ◌∷◌, ◌++◌, map, take, Option, Some, None, length, slice_get, slice_index_or, refl, ap, sym, subst, ◌∙◌, add-one}
+use Rattle.std.proofs.Common.{arith, ◌≡◌, inl, inr, ℕ, zero, suc, ◌<◌, Bool, true, false, List, [], ◌∷◌, ◌++◌, map, Option, Some, None, length, slice_get, slice_index_or, refl, ap, sym, subst, ◌∙◌}
 use Rattle.std.specs.List.{Contains, flat_map}
 use Rattle.std.specs.Option.{option_to_list}
 use Rattle.std.specs.Prelude.{◌==◌}
 use Rattle.std.proofs.Math.ListN.{length-map}
-use Rattle.std.proofs.lemmas.List.Elements.{Contains-append_cases, Contains-append_left, Contains-append_right}
+use Rattle.std.proofs.lemmas.Bool.{eqb-true}
+use Rattle.std.proofs.lemmas.List.Elements.{Contains-append_cases}
 use Rattle.gql_base.specs.Names.{place_of}
 use Rattle.gql_base.specs.Pairs.{names_of, values_of}
 use Rattle.gql_base.proofs.NamesLemmas.{place_within}
@@ -208,12 +209,15 @@ module _ (terms : Terms) (fragments : Fragments) (definitions : List (Positioned
   none_from graph _ (further via to before leads) = none_from graph via before
 
   -- from nowhere nothing is reached
-  pub none_spread : (starts : List ℕ) (old : List Breach) → starts ≡ [] → Adds (WrongSpread terms fragments definitions starts) old old
-  none_spread starts old none = rw none (record {
+  pub none_spread : (starts : List ℕ) (empty : Bool) (old : List Breach) → empty ≡ (length starts == 0) → empty ≡ true
+      → Adds (WrongSpread terms fragments definitions starts) old old
+  none_spread [] empty old is so = record {
     kept = λ found there. there;
     has = λ found wrong. absurd (none_from (place_graph terms fragments) wrong.at wrong.reaches);
     only = λ found there. inl there;
-  })
+  }
+  none_spread (k ∷ starts) empty old is so =
+      let none : length (k ∷ starts) ≡ 0 = eqb-true (length (k ∷ starts)) 0 (sym is ∙ so) in absurd (omega (arith, none))
 
 -- what an operation starts from and reaches are fragments, whose places are listed
 module _ (terms : Terms) (fragments : Fragments) (listed : Spread) (is : IsSpread terms fragments listed) where

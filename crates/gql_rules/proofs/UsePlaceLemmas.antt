@@ -1,38 +1,24 @@
 -- Places that matter to the uses of variables.
-use Rattle.std.proofs.Common.{◌≡◌, ℕ, Bool, true, false, ◌&&◌, not, cond, List, [], ◌∷◌, ◌++◌, Option, Some, None, refl, ap, sym, ◌∙◌, append-nil}
+use Rattle.std.proofs.Common.{◌≡◌, ℕ, Bool, true, false, ◌&&◌, not, cond, List, [], ◌∷◌, ◌++◌, Option, Some, None, refl, sym, ◌∙◌, append-nil}
 use Rattle.std.specs.List.{flat_map}
 use Rattle.std.specs.Option.{option_map}
 use Rattle.std.proofs.lemmas.Grind.{flat_map-append}
-use Rattle.std.proofs.lemmas.List.{map-append}
 use Rattle.gql_base.specs.Pairs.{under}
-use Rattle.gql_base.specs.TypeRef.{innermost}
-use Rattle.gql_base.specs.declared.type_ref.TypeRef.{TypeRef}
-use Rattle.gql_doc.specs.Depth.{fragment_set, operation_set}
 use Rattle.gql_doc.specs.declared.document.Argument.{Argument}
-use Rattle.gql_doc.specs.declared.document.Directive.{Directive}
-use Rattle.gql_doc.specs.declared.document.FragmentDefinition.{FragmentDefinition}
-use Rattle.gql_doc.specs.declared.document.OperationDefinition.{OperationDefinition}
 use Rattle.gql_doc.specs.declared.document.Positioned.{Positioned}
-use Rattle.gql_doc.specs.declared.document.Selection.{Selection}
-use Rattle.gql_doc.specs.declared.document.SelectionSet.{SelectionSet, out-SelectionSet}
 use Rattle.gql_doc.specs.declared.document.VariableDefinition.{VariableDefinition}
 use Rattle.gql_schema.specs.TableReading.{Declared}
 use Rattle.gql_schema.specs.declared.input_value.InputValue.{InputValue}
-use Rattle.gql_schema.specs.declared.schema_type.SchemaType.{SchemaType}
-use Rattle.gql_schema.specs.declared.schema_type.SchemaType.TheVariants as types
 use Rattle.gql_fields.specs.Arguments.{argument_name}
 use Rattle.gql_fields.specs.Breaches.{is_condition}
 use Rattle.gql_fields.specs.FieldTypes.{known_field}
-use Rattle.gql_fields.specs.Places.{OnCondition, OnDirective, OnField, OnSpread, Place, beneath_field, directive_places, fragment_places, on_composite, on_named, rooted_places, selection_places, set_places, variable_places}
+use Rattle.gql_fields.specs.Places.{OnCondition, OnDirective, OnField, OnSpread, Place}
 use Rattle.gql_fields.specs.Terms.{Terms}
 use Rattle.gql_fields.specs.declared.breach.Breach.{Breach}
 use Rattle.gql_fields.specs.declared.built_in_arguments.BuiltIn.{BuiltIn}
-use Rattle.gql_fields.proofs.ToldLemmas.{places_in_set}
-use Rattle.gql_fields.specs.UsePlaceViews.{place_behind, shown}
 use Rattle.gql_fields.specs.UsePlaces.{are_constant, is_constant, kept, kept_at, matters}
 use Rattle.gql_rules.specs.ReachedUses.{spread_at, spreads_at}
 use Rattle.gql_rules.specs.VariableUses.{ValuePlace, declared_place, told_in_arguments, told_in_field, uses_told, uses_told_at}
-use Rattle.gql_fields.specs.declared.use_place.UsePlace.{UsePlace}
 use Rattle.gql_rules.proofs.ConstantLemmas.{constant_silent}
 
 -- places that don't matter add nothing

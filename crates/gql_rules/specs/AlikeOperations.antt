@@ -5,7 +5,6 @@ use Rattle.std.specs.List.{Contains}
 use Rattle.gql_base.specs.Pairs.{values_of}
 use Rattle.gql_doc.specs.Depth.{Fragments}
 use Rattle.gql_doc.specs.declared.document.FragmentDefinition.{FragmentDefinition}
-use Rattle.gql_doc.specs.declared.document.OperationDefinition.{OperationDefinition}
 use Rattle.gql_doc.specs.declared.document.Positioned.{Positioned}
 use Rattle.gql_doc.specs.declared.document.VariableDefinition.{VariableDefinition}
 use Rattle.gql_fields.specs.BuiltIn.{built_in}

@@ -12,8 +12,8 @@ use gql_fields::OperationPlaces;
 use gql_schema::Same;
 use std::alloc::Global;
 
-/// For each operation the place of the first of its mark, which tells of its definitions. Nothing is
-/// promised of what it proposes.
+/// For each operation the place of the first of its mark, which tells of its definitions. Nothing
+/// is promised of what it proposes.
 pub fn proposed_heads(alloc: Global, operations: &[OperationPlaces<'_>]) -> Made<Vec<usize>> {
     let mut marks = Vec::with_capacity(alloc, operations.len())?;
     for place in 0..operations.len() {
@@ -89,6 +89,7 @@ fn mixed(mark: u64, next: u64) -> u64 {
 
 /// The place of an operation that asks the same as that at a place: the proposed one where it does,
 /// and else its own.
+#[tactic(auto, using(crate::proofs::GatheringLemmas::own_head))]
 pub fn head_of(operations: &[OperationPlaces<'_>], heads: &[usize], place: usize) -> usize
     requires { place < length operations.now }
     ensures within { result < length operations.now }
@@ -96,11 +97,23 @@ pub fn head_of(operations: &[OperationPlaces<'_>], heads: &[usize], place: usize
         → IsHead operations.now result one }
 {
     let head = proposed_at(heads, place);
-    if head < operations.len() && ask_alike(&operations[head], &operations[place]) {
-        head
-    } else {
-        place
+    if asks_as(operations, head, place) {
+        return head;
     }
+    place
+}
+
+/// True only where an operation stands at the first place and asks the same as that at the second.
+fn asks_as(operations: &[OperationPlaces<'_>], other: usize, place: usize) -> bool
+    requires { place < length operations.now }
+    ensures within { result ≡ true → other < length operations.now }
+    ensures head { result ≡ true → (one : Listed) → slice_get operations.now place ≡ Some one
+        → IsHead operations.now other one }
+{
+    if other >= operations.len() {
+        return false;
+    }
+    ask_alike(&operations[other], &operations[place])
 }
 
 /// The number at a place, and past the end the place.

@@ -8,7 +8,7 @@ ghost use Rattle.gql_rules.specs.Nesting.{IsWithinDepth, NestsWithin};
 ghost use Rattle.gql_conflicts.specs.Rooted.{rooted_of};
 
 use gql_base::{Items, Made};
-use gql_conflicts::{Conflict, RootedTypes, conflicts_in};
+use gql_conflicts::{Conflict, RootedTypes, conflicts_in_nested};
 use gql_doc::ExecutableDocument;
 use gql_fields::{Breach, BreachKind, Site, breach_of};
 use std::alloc::Global;
@@ -39,7 +39,7 @@ fn tell_nested(
     requires { NestsWithin doc.now levels }
     ensures { OnOk result (Adds (IsConflicting (terms_of site.now) doc.now) found.old found.new) }
 {
-    let conflicts = conflicts_in(alloc, &rooted(site), doc, levels)?;
+    let conflicts = conflicts_in_nested(alloc, &rooted(site), doc, levels)?;
     tell_each(alloc, conflicts.as_slice(), found)
 }
 

@@ -1,8 +1,9 @@
-use Rattle.std.proofs.Common.{arith, ◌≡◌, ◌<◌, length, refl, sym, subst, take}
-use Rattle.std.proofs.lemmas.List.{take_all, take_more}
-use Rattle.gql_rules.specs.AlikeOperations.{AskAlike}
-use Rattle.gql_rules.proofs.AlikeLemmas.{alike_next, alike_whole}
+use Rattle.std.proofs.Common.{arith, []}
+use Rattle.gql_rules.proofs.AlikeLemmas.{alike_itself, alike_next, alike_whole}
 use Rattle.gql_rules.proofs.alike_operations.are_alike.Goals as goal
+
+pub loop-place-init : goal.loop-place-init
+loop-place-init c = alike_itself []
 
 pub loop-place-preserved : goal.loop-place-preserved
 loop-place-preserved c =

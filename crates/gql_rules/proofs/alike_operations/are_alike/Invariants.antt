@@ -1,4 +1,4 @@
-use Rattle.std.proofs.Common.{◌≡◌, length, take}
+use Rattle.std.proofs.Common.{take}
 use Rattle.gql_rules.specs.AlikeOperations.{AskAlike}
 use Rattle.gql_rules.proofs.alike_operations.are_alike.Given as goal
 

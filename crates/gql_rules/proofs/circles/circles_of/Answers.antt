@@ -1,7 +1,7 @@
-use Rattle.std.proofs.Common.{◌≡◌, List, ℕ, length, ap, sym, subst, ◌∙◌}
+use Rattle.std.proofs.Common.{◌≡◌, length, sym, subst, ◌∙◌}
 use Rattle.std.specs.List.{flat_map}
-use Rattle.gql_rules.specs.Circles.{AreHeads, AreTurned, IsInner}
-use Rattle.gql_rules.specs.Reaching.{AreBelow, AreWithin, led_to}
+use Rattle.gql_rules.specs.Circles.{AreTurned}
+use Rattle.gql_rules.specs.Reaching.{AreBelow, led_to}
 use Rattle.gql_rules.proofs.CircleLemmas.{circles_made, starts_inside}
 use Rattle.gql_rules.proofs.circles.circles_of.Goals as goal
 

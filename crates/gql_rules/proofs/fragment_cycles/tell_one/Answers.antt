@@ -1,4 +1,4 @@
-use Rattle.std.proofs.Common.{arith, ◌≡◌, ◌++◌, [], ◌∷◌, Some, false, get_or, refl, slice_get}
+use Rattle.std.proofs.Common.{arith, ◌≡◌, ◌++◌, [], ◌∷◌, false, get_or, refl}
 use Rattle.std.proofs.lemmas.Option.{slice_get-get_or}
 use Rattle.gql_fields.proofs.ToldLemmas.{on_ok}
 use Rattle.gql_rules.specs.Adds.{Adds}

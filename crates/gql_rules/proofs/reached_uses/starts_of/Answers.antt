@@ -1,6 +1,6 @@
 use Rattle.std.proofs.Common.{arith, ◌≡◌, length, subst}
 use Rattle.gql_base.specs.Pairs.{names_of}
-use Rattle.gql_rules.specs.AlikeOperations.{AreEmpty, AreGathered}
+use Rattle.gql_rules.specs.AlikeOperations.{AreGathered}
 use Rattle.gql_rules.proofs.GatheringLemmas.{none_gathered}
 use Rattle.gql_rules.proofs.reached_uses.starts_of.Goals as goal
 

@@ -28,8 +28,7 @@ tell_reached-requires c =
 pub returns-then-is_empty : goal.returns-then-is_empty
 returns-then-is_empty c =
     none_spread (terms_in c.args.against.now) c.args.against.now.fragments.now (definitions_of c.args.listed.now) c.args.starts.now
-    c.args.found.now
-    (c.is_empty.ensures.0 c.if-is_empty.true)
+    c.is_empty.result c.args.found.now c.is_empty.ensures c.if-is_empty.true
 
 pub returns : goal.returns
 returns c =

@@ -1,4 +1,4 @@
-use Rattle.std.proofs.Common.{◌≡◌, ◌++◌, ap, ◌∙◌}
+use Rattle.std.proofs.Common.{◌≡◌, ◌++◌, ◌∙◌}
 use Rattle.gql_fields.specs.UsePlaceViews.{shown}
 use Rattle.gql_fields.specs.Walk.{terms_in}
 use Rattle.gql_rules.specs.AlikeOperations.{definitions_of}

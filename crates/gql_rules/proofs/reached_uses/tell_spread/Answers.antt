@@ -1,4 +1,4 @@
-use Rattle.std.proofs.Common.{arith, ◌≡◌, Some, List, ℕ, length, refl, slice_get, sym, subst, ◌∙◌}
+use Rattle.std.proofs.Common.{arith, ◌≡◌, Some, length, refl, slice_get, sym, subst}
 use Rattle.std.proofs.lemmas.Option.{slice_get_read}
 use Rattle.gql_base.specs.Pairs.{names_of}
 use Rattle.gql_fields.specs.Walk.{terms_in}

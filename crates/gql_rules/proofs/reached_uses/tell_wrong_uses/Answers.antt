@@ -1,9 +1,8 @@
-use Rattle.std.proofs.Common.{◌≡◌, ◌++◌, List, length, map, refl, ap, sym, subst, ◌∙◌}
+use Rattle.std.proofs.Common.{◌≡◌, ◌++◌, length, map, refl, ap, sym, subst, ◌∙◌}
 use Rattle.std.specs.List.{flat_map}
 use Rattle.gql_base.specs.Pairs.{names_of}
 use Rattle.gql_fields.specs.UsePlaceViews.{listed_behind, listed_of, operation_behind, shown}
 use Rattle.gql_fields.specs.Walk.{terms_in}
-use Rattle.gql_fields.specs.declared.listed.OperationPlaces.{OperationPlaces}
 use Rattle.gql_rules.specs.Adds.{Adds}
 use Rattle.gql_rules.specs.AlikeOperations.{AreGathered, WrongBefore, told_listed}
 use Rattle.gql_rules.specs.ReachedUses.{WrongUseIn}
