@@ -1,81 +1,19 @@
 -- What a walk may still look at falls as more is known.
-use Rattle.std.proofs.Common.{arith, ◌≡◌, ◌⊎◌, inl, inr, ℕ, zero, suc, ◌+◌, ◌*◌, ◌≤◌, ◌<◌, Bool, true, false, cond, List, [], ◌∷◌, map, Option, Some, None, is_some, MatchOption, length, slice_get, slice_index_or, slice_set, leb-true, refl, ap, sym, subst, ◌∙◌}
+use Rattle.std.proofs.Common.{arith, ◌≡◌, ◌⊎◌, inl, inr, ℕ, zero, suc, ◌+◌, ◌*◌, ◌≤◌, ◌<◌, Bool, true, false, List, [], ◌∷◌, map, Option, Some, None, is_some, MatchOption, length, slice_get, slice_index_or, slice_set, leb-true, refl, ap, sym, ◌∙◌}
 use Rattle.std.proofs.Math.Nat.{mul_comm, suc-mul}
 use Rattle.std.proofs.lemmas.Bool.{le-leb}
+use Rattle.gql_base.specs.Pairs.{values_of}
+use Rattle.gql_doc.specs.declared.document.DocumentOperations.{DocumentOperations}
+use Rattle.gql_doc.specs.declared.document.DocumentOperations.TheVariants.{Multiple, Single}
 use Rattle.gql_doc.specs.declared.document.FragmentDefinition.{FragmentDefinition}
+use Rattle.gql_doc.specs.declared.document.OperationDefinition.{OperationDefinition}
 use Rattle.gql_doc.specs.declared.document.Positioned.{Positioned}
-use Rattle.gql_admit.specs.Counted.{StaysKnown, budget, standing_unless, suffices, suffices_at, unentered, unless_found}
-use Rattle.gql_select.specs.Standing.{standing_under, total}
-
-part_less : (a b : Bool) (n : ℕ) → (a ≡ true → b ≡ true) → cond b 0 n ≤ cond a 0 n
-part_less true true n so = omega arith
-part_less true false n so = let e : false ≡ true = so refl in cc
-part_less false true n so = omega arith
-part_less false false n so = omega arith
-
--- where more places pass, less stands in the others
-pub unless_less : (fragments : List (Positioned FragmentDefinition)) (a b : ℕ → Bool) → ((k : ℕ) → a k ≡ true → b k ≡ true)
-    → standing_unless b fragments ≤ standing_unless a fragments
-unless_less [] a b so = omega arith
-unless_less (f ∷ fragments) a b so =
-    let here = part_less (a 0) (b 0) (standing_under f) (so 0) in
-    let rest = unless_less fragments (λ k. a (suc k)) (λ k. b (suc k)) (λ k. so (suc k)) in
-    omega (arith, here, rest)
-
--- a place that passes now takes what stands in its fragment away
-pub unless_drops : (fragments : List (Positioned FragmentDefinition)) (a b : ℕ → Bool) (place : ℕ)
-    (fragment : Positioned FragmentDefinition)
-    → slice_get fragments place ≡ Some fragment → a place ≡ false → b place ≡ true → ((k : ℕ) → a k ≡ true → b k ≡ true)
-    → standing_unless b fragments + standing_under fragment ≤ standing_unless a fragments
-unless_drops [] a b place fragment at fails passes so = cc
-unless_drops (f ∷ fragments) a b zero fragment at fails passes so =
-    let same : f ≡ fragment = cc in
-    let size : standing_under f ≡ standing_under fragment = ap standing_under same in
-    let old : cond (a 0) 0 (standing_under f) ≡ standing_under f = ap (λ t. cond t 0 (standing_under f)) fails in
-    let new : cond (b 0) 0 (standing_under f) ≡ 0 = ap (λ t. cond t 0 (standing_under f)) passes in
-    let rest = unless_less fragments (λ k. a (suc k)) (λ k. b (suc k)) (λ k. so (suc k)) in
-    omega (arith, size, old, new, rest)
-unless_drops (f ∷ fragments) a b (suc place) fragment at fails passes so =
-    let here = part_less (a 0) (b 0) (standing_under f) (so 0) in
-    let rest = unless_drops fragments (λ k. a (suc k)) (λ k. b (suc k)) place fragment at fails passes (λ k. so (suc k)) in
-    omega (arith, here, rest)
-
--- what stands in a fragment whose place doesn't pass is among it
-pub unless_has : (fragments : List (Positioned FragmentDefinition)) (a : ℕ → Bool) (place : ℕ) (fragment : Positioned FragmentDefinition)
-    → slice_get fragments place ≡ Some fragment → a place ≡ false → standing_under fragment ≤ standing_unless a fragments
-unless_has fragments a place fragment at fails =
-    let most = unless_drops fragments a (λ k. true) place fragment at fails refl (λ k h. refl) in
-    omega (arith, most)
-
--- and there are no others
-pub unless_most : (fragments : List (Positioned FragmentDefinition)) (a : ℕ → Bool)
-    → standing_unless a fragments ≤ total (map standing_under fragments)
-unless_most [] a = omega arith
-unless_most (f ∷ fragments) a =
-    let here : cond (a 0) 0 (standing_under f) ≤ standing_under f = part (a 0) (standing_under f) in
-    let rest = unless_most fragments (λ k. a (suc k)) in
-    omega (arith, here, rest)
-  where
-    part : (t : Bool) (n : ℕ) → cond t 0 n ≤ n
-    part true n = omega arith
-    part false n = omega arith
-
--- what stands at a place of a list after a write
-pub set_at : {A : Type 0} (xs : List A) (i j : ℕ) (v d : A)
-    → (slice_index_or (slice_set xs i v) j d ≡ slice_index_or xs j d) ⊎ ((i ≡ j) × (slice_index_or (slice_set xs i v) j d ≡ v))
-set_at [] i j v d = inl refl
-set_at (x ∷ xs) zero zero v d = inr (refl, refl)
-set_at (x ∷ xs) zero (suc j) v d = inl refl
-set_at (x ∷ xs) (suc i) zero v d = inl refl
-set_at (x ∷ xs) (suc i) (suc j) v d =
-    elim (set_at xs i j v d) [ inl h ↦ inl h | inr h ↦ inr (ap suc h.0, h.1) ]
-
-pub set_here : {A : Type 0} (xs : List A) (i : ℕ) (v d : A) → i < length xs → slice_index_or (slice_set xs i v) i d ≡ v
-set_here [] i v d within = absurd (omega arith)
-set_here (x ∷ xs) zero v d within = refl
-set_here (x ∷ xs) (suc i) v d within = set_here xs i v d (omega arith)
-
--- The limit on depth.
+use Rattle.gql_doc.specs.declared.document.Selection.{Selection}
+use Rattle.gql_doc.specs.declared.document.SelectionSet.{SelectionSet}
+use Rattle.gql_doc.specs.Depth.{if_any}
+use Rattle.gql_admit.specs.Counted.{StaysKnown, budget, suffices, suffices_at, unless_found}
+use Rattle.gql_select.specs.Standing.{standing, standing_by, standing_of, standing_under, total}
+use Rattle.gql_select.proofs.StandingLemmas.{set_at, set_here, unless_drops, unless_has, unless_less, unless_most}
 
 pub stays_itself : (fine : List (Option ℕ)) → StaysKnown fine fine
 stays_itself fine = record { stays = λ left place h. h }
@@ -110,7 +48,8 @@ stays_put fine place few less = record {
 }
 
 -- of the number that is known and the one that is left the less is taken
-pub least_low : {A : ℕ → Type 0} (known : Option ℕ) (few left : ℕ) → MatchOption known (few ≡ left) (λ levels. (few ≤ levels) × A levels)
+pub least_low : (known : Option ℕ) (few left : ℕ)
+    → MatchOption known (few ≡ left) (λ levels. (few ≤ levels) × ((few ≡ levels) ⊎ (few ≡ left)))
     → MatchOption known (Unit {0}) (λ levels. few ≤ levels)
 least_low None few left least = tt
 least_low (Some levels) few left least = least.0
@@ -181,15 +120,21 @@ whole_counted operations fragments limit levels is = by (operations + fragments)
         = ap (λ n. n * all) (let next : limit + 2 ≡ suc levels = omega (arith, is) in next) ∙ suc-mul levels all in
         omega (arith, less, turned, more, sum)
 
--- The limit on directives.
+-- in the set that a field leads to stands what stands in its own
+pub set_found : (selections : List (Positioned Selection)) (set found : Positioned SelectionSet) → Some found ≡ if_any selections set
+    → standing found.node ≡ standing set.node
+set_found [] set found told = cc
+set_found (x ∷ selections) set found told =
+    let same : found ≡ set = cc in
+    ap (λ s. standing s.node) same
 
--- a fragment that is entered
-pub entered_counted : (fragments : List (Positioned FragmentDefinition)) (entered : List Bool) (place : ℕ)
-    (fragment : Positioned FragmentDefinition)
-    → slice_get fragments place ≡ Some fragment → place < length entered → slice_index_or entered place false ≡ false
-    → unentered fragments (slice_set entered place true) + standing_under fragment ≤ unentered fragments entered
-entered_counted fragments entered place fragment at within new =
-    unless_drops fragments (λ k. slice_index_or entered k false) (λ k. slice_index_or (slice_set entered place true) k false) place
-    fragment at new
-    (set_here entered place true false within)
-    (λ k so. elim (set_at entered place k true false) [ inl same ↦ same ∙ so | inr (is, here) ↦ here ])
+-- in the operations of a document stands what stands in the only one, or in each
+pub standing_single : (operations : DocumentOperations) (operation : Positioned OperationDefinition) → operations ≡ Single operation
+    → standing_by operations ≡ standing_of operation
+standing_single operations operation is =
+    let alone : standing_by operations ≡ standing_of operation + 0 = ap standing_by is in
+    omega (arith, alone)
+
+pub standing_many : (operations : DocumentOperations) (named : List (List ℕ × Positioned OperationDefinition)) → operations ≡ Multiple named
+    → standing_by operations ≡ total (map standing_of (values_of named))
+standing_many operations named is = ap standing_by is

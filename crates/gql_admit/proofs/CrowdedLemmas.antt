@@ -1,5 +1,6 @@
 -- The walk that looks for fields with too many directives.
-use Rattle.std.proofs.Common.{arith, rules, ◌≡◌, ℕ, zero, suc, ◌+◌, ◌-◌, ◌<◌, ◌≤◌, take, length, is_some, Bool, true, false, List, Option, Some, None, Ok, Err, slice_get, slice_set, refl, ap, sym, ◌∙◌, subst, inl, inr}
+use Rattle.std.proofs.Common.{arith, rules, ◌≡◌, ℕ, zero, suc, ◌+◌, ◌-◌, ◌<◌, ◌≤◌, take, length, is_some, Bool, true, false, cond, List, Option, Some, None, Ok, Err, slice_get, slice_set, refl, ap, sym, ◌∙◌, subst, inl, inr}
+use Rattle.std.proofs.lemmas.Bool.{le-ltb}
 use Rattle.std.proofs.lemmas.List.{take_all}
 use Rattle.std.specs.Prelude.{option_and_then, replicate}
 use Rattle.std.specs.Option.{option_map, option_or}
@@ -8,7 +9,7 @@ use Rattle.gql_base.specs.declared.pos.Pos.{Pos}
 use Rattle.gql_base.specs.declared.server_error.ServerError.{ServerError}
 use Rattle.gql_doc.specs.Depth.{Fragments, deep, deep_from, fragment_set, operation_set, operations_in, selections_of, set_beneath}
 use Rattle.gql_doc.specs.declared.document.ExecutableDocument.{ExecutableDocument}
-use Rattle.gql_doc.specs.declared.document.Field.{Field}
+use Rattle.gql_doc.specs.declared.document.Field.{Field, out-Field}
 use Rattle.gql_doc.specs.declared.document.FragmentDefinition.{FragmentDefinition}
 use Rattle.gql_doc.specs.declared.document.FragmentSpread.{FragmentSpread}
 use Rattle.gql_doc.specs.declared.document.InlineFragment.{InlineFragment}
@@ -38,6 +39,12 @@ as_spread selection spread is = rw is (search (rules, the_lemmas))
 pub as_inline : (selection : Selection) (inline : Positioned InlineFragment) → selection ≡ selections.InlineFragment inline
     → Selection-F.InlineFragment inline ≡ out-Selection selection
 as_inline selection inline is = rw is (search (rules, the_lemmas))
+
+-- what is found under a field that hasn't too many itself
+pub under_found : (limit : ℕ) (field : Positioned Field) (under : Option (Positioned Field)) → length (out-Field field.node).directives ≤ limit
+    → under ≡ option_or (crowded_here limit (Selection-F.Field field)) under
+under_found limit field under most =
+    sym (ap (λ t. option_or (cond t (Some field) None) under) (le-ltb limit (length (out-Field field.node).directives) most))
 
 module _ (fragments : Fragments) where
   -- the set of the fragment at a place nests
@@ -301,25 +308,39 @@ module _ (fragments : Fragments) where
             (sym (clean.none place left fragment marked at (fragment_nests levels place fragment at within) (fragment_nests left place
             fragment at nests))))
 
+    -- what is found in a set's selections
+    abbrev pub finds_in : ℕ → List (Positioned Selection) → Option (Positioned Field)
+    finds_in left selections =
+        first_found (λ selection. option_or (crowded_here limit (out-Selection selection.node))
+        (option_and_then (crowded_from fragments limit left) (set_beneath fragments selection))) selections
+
+    abbrev pub nest_in : ℕ → List (Positioned Selection) → Type 0
+    nest_in levels selections =
+        first_found (λ selection. option_and_then (deep_from fragments levels) (set_beneath fragments selection)) selections ≡ None
+
     -- a set, by its selections
-    pub finds_set : (set : Positioned SelectionSet) (left : ℕ) (old new : List Bool) (found : Option (Positioned Field))
+    set_walked : (set : Positioned SelectionSet) (left : ℕ) (old new : List Bool) (found : Option (Positioned Field))
         → deep_from fragments left set ≡ None
-        → ((levels : ℕ) → first_found (λ selection. option_and_then (deep_from fragments levels) (set_beneath fragments selection))
-        (selections_of set) ≡ None
-        → IsClean fragments limit (suc levels) old
-        → Finds fragments limit (suc levels) old new found
-        (first_found (λ selection. option_or (crowded_here limit (out-Selection selection.node))
-        (option_and_then (crowded_from fragments limit (left - 1)) (set_beneath fragments selection))) (selections_of set)))
+        → ((levels : ℕ) → nest_in levels (selections_of set) → IsClean fragments limit (suc levels) old
+        → Finds fragments limit (suc levels) old new found (finds_in (left - 1) (selections_of set)))
         → (levels : ℕ) → deep_from fragments levels set ≡ None → IsClean fragments limit levels old
         → Finds fragments limit levels old new found (crowded_from fragments limit left set)
-    finds_set set zero old new found nests walked levels within clean = cc
-    finds_set set (suc left) old new found nests walked zero within clean = cc
-    finds_set set (suc left) old new found nests walked (suc levels) within clean =
+    set_walked set zero old new found nests walked levels within clean = cc
+    set_walked set (suc left) old new found nests walked zero within clean = cc
+    set_walked set (suc left) old new found nests walked (suc levels) within clean =
         let less : suc left - 1 ≡ left = omega arith in
-        subst (λ n. Finds fragments limit (suc levels) old new found
-        (first_found (λ selection. option_or (crowded_here limit (out-Selection selection.node))
-        (option_and_then (crowded_from fragments limit n) (set_beneath fragments selection))) (selections_of set)))
-        less (walked levels within clean)
+        subst (λ n. Finds fragments limit (suc levels) old new found (finds_in n (selections_of set))) less (walked levels within clean)
+
+    pub finds_set : (set : Positioned SelectionSet) (selections : List (Positioned Selection)) → selections ≡ selections_of set
+        → (left : ℕ) (old new : List Bool) (found : Option (Positioned Field)) → deep_from fragments left set ≡ None
+        → ((levels : ℕ) → nest_in levels selections → IsClean fragments limit (suc levels) old
+        → Finds fragments limit (suc levels) old new found (finds_in (left - 1) selections))
+        → (levels : ℕ) → deep_from fragments levels set ≡ None → IsClean fragments limit levels old
+        → Finds fragments limit levels old new found (crowded_from fragments limit left set)
+    finds_set set selections is left old new found nests walked =
+        set_walked set left old new found nests
+        (subst (λ xs. (levels : ℕ) → nest_in levels xs → IsClean fragments limit (suc levels) old
+        → Finds fragments limit (suc levels) old new found (finds_in (left - 1) xs)) is walked)
 
 -- the check of a document, by what the walk finds in some levels that suffice
 module _ (document : ExecutableDocument) (limit levels : ℕ) (nests : NestsWithin document levels) where

@@ -1,21 +1,9 @@
 -- What a walk over a document may still look at in the fragments, by what it knows of them.
-use Rattle.std.specs.Prelude.{◌≡◌, ℕ, zero, suc, ◌+◌, Bool, true, false, List, [], ◌∷◌, Option}
-use Rattle.std.specs.Prelude.{None, Some, nat_le, slice_index_or, if◌then◌else◌}
+use Rattle.std.specs.Prelude.{◌≡◌, ℕ, zero, suc, ◌+◌, Bool, true, false, List, Option, None, Some}
+use Rattle.std.specs.Prelude.{nat_le, slice_index_or}
 use Rattle.gql_doc.specs.declared.document.FragmentDefinition.{FragmentDefinition}
 use Rattle.gql_doc.specs.declared.document.Positioned.{Positioned}
-use Rattle.gql_select.specs.Standing.{standing_under}
-
--- the selections of the fragments whose places don't pass a test
-abbrev pub standing_unless : (ℕ → Bool) → List (Positioned FragmentDefinition) → ℕ
-standing_unless test [] = 0
-standing_unless test (fragment ∷ fragments) =
-    (if test 0 then 0 else standing_under fragment)
-    + standing_unless (λ place. test (suc place)) fragments
-
--- those of the fragments that weren't entered
-abbrev pub unentered : List (Positioned FragmentDefinition) → List Bool → ℕ
-unentered fragments entered =
-    standing_unless (λ place. slice_index_or entered place false) fragments
+use Rattle.gql_select.specs.Standing.{standing_unless}
 
 -- whether a number of levels is known to suffice where so many are left
 abbrev pub suffices : Option ℕ → ℕ → Bool

@@ -10,10 +10,9 @@ ghost use Rattle.gql_doc.specs.Depth.{operation_set, selections_of, set_beneath,
 ghost use Rattle.gql_doc.specs.First.{first_in};
 ghost use Rattle.gql_select.specs.Crowded.{crowded, crowded_from, crowded_here};
 ghost use Rattle.gql_rules.specs.Nesting.{IsWithinDepth, NestsWithin};
-ghost use Rattle.gql_admit.specs.Counted.{unentered};
 ghost use Rattle.gql_admit.specs.Limits.{directives_checked};
 ghost use Rattle.gql_select.specs.Standing.{count_of, selections_in, standing, standing_among};
-ghost use Rattle.gql_select.specs.Standing.{standing_of, total};
+ghost use Rattle.gql_select.specs.Standing.{standing_of, total, unentered};
 ghost use Rattle.gql_admit.specs.WalkedFragments.{Finds, IsClean};
 
 use crate::beneath::set_beneath_field;

@@ -1,13 +1,14 @@
-use Rattle.std.proofs.Common.{Some, None, length, get_or, refl, suc, sym, ◌∙◌, option_and_then, arith}
+use Rattle.std.proofs.Common.{◌≡◌, ◌≤◌, ◌+◌, ◌-◌, ap, subst, Some, None, length, get_or, refl, suc, sym, ◌∙◌, option_and_then, arith}
 use Rattle.std.proofs.lemmas.Option.{slice_get-get_or, slice_get_read}
+use Rattle.gql_doc.specs.declared.document.InlineFragment.{out-InlineFragment}
 use Rattle.gql_doc.specs.declared.document.Positioned.{Positioned}
 use Rattle.gql_doc.specs.declared.document.Selection.{Selection}
-use Rattle.gql_doc.specs.Depth.{deep_from, set_beneath}
+use Rattle.gql_doc.specs.Depth.{deep_from, field_set, selections_of, set_beneath}
 use Rattle.gql_base.specs.Pairs.{values_of}
-use Rattle.gql_admit.specs.Counted.{budget}
-use Rattle.gql_select.specs.Standing.{count_of}
-use Rattle.gql_admit.proofs.CountedLemmas.{fragment_counted, fragment_stopped, least_low, none_found, stays_itself, stays_on, stays_put}
-use Rattle.gql_select.proofs.StandingLemmas.{left_more}
+use Rattle.gql_admit.specs.Counted.{budget, unless_found}
+use Rattle.gql_select.specs.Standing.{count_of, standing, standing_among}
+use Rattle.gql_admit.proofs.CountedLemmas.{deeper_counted, fragment_counted, fragment_stopped, least_low, none_found, set_found, stays_itself, stays_on, stays_put}
+use Rattle.gql_select.proofs.StandingLemmas.{count_field, count_inline, left_more, standing_items}
 use Rattle.gql_admit.proofs.DepthLemmas.{fine_known, fine_put, fragment_found}
 use Rattle.gql_lists.proofs.FirstLemmas.{first_here, first_more}
 use Rattle.gql_fields.proofs.PairLemmas.{value_at}
@@ -129,3 +130,39 @@ deep_fragment-returns-in-None-clause-bound g t c =
     c.fewest.result c.args.steps.now c.deep_set.new.steps (sym c.suffices.ensures ∙ c.if-suffices.false)
     (omega (arith, c.in-None.ensures.fine.long, c.requires.within)) c.fewest.ensures.left
     (least_low (get_or now place None) c.fewest.result c.args.left c.fewest.ensures.known) c.in-None.ensures.known c.in-None.ensures.bound
+
+pub deep_set-returns-clause-bound : goal.deep_set-returns-clause-bound
+deep_set-returns-clause-bound g t c =
+    let fragments = values_of c.args.fragments.now in
+    let left : suc (c.args.left - 1) ≡ c.args.left = omega arith in
+    let all : standing_among c.as_slice.result.now ≡ standing c.args.set.now.node
+    = ap standing_among c.as_slice.ensures ∙ sym (standing_items c.args.set.now.node) in
+    subst (λ n. c.deep_selections.new.steps + unless_found c.deep_selections.result (budget n fragments c.deep_selections.new.fine)
+    ≤ c.args.steps.now + (standing c.args.set.now.node + budget n fragments c.args.fine.now)) left
+    (omega (arith, c.deep_selections.ensures.bound, all))
+
+pub deep_selection-returns-in-Some-clause-bound : goal.deep_selection-returns-in-Some-clause-bound
+deep_selection-returns-in-Some-clause-bound g t c =
+    let field = c.in-Field.field in
+    let its : standing c.in-Some.set.now.node ≡ standing (field_set field).node
+    = set_found (selections_of (field_set field)) (field_set field) c.in-Some.set.now c.in-Some.ensures in
+    omega (
+      arith,
+      its,
+      c.tick.ensures,
+      count_field c.args.selection.now field c.in-Field.is,
+      deeper_counted (values_of c.args.fragments.now) c.args.fine.now c.deep_set.new.fine c.args.left c.tick.new.self c.deep_set.new.steps
+          (standing c.in-Some.set.now.node) c.deep_set.result c.deep_set.ensures.known c.deep_set.ensures.bound,
+    )
+
+pub deep_selection-returns-in-InlineFragment-clause-bound : goal.deep_selection-returns-in-InlineFragment-clause-bound
+deep_selection-returns-in-InlineFragment-clause-bound g t c =
+    let inline = c.in-InlineFragment.inline in
+    let walked = c.deep_set-in-InlineFragment in
+    omega (
+      arith,
+      c.tick.ensures,
+      count_inline c.args.selection.now inline c.in-InlineFragment.is,
+      deeper_counted (values_of c.args.fragments.now) c.args.fine.now walked.new.fine c.args.left c.tick.new.self walked.new.steps
+          (standing (out-InlineFragment inline.node).selection_set.node) walked.result walked.ensures.known walked.ensures.bound,
+    )

@@ -1,16 +1,16 @@
-use Rattle.std.proofs.Common.{◌≡◌, ◌-◌, ℕ, Some, None, false, true, length, get_or, refl, slice_get, suc, sym, subst, ap, ◌∙◌, option_and_then, arith}
+use Rattle.std.proofs.Common.{◌≡◌, ◌≤◌, Some, None, false, true, length, refl, slice_get, suc, sym, subst, ap, ◌∙◌, option_and_then, arith}
 use Rattle.std.specs.Option.{option_copied, option_map, option_or}
 use Rattle.std.proofs.lemmas.Option.{slice_get-get_or, slice_get_read}
-use Rattle.gql_base.specs.Pairs.{under, values_of}
+use Rattle.gql_base.specs.Pairs.{values_of}
+use Rattle.gql_doc.specs.declared.document.Field.{out-Field}
 use Rattle.gql_doc.specs.declared.document.Positioned.{Positioned}
 use Rattle.gql_doc.specs.declared.document.Selection.{Selection, out-Selection}
 use Rattle.gql_doc.specs.Depth.{deep_from, field_set, fragment_set, if_any, selections_of, set_beneath, set_under}
 use Rattle.gql_select.specs.Crowded.{crowded_from, crowded_here}
-use Rattle.gql_select.specs.Standing.{count_of}
+use Rattle.gql_select.specs.Standing.{count_of, standing, standing_among}
 use Rattle.gql_admit.specs.WalkedFragments.{Finds}
-use Rattle.gql_admit.proofs.CountedLemmas.{entered_counted}
-use Rattle.gql_admit.proofs.CrowdedLemmas.{as_field, as_inline, as_spread, clean_less, finds_all, finds_hit, finds_known, finds_next, finds_one, finds_same, finds_set, finds_still, finds_up, finds_within, fragment_nests}
-use Rattle.gql_select.proofs.StandingLemmas.{left_more, standing_items}
+use Rattle.gql_admit.proofs.CrowdedLemmas.{as_field, as_inline, as_spread, clean_less, finds_all, finds_hit, finds_known, finds_next, finds_same, finds_set, finds_still, finds_up, finds_within, fragment_nests, under_found}
+use Rattle.gql_select.proofs.StandingLemmas.{entered_counted, left_more, standing_items}
 use Rattle.gql_lists.proofs.FirstLemmas.{none_at, there_copied}
 use Rattle.gql_fields.proofs.PairLemmas.{value_at}
 use Rattle.gql_admit.proofs.WalkLemmas.{spread_found, spread_none}
@@ -25,17 +25,16 @@ crowded_selections-loop-selection-init g t c = record {
 
 pub crowded_selections-crowded_selection-found-requires :
     goal.crowded_selections-crowded_selection-found-requires
-crowded_selections-crowded_selection-found-requires g t c = (
-  omega (arith, c.decreases),
-  (
-    none_at
-        (λ (selection : Positioned Selection). option_and_then (deep_from c.args.fragments.now c.args.left) (set_beneath c.args.fragments.now selection))
-        c.args.selections.now c.loop-selection.selection-index c.selection-item.result c.requires.nests
-        (slice_get_read c.args.selections.now (length c.args.selections.now) c.loop-selection.selection-index c.selection-item.result refl
-        c.loop-selection-test.true c.selection-item.is),
-    c.loop-selection.invariant.long,
-  ),
-)
+crowded_selections-crowded_selection-found-requires g t c κs within =
+    let fragments = c.args.fragments.now in
+    let selections = c.args.selections.now in
+    let selection = c.selection-item.result in
+    let index = c.loop-selection.selection-index in
+    let nests : option_and_then (deep_from fragments c.args.left) (set_under fragments (out-Selection selection.node)) ≡ None
+    = none_at (λ (x : Positioned Selection). option_and_then (deep_from fragments c.args.left) (set_beneath fragments x)) selections index
+    selection c.requires.nests
+    (slice_get_read selections (length selections) index selection refl c.loop-selection-test.true c.selection-item.is) in
+    (omega (arith, c.decreases), (within, (nests, c.loop-selection.invariant.long)))
 
 pub crowded_selections-returns-then-is_some-clause-found :
     goal.crowded_selections-returns-then-is_some-clause-found
@@ -116,17 +115,13 @@ crowded_selections-returns-clause-found g t c = λ levels nests clean.
     (c.loop-selection.invariant.finds levels nests clean) (omega (arith, c.loop-selection-test.false))
 
 pub crowded_spread-crowded_fragment-requires : goal.crowded_spread-crowded_fragment-requires
-crowded_spread-crowded_fragment-requires g t c = (
-  omega (arith, c.decreases),
-  (
-    c.in-Some.ensures.within,
-    (
-      spread_none (deep_from c.args.fragments.now c.args.left) c.args.fragments.now c.as_str.result.now c.args.spread.now.node.fragment_name.node
-          (Some c.in-Some.place) c.as_str.ensures c.in-Some.ensures.place c.requires.nests,
-      c.requires.long,
-    ),
-  ),
-)
+crowded_spread-crowded_fragment-requires g t c κs within =
+    let fragments = c.args.fragments.now in
+    let place = c.in-Some.place in
+    let nests : option_and_then (deep_from fragments c.args.left) (option_map fragment_set (slice_get (values_of fragments) place)) ≡ None
+    = spread_none (deep_from fragments c.args.left) fragments c.as_str.result.now c.args.spread.now.node.fragment_name.node (Some place)
+    c.as_str.ensures c.in-Some.ensures.place c.requires.nests in
+    (omega (arith, c.decreases), (within, (c.in-Some.ensures.within, (nests, c.requires.long))))
 
 pub crowded_spread-returns-in-None-clause-found : goal.crowded_spread-returns-in-None-clause-found
 crowded_spread-returns-in-None-clause-found g t c = λ levels nests clean.
@@ -149,18 +144,37 @@ crowded_spread-returns-in-Some-clause-found g t c = λ levels nests clean.
 
 pub crowded_set-returns-clause-found : goal.crowded_set-returns-clause-found
 crowded_set-returns-clause-found g t c = λ levels nests clean.
-    finds_set c.args.fragments.now c.args.limit c.args.set.now c.args.left c.args.entered.now c.crowded_selections.new.entered
-    (option_copied c.crowded_selections.result) c.requires.nests
+    finds_set c.args.fragments.now c.args.limit c.args.set.now c.as_slice-selections.result.now c.as_slice-selections.ensures c.args.left
+    c.args.entered.now c.crowded_selections.new.entered (option_copied c.crowded_selections.result) c.requires.nests
     (λ inner below none. c.crowded_selections.ensures.found inner below none) levels nests clean
 
 pub crowded_set-returns-clause-bound : goal.crowded_set-returns-clause-bound
 crowded_set-returns-clause-bound g t c =
-    omega (arith, c.crowded_selections.ensures.bound, standing_items c.args.set.now.node)
+    let all : standing_among c.as_slice-selections.result.now ≡ standing c.args.set.now.node
+    = ap standing_among c.as_slice-selections.ensures ∙ sym (standing_items c.args.set.now.node) in
+    omega (arith, c.crowded_selections.ensures.bound, all)
+
+pub crowded_field-returns-in-Some-clause-found : goal.crowded_field-returns-in-Some-clause-found
+crowded_field-returns-in-Some-clause-found g t c = λ levels nests clean.
+    let fragments = c.args.fragments.now in
+    let field = c.args.field.now in
+    let old = c.args.entered.now in
+    let new = c.crowded_set.new.entered in
+    let found = option_copied c.crowded_set.result in
+    let leads : if_any (selections_of (field_set field)) (field_set field) ≡ Some c.in-Some.set.now = sym c.in-Some.ensures in
+    let within : deep_from fragments levels c.in-Some.set.now ≡ None
+    = subst (λ o. option_and_then (deep_from fragments levels) o ≡ None) leads nests in
+    let most : length (out-Field field.node).directives ≤ c.args.limit = omega arith in
+    finds_same fragments c.args.limit (suc levels) old new found (crowded_from fragments c.args.limit c.args.left c.in-Some.set.now) _
+    (ap (option_and_then (crowded_from fragments c.args.limit c.args.left)) (sym leads) ∙ under_found c.args.limit field _ most)
+    (finds_up fragments c.args.limit levels (suc levels) old new found _ (omega arith) clean
+    (c.crowded_set.ensures.found levels within
+    (clean_less fragments c.args.limit levels (suc levels) old (omega arith) clean)))
 
 pub crowded_selection-returns-in-Field-clause-found : goal.crowded_selection-returns-in-Field-clause-found
 crowded_selection-returns-in-Field-clause-found g t c = λ levels nests clean.
     let fragments = c.args.fragments.now in
-    let is = as_field c.args.selection.now c.in-Field.field.now c.in-Field.is in
+    let is = as_field c.args.selection.now c.in-Field.field c.in-Field.is in
     subst (λ o. Finds fragments c.args.limit (suc levels) c.args.entered.now c.crowded_field.new.entered (option_copied
     c.crowded_field.result)
     (option_or (crowded_here c.args.limit o) (option_and_then (crowded_from fragments c.args.limit c.args.left) (set_under fragments o))))
@@ -171,7 +185,7 @@ crowded_selection-returns-in-Field-clause-found g t c = λ levels nests clean.
 pub crowded_selection-returns-in-FragmentSpread-clause-found : goal.crowded_selection-returns-in-FragmentSpread-clause-found
 crowded_selection-returns-in-FragmentSpread-clause-found g t c = λ levels nests clean.
     let fragments = c.args.fragments.now in
-    let is = as_spread c.args.selection.now c.in-FragmentSpread.spread.now c.in-FragmentSpread.is in
+    let is = as_spread c.args.selection.now c.in-FragmentSpread.spread c.in-FragmentSpread.is in
     subst (λ o. Finds fragments c.args.limit (suc levels) c.args.entered.now c.crowded_spread.new.entered (option_copied
     c.crowded_spread.result)
     (option_or (crowded_here c.args.limit o) (option_and_then (crowded_from fragments c.args.limit c.args.left) (set_under fragments o))))
@@ -182,7 +196,7 @@ crowded_selection-returns-in-FragmentSpread-clause-found g t c = λ levels nests
 pub crowded_selection-returns-in-InlineFragment-clause-found : goal.crowded_selection-returns-in-InlineFragment-clause-found
 crowded_selection-returns-in-InlineFragment-clause-found g t c = λ levels nests clean.
     let fragments = c.args.fragments.now in
-    let is = as_inline c.args.selection.now c.in-InlineFragment.inline.now c.in-InlineFragment.is in
+    let is = as_inline c.args.selection.now c.in-InlineFragment.inline c.in-InlineFragment.is in
     subst (λ o. Finds fragments c.args.limit (suc levels) c.args.entered.now c.crowded_set.new.entered (option_copied c.crowded_set.result)
     (option_or (crowded_here c.args.limit o) (option_and_then (crowded_from fragments c.args.limit c.args.left) (set_under fragments o))))
     is

@@ -6,8 +6,7 @@ use Rattle.gql_doc.specs.declared.document.Selection.{out-Selection}
 use Rattle.gql_doc.specs.Depth.{deep_from, set_beneath}
 use Rattle.gql_doc.specs.First.{first_in}
 use Rattle.gql_select.specs.Crowded.{crowded_from, crowded_here}
-use Rattle.gql_admit.specs.Counted.{unentered}
-use Rattle.gql_select.specs.Standing.{standing_among}
+use Rattle.gql_select.specs.Standing.{standing_among, unentered}
 use Rattle.gql_admit.specs.WalkedFragments.{Finds, IsClean}
 use Rattle.gql_admit.proofs.directives.+crowded.Given as goal
 

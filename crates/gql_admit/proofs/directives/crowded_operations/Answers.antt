@@ -1,4 +1,4 @@
-use Rattle.std.proofs.Common.{◌≡◌, ℕ, List, Some, None, length, refl, slice_get, sym, arith}
+use Rattle.std.proofs.Common.{◌≡◌, ℕ, List, Some, None, refl, slice_get, arith}
 use Rattle.std.proofs.Math.ListN.{length-map}
 use Rattle.std.specs.Option.{option_copied}
 use Rattle.gql_base.specs.Pairs.{values_of}
@@ -21,12 +21,13 @@ loop-place-init g c = record {
 }
 
 pub crowded_set-found-requires : goal.crowded_set-found-requires
-crowded_set-found-requires g c = (
-  none_at (λ (operation : Positioned OperationDefinition). deep_from c.args.fragments.now c.args.levels (operation_set operation))
+crowded_set-found-requires g c = record {
+  nests =
+      none_at (λ (operation : Positioned OperationDefinition). deep_from c.args.fragments.now c.args.levels (operation_set operation))
       (values_of c.args.operations.now) c.loop-place.place c.at.result.1.now c.requires.nests
-      (value_at c.args.operations.now c.loop-place.place _ _ c.at.ensures),
-  c.loop-place.invariant.long,
-)
+      (value_at c.args.operations.now c.loop-place.place _ _ c.at.ensures);
+  long = c.loop-place.invariant.long;
+}
 
 pub returns-then-is_some-clause-found : goal.returns-then-is_some-clause-found
 returns-then-is_some-clause-found g c =

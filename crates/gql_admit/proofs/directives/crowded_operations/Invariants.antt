@@ -3,8 +3,7 @@ use Rattle.gql_base.specs.Pairs.{values_of}
 use Rattle.gql_doc.specs.Depth.{operation_set}
 use Rattle.gql_doc.specs.First.{first_in}
 use Rattle.gql_select.specs.Crowded.{crowded_from}
-use Rattle.gql_admit.specs.Counted.{unentered}
-use Rattle.gql_select.specs.Standing.{standing_of, total}
+use Rattle.gql_select.specs.Standing.{standing_of, total, unentered}
 use Rattle.gql_admit.specs.WalkedFragments.{Finds}
 use Rattle.gql_admit.proofs.directives.crowded_operations.Given as goal
 
