@@ -40,7 +40,7 @@ const MERGED: [(&str, &str); 3] = [
     ("{ o o { b } o { a } }", "b a "),
 ];
 
-fn keys_of(alloc: Global, fields: &[&Positioned<Field>]) -> Made<String> {
+pub(crate) fn keys_of(alloc: Global, fields: &[&Positioned<Field>]) -> Made<String> {
     let mut keys = String::new(alloc);
     for field in fields {
         keys.push_str(field.node.response_key().node.as_str())?;
@@ -50,7 +50,7 @@ fn keys_of(alloc: Global, fields: &[&Positioned<Field>]) -> Made<String> {
 }
 
 /// The selections of a document's only operation.
-fn selections_of(document: &ExecutableDocument) -> &[Positioned<Selection>] {
+pub(crate) fn selections_of(document: &ExecutableDocument) -> &[Positioned<Selection>] {
     match &document.operations {
         DocumentOperations::Single(operation) => {
             operation.node.selection_set.node.items.as_slice()

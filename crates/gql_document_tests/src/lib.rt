@@ -16,6 +16,8 @@ mod document_tests;
 #[cfg(test)]
 mod example_tests;
 #[cfg(test)]
+mod once_tests;
+#[cfg(test)]
 mod sample;
 mod shared;
 #[cfg(test)]

@@ -66,6 +66,26 @@ const OBJECTS: [(&str, &str); 6] = [
     ),
 ];
 
+/// Documents that admission refuses, since they have fields that their objects don't declare: these
+/// are no members, whatever stands under them, and the others are answered as without them.
+const UNDECLARED: [(&str, &str); 6] = [
+    ("{ lost red gone }", r#"{"red":"RED"}"#),
+    ("{ x: lost x: red }", r#"{"x":"RED"}"#),
+    (
+        "{ lost { id } rows { lost { id } id } }",
+        r#"{"rows":[{"id":1},{"id":2}]}"#,
+    ),
+    (
+        "{ any { x ...F } } fragment F on Row { x id }",
+        r#"{"any":[{"id":1},{"x":2},null]}"#,
+    ),
+    (
+        "{ rows { ...F ...F } ... { rows { ...F } } } fragment F on Row { lost id }",
+        r#"{"rows":[{"id":1},{"id":2}]}"#,
+    ),
+    ("{ lost }", "{}"),
+];
+
 /// Answers with errors beside them, and such that fail under lists and objects.
 const ERRORS: [(&str, &str); 4] = [
     (
@@ -98,7 +118,7 @@ const MUTATIONS: [(&str, &str); 4] = [
     ),
     (
         "mutation { __typename lost rows { id } }",
-        r#"1{"__typename":"Query","lost":null,"rows":[{"id":1},{"id":2}]}"#,
+        r#"1{"__typename":"Query","rows":[{"id":1},{"id":2}]}"#,
     ),
     ("mutation { __typename }", r#"0{"__typename":"Query"}"#),
 ];
@@ -146,6 +166,12 @@ fn objects_and_lists_have_their_members(rt: HostRuntime) -> Result<(), Fail> {
 }
 
 #[test]
+fn undeclared_fields_are_no_members(rt: HostRuntime) -> Result<(), Fail> {
+    assert_eq!(rt; first_wrong(rt.alloc(), &UNDECLARED)?, None);
+    Ok(())
+}
+
+#[test]
 fn errors_have_their_paths(rt: HostRuntime) -> Result<(), Fail> {
     assert_eq!(rt; first_wrong(rt.alloc(), &ERRORS)?, None);
     Ok(())
@@ -175,10 +201,11 @@ fn apart_the_first_tree_stays(rt: HostRuntime) -> Result<(), Fail> {
 }
 
 /// Queries and mutations, and how many resolvers apart execution starts.
-const STARTS: [(&str, usize); 3] = [
+const STARTS: [(&str, usize); 4] = [
     ("{ one { id } one { id name } }", 5),
     ("{ rows { id } rows { id name } }", 8),
     ("mutation { one { id } red one { id name } }", 5),
+    ("{ lost red lost { id } }", 1),
 ];
 
 /// How many resolvers a query starts by apart execution.

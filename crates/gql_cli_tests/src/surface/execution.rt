@@ -1,13 +1,16 @@
 //! What users name of schemas, resolvers, admission, execution and the program.
 pub use gql_admit::{
-    Chosen, Site, check_depth, check_directives, check_rules, choose_operation, keep, prepare,
+    Chosen, Site, check_depth, check_depth_counted, check_directives, check_directives_counted,
+    check_rules, choose_operation, keep, prepare,
 };
 pub use gql_cli::{
     Bench, Command, EventForm, Failed, ListTurns, MemorySink, MemorySource, RecordEntry, Rule,
     SessionForm, Sink, SinkFault, Source, StdSink, StdSource, SureSink, SureSource, Table,
     TableMaker, Tables, bench_of, run, run_alone,
 };
-pub use gql_engine::{Place, Scene, Tree, faults, header_ops, join, raise, run_apart, run_merged};
+pub use gql_engine::{
+    Place, Scene, Tree, collect_counted, faults, header_ops, join, raise, run_apart, run_merged,
+};
 pub use gql_exec::{
     DynamicRequest, DynamicRequestExt, Ready, Schema, SchemaBuilder, SchemaBuilderExt,
 };
