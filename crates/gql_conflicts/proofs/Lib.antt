@@ -1,10 +1,12 @@
 mod BelowLemmas
 pub mod ClassLemmas
+mod CleanLemmas
 pub mod EachLemmas
 mod FittingLemmas
+mod GroupLemmas
 mod ListedLemmas
 mod MarkLemmas
-mod GroupLemmas
+mod MergedLemmas
 mod NestedLemmas
 mod Rows
 mod SameFieldLemmas

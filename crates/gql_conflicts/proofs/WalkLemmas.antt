@@ -9,19 +9,19 @@ use Rattle.std.specs.Str.{bytes_eq}
 use Rattle.gql_base.specs.Names.{AreDistinct, place_of}
 use Rattle.gql_base.specs.Pairs.{HasDistinctNames, names_of, under}
 use Rattle.gql_base.proofs.NamesLemmas.{place_front, place_here}
+use Rattle.gql_lists.proofs.SliceLemmas.{map_length}
 use Rattle.gql_doc.specs.declared.document.Field.{Field}
 use Rattle.gql_doc.specs.declared.document.Positioned.{Positioned}
 use Rattle.gql_select.specs.Alike.{alike, name_of}
 use Rattle.gql_select.specs.Collected.{Setting, collect_within, own_selections}
 use Rattle.gql_select.specs.Conflicts.{first_differing}
 use Rattle.gql_select.specs.Documents.{reading, with_others}
-use Rattle.gql_select.specs.Once.{nothing, once_within}
 use Rattle.gql_select.proofs.DocumentLemmas.{set_of_both}
 use Rattle.gql_conflicts.specs.Classes.{key_at}
-use Rattle.gql_conflicts.specs.Reader.{fields_by, setting_by}
+use Rattle.gql_conflicts.specs.Reader.{setting_by}
 use Rattle.gql_select.specs.Behind.{all_behind}
 use Rattle.gql_conflicts.specs.DocumentConflicts.{told}
-use Rattle.gql_conflicts.specs.Groups.{AreGroups, Grown, fields_tell, groups_tell, told_of, united}
+use Rattle.gql_conflicts.specs.Groups.{AreGroups, Grown, GroupsOf, fields_tell, groups_tell, told_of, united}
 use Rattle.gql_conflicts.specs.Walk.{among_tells, beneath_tells, objects_at, set_tells}
 use Rattle.gql_conflicts.specs.declared.conflict.Conflict.{Conflict}
 use Rattle.gql_conflicts.specs.declared.group.Group.{Group}
@@ -56,6 +56,13 @@ names_differ : {T : Type 0} (ps : List (List ℕ × T)) → HasDistinctNames ps 
 names_differ [] distinct = tt
 names_differ (p ∷ ps) distinct = (no_place p.0 ps distinct.0, names_differ ps distinct.1)
 
+-- the second parts of pairs
+seconds : {A B : Type 0} (ks : List A) (vs : List B) → length vs ≡ length ks → map (λ (p : A × B). p.1) (zip ks vs) ≡ vs
+seconds [] [] long = refl
+seconds [] (v ∷ vs) long = absurd (omega (arith, long))
+seconds (k ∷ ks) [] long = absurd (omega (arith, long))
+seconds (k ∷ ks) (v ∷ vs) long = ap (λ xs. v ∷ xs) (seconds ks vs (omega (arith, long)))
+
 module _ (setting : Setting) (fields : List (Positioned Field)) (beneath : Positioned Field → List Conflict) where
   each_tells : (names : List (List ℕ)) (groups : List Group) → length groups ≡ length names
       → ((i : ℕ) (key : List ℕ) (group : Group) → slice_get names i ≡ Some key → slice_get groups i ≡ Some group
@@ -69,13 +76,23 @@ module _ (setting : Setting) (fields : List (Positioned Field)) (beneath : Posit
       λ i. (each 0 name group refl refl i ++ beneath (united group)) ++ rest i
 
   -- the groups of fields tell what the fields tell
-  pub groups_told : (keys : List (List ℕ × Unit {0})) (groups : List Group) → HasDistinctNames keys → AreGroups setting keys groups fields
+  groups_told : (keys : List (List ℕ × Unit {0})) (groups : List Group) → HasDistinctNames keys → AreGroups setting keys groups fields
       → groups_tell beneath groups ≡ fields_tell setting beneath fields
   groups_told keys groups distinct are =
       each_tells (names_of keys) groups (are.paired ∙ sym (names_long keys))
       (λ i key group at there.
       are.unlike_is key i group (place_here key (names_of keys) i (place_front (names_of keys) i key (names_differ keys distinct) at) at) there)
       ∙ ap (flat_map (λ m. first_differing (reading setting) told m fields ++ beneath m.1)) are.united_are
+
+-- and stand for them
+pub groups_of : (setting : Setting) (fields : List (Positioned Field)) (keys : List (List ℕ × Unit {0})) (groups : List Group) → HasDistinctNames keys
+    → AreGroups setting keys groups fields → GroupsOf setting groups fields
+groups_of setting fields keys groups distinct are = record {
+  united_are =
+      sym (seconds (names_of keys) (map united groups) (map_length united groups ∙ are.paired ∙ sym (names_long keys)))
+      ∙ ap (map (λ (m : List ℕ × Positioned Field). m.1)) are.united_are;
+  tell = λ beneath. groups_told setting fields beneath keys groups distinct are;
+}
 
 -- another occurrence joins the group of its key
 pub grown_found : {X E : Type 0} (r : Result X E) (keys : List (List ℕ × Unit {0})) (groups : List Group) (field : Bor (Positioned Field)) (p : ℕ) (old new : Group)
@@ -104,21 +121,13 @@ pub none_passed : (first : Positioned Field) (more : List (Bor (Positioned Field
     → own_selections (with_others first (all_behind more)) ≡ []
 none_passed first more i before over = subst (λ xs. own_selections (with_others first (all_behind xs)) ≡ []) (take_all i more over) before
 
-none_within : (setting : Setting) (left : ℕ) (object : List ℕ) → collect_within setting left object [] ≡ []
-none_within setting zero object = refl
-none_within setting (suc left) object = refl
-
-none_entered : (setting : Setting) (left : ℕ) (object : List ℕ) → (once_within setting left object nothing []).fields ≡ []
-none_entered setting zero object = refl
-none_entered setting (suc left) object = refl
-
-none_collected : (once : Bool) (setting : Setting) (object : List ℕ) → fields_by once setting object [] ≡ []
-none_collected true setting object = none_entered setting setting.levels object
-none_collected false setting object = none_within setting setting.levels object
+pub none_collected : (setting : Setting) (left : ℕ) (object : List ℕ) → collect_within setting left object [] ≡ []
+none_collected setting zero object = refl
+none_collected setting (suc left) object = refl
 
 none_told : (reader : Reader) (left : ℕ) (object : List ℕ) → set_tells reader left [] object ≡ []
 none_told reader zero object = refl
-none_told reader (suc left) object = ap (among_tells reader left object) (none_collected reader.once (setting_by reader) object)
+none_told reader (suc left) object = ap (among_tells reader left object) (none_collected (setting_by reader) (setting_by reader).levels object)
 
 -- under a field without a set is nothing
 pub nothing_beneath : (reader : Reader) (left : ℕ) (object : List ℕ) (field : Positioned Field) → own_selections field ≡ [] → beneath_tells reader left object field ≡ []

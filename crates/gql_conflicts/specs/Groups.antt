@@ -67,3 +67,11 @@ group_tells beneath group = told_of group.unlike ++ beneath (united group)
 
 abbrev pub groups_tell : (Positioned Field → List Conflict) → List Group → List Conflict
 groups_tell beneath groups = flat_map (group_tells beneath) groups
+
+-- groups have one field for each key of some fields, and tell what the fields tell
+pub record GroupsOf (setting : Setting) (groups : List Group) (fields : List (Positioned Field))
+    : Type 0 where
+  pub united_are : map united groups
+      ≡ map (λ (m : List ℕ × Positioned Field). m.1) (agreeing (reading setting) fields)
+  pub tell : (beneath : Positioned Field → List Conflict)
+      → groups_tell beneath groups ≡ fields_tell setting beneath fields

@@ -1,11 +1,15 @@
 pub mod Classes
+pub mod CleanPairs
 pub mod DocumentConflicts
 pub mod Groups
 pub mod Marks
+pub mod Merged
 pub mod Nested
+pub mod Nesting
 pub mod Proposals
 pub mod Reader
 pub mod Rooted
 pub mod Seen
+pub mod Sets
 pub mod Walk
 pub mod Walked

@@ -4,10 +4,7 @@ use Rattle.gql_doc.specs.declared.document.Field.{Field}
 use Rattle.gql_doc.specs.declared.document.Positioned.{Positioned}
 use Rattle.gql_doc.specs.declared.document.Selection.{Selection}
 use Rattle.gql_select.specs.Collected.{Setting, collect}
-use Rattle.gql_select.specs.Documents.{reading}
-use Rattle.gql_select.specs.Fewer.{reading_over}
 use Rattle.gql_select.specs.Once.{collect_once}
-use Rattle.gql_select.specs.Reading.{Reading}
 use Rattle.gql_conflicts.specs.Rooted.{rooted_of, setting_of}
 use Rattle.gql_conflicts.specs.declared.reader.Reader.{Reader}
 
@@ -22,7 +19,3 @@ abbrev pub fields_by : Bool → Setting → List ℕ → List (Positioned Select
     → List (Positioned Field)
 fields_by true setting object selections = collect_once setting object selections
 fields_by false setting object selections = collect setting object selections
-
--- how sets are read so
-abbrev pub reading_by : Bool → Setting → Reading (List ℕ) (Positioned Field) (Positioned Selection)
-reading_by once setting = reading_over (reading setting) (fields_by once setting)

@@ -71,6 +71,16 @@ objects_beneath rooted object name =
     if is_entities rooted object name then possible rooted.table (codes "_Entity") else objects_of
     rooted.table (field rooted.table object name)
 
+-- the innermost type of such a field, where it is known
+abbrev pub type_of : Option Declared → Option (List ℕ)
+type_of None = None
+type_of (Some declared) = Some (innermost declared.ty)
+
+abbrev pub type_beneath : Rooted → List ℕ → List ℕ → Option (List ℕ)
+type_beneath rooted object name =
+    if is_entities rooted object name then Some (codes "_Entity") else type_of
+    (field rooted.table object name)
+
 -- what the sets of a document are read by, where they nest within so many levels
 abbrev pub setting_of : Rooted → Fragments → ℕ → Setting
 setting_of rooted fragments levels = record {

@@ -1,10 +1,11 @@
-//! What stands under a field: the objects that are possible there, and the fields of each in the
-//! sets of all occurrences of the field's key.
+//! What stands under a field: the type of the objects there, and the fields of each in the sets of
+//! all occurrences of the field's key.
 ghost use Rattle.std.specs.Prelude.{◌≡◌, [], IfOk, IsTrue};
+ghost use Rattle.std.specs.Option.{option_copied};
 ghost use Rattle.gql_select.specs.Collected.{own_selections};
 ghost use Rattle.gql_select.specs.Behind.{all_behind};
 ghost use Rattle.gql_conflicts.specs.Groups.{united};
-ghost use Rattle.gql_conflicts.specs.Rooted.{is_entities, objects_beneath, rooted_of};
+ghost use Rattle.gql_conflicts.specs.Rooted.{is_entities, rooted_of, type_beneath};
 ghost use Rattle.gql_conflicts.specs.Walk.{collected};
 
 use crate::group::Group;
@@ -15,25 +16,22 @@ use gql_collect::{
     collect_fields, collect_merged_fields, collect_once_fields, collect_once_merged_fields,
 };
 use gql_doc::{Field, Positioned, Selection};
-use gql_schema::NameSet;
 use std::alloc::Global;
 
-/// The objects that are possible under the field of a name on an object.
-pub(crate) fn objects_beneath(
-    alloc: Global,
-    rooted: &RootedTypes<'_>,
+/// The innermost type of the field of a name on an object, where the field is known.
+pub(crate) fn type_beneath<'a>(
+    rooted: &RootedTypes<'a>,
     object: &str,
     name: &str,
-) -> Made<NameSet>
-    ensures { IfOk result (λ objects. objects
-        ≡ objects_beneath (rooted_of rooted.now) object.now name.now) }
+) -> Option<&'a str>
+    ensures { option_copied result ≡ type_beneath (rooted_of rooted.entry.now) object.now name.now }
 {
     if is_entities(rooted, object, name) {
-        return rooted.types.possible(alloc, "_Entity");
+        return Some("_Entity");
     }
     match rooted.types.field(object, name) {
-        None => Ok(NameSet::new(alloc)),
-        Some(declared) => rooted.types.possible(alloc, declared.ty.type_name()),
+        None => None,
+        Some(declared) => Some(declared.ty.type_name()),
     }
 }
 
@@ -99,7 +97,7 @@ pub(crate) fn has_no_set(group: &Group<'_>) -> bool
 }
 
 /// True only where a field has no set.
-fn is_leaf(field: &Positioned<Field>) -> bool
+pub(crate) fn is_leaf(field: &Positioned<Field>) -> bool
     ensures { IsTrue result → own_selections field.now ≡ [] }
 {
     field.node.selection_set.node.items.is_empty()

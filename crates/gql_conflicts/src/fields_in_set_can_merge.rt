@@ -1,21 +1,24 @@
 //! FieldsInSetCanMerge (GraphQL, October 2021, section 5.3.2) for each set of a document: all
 //! conflicts.
-ghost use Rattle.std.specs.Prelude.{◌≡◌, [], true, IfOk, OnOk};
+ghost use Rattle.std.specs.Prelude.{◌≡◌, [], true, IfOk};
 ghost use Rattle.std.specs.List.{flat_map};
 ghost use Rattle.gql_base.specs.Pairs.{values_of};
 ghost use Rattle.gql_doc.specs.Depth.{operations_in};
 ghost use Rattle.gql_conflicts.specs.DocumentConflicts.{Lists};
 ghost use Rattle.gql_conflicts.specs.Nested.{AreNested};
+ghost use Rattle.gql_conflicts.specs.Nesting.{OperationNests, OperationsNest};
 ghost use Rattle.gql_conflicts.specs.Rooted.{rooted_of};
 ghost use Rattle.gql_conflicts.specs.Walk.{operation_tells};
 ghost use Rattle.gql_conflicts.specs.Walked.{Walks};
 
+use crate::clean_pairs::CleanPairs;
 use crate::coarse::is_clear;
 use crate::conflict::Conflict;
 use crate::reader::Reader;
 use crate::rooted_types::RootedTypes;
 use crate::roots::root_of;
 use crate::seen::Seen;
+use crate::sets::sets_of;
 use crate::walk::add_in_set;
 use crate::walked::Walked;
 use gql_base::{Items, Made, Pairs};
@@ -78,17 +81,19 @@ fn walk_document<'a>(
     requires { once ≡ true → AreNested doc.now levels }
     ensures { IfOk result (Lists (rooted_of rooted.entry.now) doc.entry.now levels) }
 {
-    let fragments = &doc.fragments;
+    let sets = sets_of(alloc, doc)?;
     let reader = Reader {
         rooted,
-        fragments,
+        fragments: &doc.fragments,
+        sets,
         levels,
         once,
     };
     let mut walked = nothing_walked(alloc);
     add_operations(alloc, &reader, &doc.operations, &mut walked)?;
-    let Walked { found, seen } = walked;
+    let Walked { found, seen, pairs } = walked;
     drop(seen);
+    drop(pairs);
     Ok(found)
 }
 
@@ -96,22 +101,25 @@ fn walk_document<'a>(
 fn nothing_walked<'a>(alloc: Global) -> Walked<'a>
     ensures found { result.found ≡ [] }
     ensures seen { result.seen.visits.items ≡ [] }
+    ensures pairs { result.pairs.pairs.items ≡ [] }
 {
     let found = Items::new(alloc);
     let seen = Seen::new(alloc);
-    Walked { found, seen }
+    let pairs = CleanPairs::new(alloc);
+    Walked { found, seen, pairs }
 }
 
-/// Tells the conflicts of all operations.
+/// Tells the conflicts of all operations. True exactly where there are none.
 fn add_operations<'a>(
     alloc: Global,
     reader: &Reader<'a>,
     operations: &'a DocumentOperations,
     walked: &mut Walked<'a>,
-) -> Made<()>
-    ensures { OnOk result (Walks reader.entry.now
+) -> Made<bool>
+    ensures { IfOk result (λ clean. OperationsNest reader.entry.now
+        (operations_in operations.entry.now) → Walks reader.entry.now
         (flat_map (operation_tells reader.entry.now) (operations_in operations.entry.now))
-        walked.old walked.new) }
+        clean walked.old walked.new) }
 {
     match operations {
         DocumentOperations::Single(operation) => add_operation(alloc, reader, operation, walked),
@@ -124,16 +132,18 @@ fn add_several<'a>(
     reader: &Reader<'a>,
     operations: &'a Pairs<Positioned<OperationDefinition>>,
     walked: &mut Walked<'a>,
-) -> Made<()>
-    ensures { OnOk result (Walks reader.entry.now
+) -> Made<bool>
+    ensures { IfOk result (λ clean. OperationsNest reader.entry.now
+        (values_of operations.entry.now) → Walks reader.entry.now
         (flat_map (operation_tells reader.entry.now) (values_of operations.entry.now))
-        walked.old walked.new) }
+        clean walked.old walked.new) }
 {
+    let mut clean = true;
     for place in 0..operations.len() {
         let (_, operation) = operations.at(place);
-        add_operation(alloc, reader, operation, walked)?;
+        clean &= add_operation(alloc, reader, operation, walked)?;
     }
-    Ok(())
+    Ok(clean)
 }
 
 /// Tells the conflicts of an operation, where it has a root.
@@ -142,12 +152,13 @@ fn add_operation<'a>(
     reader: &Reader<'a>,
     operation: &'a Positioned<OperationDefinition>,
     walked: &mut Walked<'a>,
-) -> Made<()>
-    ensures { OnOk result (Walks reader.entry.now
-        (operation_tells reader.entry.now operation.entry.now) walked.old walked.new) }
+) -> Made<bool>
+    ensures { IfOk result (λ clean. OperationNests reader.entry.now operation.entry.now
+        → Walks reader.entry.now (operation_tells reader.entry.now operation.entry.now)
+        clean walked.old walked.new) }
 {
     match root_of(reader.rooted, operation.node.ty) {
-        None => Ok(()),
+        None => Ok(true),
         Some(root) => {
             let selections = operation.node.selection_set.node.items.as_slice();
             add_in_set(alloc, reader, reader.levels, root, selections, walked)

@@ -5,8 +5,7 @@ ghost use Rattle.gql_doc.specs.declared.document.Positioned.{Positioned as Place
 ghost use Rattle.gql_select.specs.Alike.{alike};
 ghost use Rattle.gql_select.specs.Collected.{Setting};
 ghost use Rattle.gql_select.specs.Behind.{all_behind};
-ghost use Rattle.gql_conflicts.specs.Groups.{AreGroups, Grown, fields_tell, groups_tell};
-ghost use Rattle.gql_conflicts.specs.declared.conflict.Conflict.{Conflict as Told};
+ghost use Rattle.gql_conflicts.specs.Groups.{AreGroups, Grown, GroupsOf};
 
 use crate::asked::Asked;
 use crate::group::Group;
@@ -14,13 +13,13 @@ use gql_base::{Copied, Made, Pairs};
 use gql_doc::{Field, Positioned};
 use std::alloc::Global;
 
-/// The groups of fields of one object. They tell what the fields tell.
+/// The groups of fields of one object, one for each key. They tell what the fields tell.
 pub(crate) fn group_fields<'a>(
     alloc: Global,
     fields: &[&'a Positioned<Field>],
 ) -> Made<Vec<Group<'a>>>
-    ensures { (setting : Setting) (beneath : Placed Occurrence → List Told) → IfOk result (λ groups.
-        groups_tell beneath groups.items ≡ fields_tell setting beneath (all_behind fields.entry.now)) }
+    ensures { (setting : Setting) → IfOk result (λ groups.
+        GroupsOf setting groups.items (all_behind fields.entry.now)) }
 {
     let mut keys = Pairs::new(alloc);
     let mut groups = Vec::new(alloc);

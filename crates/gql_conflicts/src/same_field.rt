@@ -1,7 +1,6 @@
-//! Which fields of a document are one and the same. Places are compared first, so that fields of
+//! Which sets of a document are one and the same. Places are compared first, so that sets of
 //! different places are told apart at once.
 ghost use Rattle.std.specs.Prelude.{◌≡◌, IsTrue};
-ghost use Rattle.gql_select.specs.Behind.{all_behind};
 
 use gql_base::{Items, Name, Pos};
 use gql_doc::{
@@ -9,24 +8,9 @@ use gql_doc::{
 };
 use gql_select::same_value;
 
-/// True only where both lists hold the same fields.
-pub(crate) fn same_fields(one: &[&Positioned<Field>], other: &[&Positioned<Field>]) -> bool
-    ensures { IsTrue result → all_behind one.now ≡ all_behind other.now }
-{
-    if one.len() != other.len() {
-        return false;
-    }
-    for place in 0..one.len() {
-        if !same_field(one[place], other[place]) {
-            return false;
-        }
-    }
-    true
-}
-
 /// True only where both fields are the same, with their places and all under them.
 #[cycle(same)]
-pub(crate) fn same_field(one: &Positioned<Field>, other: &Positioned<Field>) -> bool
+fn same_field(one: &Positioned<Field>, other: &Positioned<Field>) -> bool
     ensures { IsTrue result → one.now ≡ other.now }
 {
     same_pos(&one.pos, &other.pos) && same_parts(&one.node, &other.node)
@@ -52,8 +36,9 @@ fn same_parts(one: &Field, other: &Field) -> bool
     same_set(&one.selection_set, &other.selection_set)
 }
 
+/// True only where both sets are the same, with their places and all in them.
 #[cycle(same)]
-fn same_set(one: &Positioned<SelectionSet>, other: &Positioned<SelectionSet>) -> bool
+pub(crate) fn same_set(one: &Positioned<SelectionSet>, other: &Positioned<SelectionSet>) -> bool
     ensures { IsTrue result → one.now ≡ other.now }
 {
     same_pos(&one.pos, &other.pos)

@@ -1,13 +1,13 @@
-//! What a walk has been through: lists of fields of objects. A list is looked up by a mark, and
-//! then compared with each list of its mark.
-ghost use Rattle.std.specs.Prelude.{◌≡◌, [], IsTrue, OnOk};
-ghost use Rattle.gql_select.specs.Behind.{all_behind};
-ghost use Rattle.gql_conflicts.specs.Seen.{HasSeen, IsVisit, OnlyAdds};
+//! What a walk has been through: merged sets. One is looked up by a mark, and then compared with
+//! each of its mark.
+ghost use Rattle.std.specs.Prelude.{[], IsTrue, OnOk, ◌≡◌};
+ghost use Rattle.std.specs.Option.{IfSome};
+ghost use Rattle.gql_conflicts.specs.Merged.{IsLike};
+ghost use Rattle.gql_conflicts.specs.Seen.{HasSeen, OnlyAdds};
 
-use crate::same_field::same_fields;
+use crate::merged::Merged;
 use crate::visit::Visit;
-use gql_base::{Made, Text};
-use gql_doc::{Field, Positioned};
+use gql_base::Made;
 use std::alloc::Global;
 use std::collections::BTreeMap;
 
@@ -29,89 +29,69 @@ impl<'a> Seen<'a> {
         }
     }
 
-    /// True only where a list of fields of an object was walked through, with so many levels left.
-    pub(crate) fn has(&self, left: usize, object: &str, fields: &Vec<&Positioned<Field>>) -> bool
-        ensures { IsTrue result → HasSeen self.now.visits.items left object.now
-            (all_behind fields.now.items) }
+    /// Whether a merged set told nothing, if it was walked through.
+    pub(crate) fn find(&self, merged: &Merged<'_>) -> Option<bool>
+        ensures { IfSome result (HasSeen self.now.visits.items merged.now) }
     {
         let visits = self.visits.as_slice();
-        match self.latest.get(&mark_of(left, object, fields)) {
-            None => false,
-            Some(latest) => is_among(visits, *latest, left, object, fields),
+        match self.latest.get(&mark_of(merged)) {
+            None => None,
+            Some(latest) => found_from(visits, *latest, merged),
         }
     }
 
     /// Adds a visit.
-    pub(crate) fn add(
-        &mut self,
-        alloc: Global,
-        left: usize,
-        object: &str,
-        fields: Vec<&'a Positioned<Field>>,
-    ) -> Made<()>
-        ensures { OnOk result (OnlyAdds left object.now (all_behind fields.entry.items)
-            self.old.visits.items self.new.visits.items) }
+    pub(crate) fn add(&mut self, merged: Merged<'a>, clean: bool) -> Made<()>
+        ensures { OnOk result (OnlyAdds merged.entry clean self.old.visits.items
+            self.new.visits.items) }
     {
-        let mark = mark_of(left, object, &fields);
-        let before = self.latest.insert(mark, self.visits.len())?;
-        let named = Text::new(alloc, object)?;
+        let before = self.latest.insert(mark_of(&merged), self.visits.len())?;
         self.visits.push(Visit {
-            left,
-            object: named,
-            fields,
+            merged,
+            clean,
             before,
         })?;
         Ok(())
     }
 }
 
-/// True only where a visit is that of a list of fields of an object, with so many levels left. The
-/// visits from a place on are looked at, each before the one that names it.
-fn is_among(
-    visits: &[Visit<'_>],
-    latest: usize,
-    left: usize,
-    object: &str,
-    fields: &Vec<&Positioned<Field>>,
-) -> bool
-    ensures { IsTrue result → HasSeen visits.now left object.now (all_behind fields.now.items) }
+/// Whether a merged set told nothing, if it was walked through. The visits from a place on are
+/// looked at, each before the one that names it.
+fn found_from(visits: &[Visit<'_>], latest: usize, merged: &Merged<'_>) -> Option<bool>
+    ensures { IfSome result (HasSeen visits.now merged.now) }
 {
     let mut next = Some(latest);
     for _ in 0..visits.len() {
         let Some(place) = next else {
-            return false;
+            return None;
         };
-        if is_at(visits, place, left, object, fields) {
-            return true;
+        if let Some(clean) = found_at(visits, place, merged) {
+            return Some(clean);
         }
         next = before(visits, place);
     }
-    false
+    None
 }
 
-/// True only where the visit at a place is that of a list of fields of an object.
-fn is_at(
-    visits: &[Visit<'_>],
-    place: usize,
-    left: usize,
-    object: &str,
-    fields: &Vec<&Positioned<Field>>,
-) -> bool
-    ensures { IsTrue result → HasSeen visits.now left object.now (all_behind fields.now.items) }
+/// Whether a merged set told nothing, if the visit at a place is its own.
+fn found_at(visits: &[Visit<'_>], place: usize, merged: &Merged<'_>) -> Option<bool>
+    ensures { IfSome result (HasSeen visits.now merged.now) }
 {
     if place >= visits.len() {
-        return false;
+        return None;
     }
-    is_visit(&visits[place], left, object, fields)
+    let visit = &visits[place];
+    if !is_like(&visit.merged, merged) {
+        return None;
+    }
+    Some(visit.clean)
 }
 
-/// True only where a visit is that of a list of fields of an object, with so many levels left.
-fn is_visit(visit: &Visit<'_>, left: usize, object: &str, fields: &Vec<&Positioned<Field>>) -> bool
-    ensures { IsTrue result → IsVisit left object.now (all_behind fields.now.items) visit.now }
+/// True only where two merged sets are looked up alike.
+fn is_like(one: &Merged<'_>, other: &Merged<'_>) -> bool
+    ensures { IsTrue result → IsLike one.now other.now }
 {
-    visit.left == left
-        && visit.object.as_str() == object
-        && same_fields(visit.fields.as_slice(), fields.as_slice())
+    one.left == other.left && one.ty == other.ty && one.sets.as_slice() == other.sets.as_slice()
 }
 
 /// The place of the visit before the one at a place.
@@ -122,13 +102,18 @@ fn before(visits: &[Visit<'_>], place: usize) -> Option<usize> {
     }
 }
 
-/// The mark of a list of fields of an object: a number that others hardly ever have.
-fn mark_of(left: usize, object: &str, fields: &Vec<&Positioned<Field>>) -> u64 {
-    let mut mark = of_bytes(left as u64, object.as_bytes());
-    for field in fields.as_slice() {
-        mark = mixed(mixed(mark, field.pos.line as u64), field.pos.column as u64);
+/// The mark of a merged set: a number that others hardly ever have.
+fn mark_of(merged: &Merged<'_>) -> u64 {
+    let mut mark = mark_of_type(merged);
+    for number in merged.sets.as_slice() {
+        mark = mixed(mark, *number as u64);
     }
     mark
+}
+
+/// The mark of a merged set's type and of the levels that are left.
+pub(crate) fn mark_of_type(merged: &Merged<'_>) -> u64 {
+    of_bytes(merged.left as u64, merged.ty.as_bytes())
 }
 
 /// A mark with bytes mixed into it.

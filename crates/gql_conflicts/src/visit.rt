@@ -1,13 +1,11 @@
-//! One list of fields that the exact walk has been through.
-use gql_base::Text;
-use gql_doc::{Field, Positioned};
+//! One merged set that the exact walk has been through.
+use crate::merged::Merged;
 
-/// A list of fields of an object that was walked through, with so many levels left under it; and
-/// the place of the visit before it that has the same mark, if any.
+/// A merged set that was walked through, and whether it told nothing; and the place of the visit
+/// before it that has the same mark, if any.
 #[derive(Drop)]
 pub(crate) struct Visit<'a> {
-    pub left: usize,
-    pub object: Text,
-    pub fields: Vec<&'a Positioned<Field>>,
+    pub merged: Merged<'a>,
+    pub clean: bool,
     pub before: Option<usize>,
 }

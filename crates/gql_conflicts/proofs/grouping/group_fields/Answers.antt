@@ -2,7 +2,7 @@ use Rattle.std.proofs.Common.{◌≤◌, take, length, sym, subst, arith}
 use Rattle.std.proofs.lemmas.List.{take_all}
 use Rattle.gql_select.specs.Behind.{all_behind}
 use Rattle.gql_conflicts.specs.Groups.{AreGroups}
-use Rattle.gql_conflicts.proofs.WalkLemmas.{bare, groups_told}
+use Rattle.gql_conflicts.proofs.WalkLemmas.{bare, groups_of}
 use Rattle.gql_collect.proofs.OccurrenceLemmas.{behind_more}
 use Rattle.gql_conflicts.proofs.grouping.group_fields.Goals as goal
 
@@ -23,6 +23,6 @@ returns c =
     let fields = c.args.fields.now in
     let at = c.loop-field.field-index in
     let over : length fields ≤ at = omega arith in
-    λ setting beneath.
-    groups_told setting (all_behind fields) beneath c.loop-field.keys c.loop-field.groups.items c.len-distinct.ensures.distinct
+    λ setting.
+    groups_of setting (all_behind fields) c.loop-field.keys c.loop-field.groups.items c.len-distinct.ensures.distinct
     (subst (λ fs. AreGroups setting c.loop-field.keys c.loop-field.groups.items (all_behind fs)) (take_all at fields over) (c.loop-field.invariant setting))
