@@ -1,5 +1,5 @@
 pub mod CompleteLemmas
 pub mod FillLemmas
-pub mod LeafLemmas
+pub mod DataLemmas
 pub mod ListingLemmas
 pub mod ObjectListLemmas

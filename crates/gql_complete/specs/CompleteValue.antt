@@ -11,10 +11,10 @@ use Rattle.gql_resolve.specs.declared.field_value.FieldValue.{FieldValue}
 use Rattle.gql_schema.specs.ScalarRule.{takes}
 use Rattle.gql_schema.specs.declared.scalar_rule.ScalarRule.{ScalarRule}
 
--- the value of a leaf, as it stands
-abbrev pub leaf_of : Option Value → Value
-leaf_of None = value_kind.Null
-leaf_of (Some value) = value
+-- a value as it stands, or null
+abbrev pub value_or_null : Option Value → Value
+value_or_null None = value_kind.Null
+value_or_null (Some value) = value
 
 -- a value is a leaf of the scalar of this name and rule as it stands
 pub record IsShown (name : List ℕ) (rule : ScalarRule) (value : Value) : Type 0 where
@@ -39,16 +39,12 @@ module _ {V : Type 0} where
   abbrev pub item_at : List ℕ → List (List ℕ) → Value → Completed V
   item_at name items value = absent_if_null value (at_enum name items (enum_name_of value))
 
-  -- the same of what is given, if anything is
-  abbrev pub leaf_given : Option (FieldValue V) → Value
-  leaf_given None = value_kind.Null
-  leaf_given (Some given) = leaf_of (value_in given)
+  -- the value that is given, if one is
+  abbrev pub data_given : Option (FieldValue V) → Value
+  data_given None = value_kind.Null
+  data_given (Some given) = value_or_null (value_in given)
 
   -- the same of what a resolver's result gives
-  abbrev pub leaf_in : Result (Option (FieldValue V)) Error → Value
-  leaf_in (Err error) = value_kind.Null
-  leaf_in (Ok given) = leaf_given given
-
-  -- what is given comes to the leaf of this value
-  abbrev pub IsLeaf : Completed V → Value → Type 0
-  IsLeaf whole value = whole ≡ shape.Leaf value
+  abbrev pub data_in : Result (Option (FieldValue V)) Error → Value
+  data_in (Err error) = value_kind.Null
+  data_in (Ok given) = data_given given

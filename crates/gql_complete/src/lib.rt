@@ -6,14 +6,14 @@
 mod complete_abstract;
 mod complete_named;
 mod complete_value;
+mod data_values;
 mod faults;
 mod fill_shape;
 mod known;
-mod leaf_values;
 mod object_lists;
 
 pub use complete_value::complete_known;
+pub use data_values::{data_in, is_data};
 pub use fill_shape::{fill, item_piece};
 pub use known::Known;
-pub use leaf_values::{is_leaf, leaf_in};
 pub use object_lists::object_list;

@@ -1,19 +1,16 @@
 -- What a task comes to with its answer, and the tasks under it.
-use Rattle.std.proofs.Common.{rules, ◌≡◌, not, Bool, List, [], ◌++◌, map, refl, ap, subst, sym, ◌∙◌}
+use Rattle.std.proofs.Common.{◌≡◌, not, Bool, List, [], ◌++◌, map, refl, ap, subst, sym, ◌∙◌}
 use Rattle.std.specs.List.{AllByRecursion, flat_map}
 use Rattle.std.specs.declared.alloc.Global.{Global}
 use Rattle.std.specs.declared.rc.Rc.{Rc}
 use Rattle.std.specs.declared.vec.Vec.{Vec}
 use Rattle.gql_base.specs.TypeRef.{is_nullable}
-use Rattle.gql_base.specs.declared.pos.Pos.{Pos}
 use Rattle.gql_base.specs.declared.value.Value.{Value}
 use Rattle.gql_tasks.specs.declared.given.Given.TheVariants.{Answered}
 use Rattle.gql_meaning.specs.Completion.{Completed, shape_of}
-use Rattle.gql_meaning.specs.Responses.{Members}
-use Rattle.gql_place.proofs.PieceLemmas.{leaf_same}
+use Rattle.gql_place.specs.Alike.{AreAlikeTrees}
 use Rattle.gql_place.specs.declared.piece.Piece.TheVariants as piece
 use Rattle.gql_place.specs.declared.place.Tree.TheVariants as tree
-use Rattle.gql_place.specs.declared.shape.Shape.{the_lemmas}
 use Rattle.gql_place.specs.declared.shape.Shape.TheVariants as shape
 use Rattle.gql_resolve.specs.declared.answer.Answer.{Answer}
 use Rattle.gql_schema.specs.Table.{types_of}
@@ -26,12 +23,14 @@ use Rattle.gql_collect.specs.Groups.{united}
 use Rattle.gql_objects.specs.Jobs.{completed_by, Job, jobs_beneath}
 use Rattle.gql_objects.specs.Parents.{jobs_of_standing, standing_at, standing_behind}
 use Rattle.gql_objects.specs.Assembly.{members_each, place_made}
-use Rattle.gql_complete.specs.CompleteValue.{IsLeaf, leaf_in}
+use Rattle.gql_complete.specs.CompleteValue.{data_in}
+use Rattle.gql_complete.specs.Data.{IsData}
 use Rattle.gql_complete.specs.FillShape.{tree_with}
-use Rattle.gql_engine.specs.PlanHolds.{ComesAlone, IsLeafAlone}
+use Rattle.gql_engine.specs.PlanHolds.{ComesAlone, IsDataAlone}
 use Rattle.gql_objects.specs.ListParents.{AreBelow}
 use Rattle.gql_objects.specs.CompletedObjects.{IsPlaced}
 use Rattle.gql_complete.specs.FoundObjects.{bare, Spot, spots}
+use Rattle.gql_complete.proofs.DataLemmas.{data_kept, data_made, data_without}
 use Rattle.gql_objects.specs.Tasks.{IsDeep, job_of_task, job_with, path_with}
 use Rattle.gql_collect.specs.declared.group.Group.{Group}
 use Rattle.gql_objects.specs.declared.assembly.kept.Filled.{Filled}
@@ -41,7 +40,6 @@ use Rattle.gql_objects.specs.declared.parent.Parent.{Parent}
 use Rattle.gql_objects.specs.declared.task.Task.{Task}
 use Rattle.gql_objects.proofs.ObjectLevelLemmas.{deep_spots, placed_jobs}
 use Rattle.gql_collect.proofs.LevelLemmas.{pos_with_others}
-use Rattle.gql_objects.proofs.FoundLemmas.{spots-Leaf}
 
 -- a united field stands where its first occurrence does
 pub pos_united : (group : Group) → group.first.now.pos ≡ (united group).pos
@@ -61,13 +59,14 @@ module _ {V : Type 0} (parent : Parent V) (node : Node) (answer : Answer V) wher
       (spots (shape_of (types_of node.basis.types.now) (type_in node.asks) answer.result) (path_with parent.held node))
   takes_placed old new placed is = record { whole_is = refl; found_is = refl; below = is.below }
 
-  module _ (leaf : Value) (is : IsLeaf (shape_of (types_of node.basis.types.now) (type_in node.asks) answer.result) leaf) where
-    -- an answer that is a leaf as it stands has no objects
-    leaf_takes : Takes (shape.Leaf leaf) []
-    leaf_takes = record { whole_is = sym is; found_is = sym (spots-Leaf V leaf (path_with parent.held node)); below = tt }
-
-    bare-Leaf : bare {V = V} (shape.Leaf leaf) ≡ shape.Leaf leaf
-    bare-Leaf = search (rules, the_lemmas)
+  -- an answer that is data as it stands has no objects
+  data_takes : (value : Value) → IsData (shape_of (types_of node.basis.types.now) (type_in node.asks) answer.result) value
+      → Takes (shape_of (types_of node.basis.types.now) (type_in node.asks) answer.result) []
+  data_takes value is = record {
+    whole_is = refl;
+    found_is = sym (data_without (shape_of (types_of node.basis.types.now) (type_in node.asks) answer.result) value is (path_with parent.held node));
+    below = tt;
+  }
 
   module _ (whole : Completed V) (found : List (Spot V)) (takes : Takes whole found) where
     spots_are : found ≡ spots (completed_by (job_with parent node) answer) (path_with parent.held node)
@@ -99,7 +98,7 @@ module _ {V : Type 0} (parent : Parent V) (node : Node) (answer : Answer V) wher
     pub takes_deep : AllByRecursion IsDeep (jobs_beneath (job_with parent node) answer)
     takes_deep = deep_spots (job_with parent node) answer (subst AreBelow spots_are takes.below)
 
--- what an answer that is a leaf as it stands comes to, with no objects
+-- what an answer that is data as it stands comes to, with no objects
 abbrev alone_with : {V : Type 0} → Node → Answer V → Vec (Rc (Parent V) Global) Global → Filled V
 alone_with node answer none = record {
   pos = node.group.first.now.pos;
@@ -107,28 +106,27 @@ alone_with node answer none = record {
   added = answer.added;
   headers = answer.headers;
   whole = keeps_whole node.basis.grouping;
-  shape = shape.Leaf (leaf_in answer.result);
+  shape = bare (shape_of (types_of node.basis.types.now) (type_in node.asks) answer.result);
   parents = none;
 }
 
-made-Leaf : (pos : Pos) (leaf : Value) (members : List Members) → tree_with pos (shape.Leaf leaf) members ≡ tree.Leaf leaf
-made-Leaf pos leaf members = search (rules, the_lemmas)
-
--- a leaf as it stands, with nothing beside it, is all that is kept of its place
-pub leaf_comes : {V : Type 0} (task : Task V) (answer : Answer V) (none : Vec (Rc (Parent V) Global) Global) → none.items ≡ [] → IsLeafAlone task.node.value answer
-    → ComesAlone (Answered answer) (job_of_task task) (piece.Data (leaf_in answer.result))
-leaf_comes {V = V} task answer none none_is alone =
+-- data as it stands, with nothing beside it, is all that is kept of its place
+pub data_comes : {V : Type 0} (task : Task V) (answer : Answer V) (none : Vec (Rc (Parent V) Global) Global) → none.items ≡ [] → IsDataAlone task.node.value answer
+    → ComesAlone (Answered answer) (job_of_task task) (piece.Data (data_in answer.result))
+data_comes {V = V} task answer none none_is alone =
     let node = task.node.value in
     let parent = task.parent.value in
-    let leaf = leaf_in answer.result in
+    let value = data_in answer.result in
+    let whole = shape_of (types_of node.basis.types.now) (type_in node.asks) answer.result in
     let filled : Filled V = alone_with node answer none in
     record {
       filled = filled;
       fits =
-          takes_filled parent node answer (shape.Leaf leaf) [] (leaf_takes parent node answer leaf alone.leaf) filled (is_nullable (type_in node.asks))
-          refl refl refl refl refl refl (sym (bare-Leaf parent node answer leaf alone.leaf)) (ap (map standing_behind) none_is);
+          takes_filled parent node answer whole [] (data_takes parent node answer value alone.comes) filled (is_nullable (type_in node.asks))
+          refl refl refl refl refl refl refl (ap (map standing_behind) none_is);
       none = none_is;
       made = λ apart.
-          leaf_same (keeps_whole node.basis.grouping) leaf (place_made filled []) alone.part alone.added alone.headers
-          (made-Leaf node.group.first.now.pos leaf (members_each (map standing_behind none.items) []));
+          data_kept (keeps_whole node.basis.grouping) value (place_made filled []) alone.part alone.added alone.headers
+          (subst (λ (ps : List (Rc (Parent V) Global)). AreAlikeTrees (tree.Leaf value) (tree_with node.group.first.now.pos (bare whole) (members_each (map standing_behind ps) [])))
+          (sym none_is) (data_made whole value alone.comes node.group.first.now.pos));
     }

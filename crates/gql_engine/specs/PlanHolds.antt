@@ -9,7 +9,8 @@ use Rattle.gql_resolve.specs.declared.answer.Answer.{Answer}
 use Rattle.gql_schema.specs.Table.{types_of}
 use Rattle.gql_collect.specs.Asks.{type_in}
 use Rattle.gql_objects.specs.Assembly.{IsMadeAlone}
-use Rattle.gql_complete.specs.CompleteValue.{IsLeaf, leaf_in}
+use Rattle.gql_complete.specs.CompleteValue.{data_in}
+use Rattle.gql_complete.specs.Data.{IsData}
 use Rattle.gql_engine.specs.GivenTasks.{IsFilledWith, made_beneath}
 use Rattle.gql_collect.specs.GroupFields.{keeps_whole}
 use Rattle.gql_objects.specs.Jobs.{Job}
@@ -35,11 +36,11 @@ module _ {V : Type 0} where
     pub none : filled.parents.items ≡ []
     pub made : IsMadeAlone filled piece
 
-  -- an answer to a field is a leaf as it stands, with nothing beside it, and its value is all that
-  -- is kept of its place
-  pub record IsLeafAlone (node : Node) (answer : Answer V) : Type 0 where
+  -- an answer to a field is data as it stands, with nothing beside it, and its value is all that is
+  -- kept of its place
+  pub record IsDataAlone (node : Node) (answer : Answer V) : Type 0 where
     pub part : keeps_whole node.basis.grouping ≡ false
     pub added : answer.added ≡ []
     pub headers : answer.headers ≡ []
-    pub leaf : IsLeaf (shape_of (types_of node.basis.types.now) (type_in node.asks) answer.result)
-        (leaf_in answer.result)
+    pub comes : IsData (shape_of (types_of node.basis.types.now) (type_in node.asks) answer.result)
+        (data_in answer.result)

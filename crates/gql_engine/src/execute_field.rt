@@ -2,5 +2,5 @@
 //! becomes of the answer to each of its tasks.
 
 pub(crate) mod complete_given;
-pub(crate) mod leaf_answers;
+pub(crate) mod data_answers;
 pub(crate) mod tree_plan;

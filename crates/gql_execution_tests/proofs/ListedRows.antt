@@ -10,7 +10,7 @@ use Rattle.gql_base.specs.declared.value.Value.TheVariants as value
 use Rattle.gql_place.specs.declared.shape.Shape.TheVariants as shape
 use Rattle.gql_resolve.specs.declared.field_value.FieldValue.{the_lemmas as given_lemmas}
 use Rattle.gql_resolve.specs.declared.field_value.FieldValue.TheVariants as kind
-use Rattle.gql_complete.specs.CompleteValue.{leaf_in}
+use Rattle.gql_complete.specs.CompleteValue.{data_in}
 use Rattle.gql_objects.specs.ListParents.{item_spots}
 use Rattle.gql_complete.specs.ObjectLists.{items_given, IsListing, objects_in}
 use Rattle.gql_complete.specs.ObjectLists.IsListing.{list_of_names, non_null_list}
@@ -44,9 +44,9 @@ module _ (first second : Value) where
       ∷ []
   two_spots = refl
 
-  -- a value that a resolver gives is the leaf that it may be
-  leaf_given_at_once : leaf_in {V = ℕ} (Ok (Some (kind.Value first))) ≡ first
-  leaf_given_at_once = search (rules, given_lemmas)
+  -- a value that a resolver gives is the data that it may be
+  value_given_at_once : data_in {V = ℕ} (Ok (Some (kind.Value first))) ≡ first
+  value_given_at_once = search (rules, given_lemmas)
 
 -- the way to the item of an index ends with that index
 third_of : (trail : Trail) → trail.index ≡ Some 2 → steps_by trail ≡ trail.steps.value.items ++ step.Index 2 ∷ []

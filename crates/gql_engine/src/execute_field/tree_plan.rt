@@ -10,7 +10,7 @@ ghost use Rattle.gql_objects.specs.Tasks.{IsDeep, job_of_task};
 ghost use Rattle.gql_objects.specs.declared.task.Task.{Task as TaskOf};
 
 use crate::execute_field::complete_given::fill_given;
-use crate::execute_field::leaf_answers::leaf_alone;
+use crate::execute_field::data_answers::data_alone;
 use gql_base::{Made, PathSegment};
 use gql_collect::Node;
 use gql_doc::Field;
@@ -222,7 +222,7 @@ impl<'a, V: Drop> Plan<V> for TreePlan<'a, V> {
             → HoldsSince self.new.base (jobs_in self.new.tasks.items)
             (store_in self.new.kept.items self.new.places.items) other g) }
     {
-        match leaf_alone(alloc, &self.tasks[number], given) {
+        match data_alone(alloc, &self.tasks[number], given) {
             Ok(value) => {
                 self.put_piece(number, Piece::Data(value))?;
                 Ok(0)
