@@ -23,3 +23,6 @@ pub use gql_schema::{
     Enum, Field, InputObject, InputValue, Interface, InterfaceField, Object, Scalar, ScalarRule,
     SchemaError, SchemaType, Subscription, SubscriptionField, Types, Union,
 };
+pub use gql_serve::{
+    Book, CloseFault, Entry, Outcome, Roll, Seat, Served, Work, execute_batch_threads,
+};

@@ -1,0 +1,6 @@
+pub mod ExecutingLemmas
+pub mod JournalLemmas
+pub mod SeatLemmas
+pub mod SendLemmas
+pub mod ServedLemmas
+pub mod WorldLemmas

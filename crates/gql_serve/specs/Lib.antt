@@ -1,0 +1,9 @@
+pub mod Adding
+pub mod Books
+pub mod Executing
+pub mod Journal
+pub mod Laws
+pub mod Room
+pub mod Seats
+pub mod Served
+pub mod Threads
