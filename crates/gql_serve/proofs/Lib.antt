@@ -1,5 +1,6 @@
 pub mod ExecutingLemmas
 pub mod JournalLemmas
+pub mod RoomLemmas
 pub mod SeatLemmas
 pub mod SendLemmas
 pub mod ServedLemmas

@@ -1,6 +1,6 @@
 use Rattle.std.proofs.Common.{◌≡◌, ◌++◌, [], ◌∷◌, Some, ap, slice_get, subst, sym, ◌∙◌}
 use Rattle.std.proofs.lemmas.List.{append-nil}
-use Rattle.core.proofs.iter.runs.Lists.{nth_seam}
+use Rattle.gql_serve.proofs.RoomLemmas.{last_there}
 use Rattle.gql_serve.specs.Room.{StandsAt}
 use Rattle.gql_serve.proofs.room.write.Goals as goal
 use Rattle.gql_serve.proofs.room.write.Goals.{in-None, in-Some}
@@ -20,5 +20,5 @@ returns-clause-there g c = elim c.match-kept.branch [
       let stands = subst (λ kept. StandsAt c.args.schemas.now c.args._schema.now c.args.room.place kept) w.in-Some.is c.requires.stands in
       subst (λ schemas. slice_get schemas c.args.room.place ≡ Some c.args._schema.now)
       (sym ((λ i. (w.schemas-is i).items) ∙ w.push_reserved.ensures.items))
-      (ap (slice_get (c.args.schemas.now.items ++ w.in-Some.kept ∷ [])) stands.1 ∙ nth_seam c.args.schemas.now.items w.in-Some.kept ∙ ap Some stands.0)
+      (ap (slice_get (c.args.schemas.now.items ++ w.in-Some.kept ∷ [])) stands.1 ∙ last_there c.args.schemas.now.items w.in-Some.kept ∙ ap Some stands.0)
 ]
