@@ -1,4 +1,4 @@
-//! Services that callers on several threads share.
+//! Services that callers share.
 ghost use Rattle.std.specs.Prelude.{◌≡◌, Some};
 
 use crate::cells::{Cells, Last};
@@ -12,7 +12,6 @@ use std::marker::Brand;
 use std::sync::Wait;
 use std::sync::ledger::{Blank, Ledger};
 use std::test::Fail;
-use std::thread::{Threads, join};
 
 /// A call of a service by a seat, which is given back.
 fn call<L: Roll<Cells>, R: Wait>(
@@ -32,34 +31,17 @@ fn call<L: Roll<Cells>, R: Wait>(
     seat
 }
 
-/// A call on each of two threads, on a value that they share.
-fn on_two<S: Sync, A: Drop + Send, F: Fn(&S, A) -> A + Sync, T: Threads + Sync>(
-    rt: &T,
-    shared: &S,
-    one: A,
-    two: A,
-    call: &F,
-) -> (A, A)
-    requires { F.IsAlwaysCallable call.now }
-{
-    join(rt, move || call(shared, one), move || call(shared, two))
-}
-
-/// A call of a service by each of two seats, on a thread each.
-fn both_call<L: Roll<Cells> + Send + Sync, R: Threads + Wait + Sync>(
+/// A call of a service by each of two seats.
+fn both_call<L: Roll<Cells>, R: Wait>(
     rt: &R,
     alloc: Global,
     office: &Office<L>,
     one: Seat<L>,
     two: Seat<L>,
 ) -> (Seat<L>, Seat<L>) {
-    on_two(
-        rt,
-        office,
-        one,
-        two,
-        &|office: &Office<L>, seat: Seat<L>| { call(rt, alloc, office, seat) },
-    )
+    let one = call(rt, alloc, office, one);
+    let two = call(rt, alloc, office, two);
+    (one, two)
 }
 
 /// Whether a service answers that its cell is 2.
@@ -111,9 +93,9 @@ fn closed_twice<L: Roll<Cells>>(
 /// given; of one with both, how many entries the journal has; and how many the seats counted.
 type Told = (u32, u32, usize, u64);
 
-/// A day of a service with two seats: each bumps the cell on a thread of its own, one asks for the
-/// cell, and then the service is closed.
-fn day_of_two<L: Roll<Cells> + Send + Sync, R: Threads + Wait + Sync>(
+/// A day of a service with two seats: each bumps the cell, one asks for the cell, and then the
+/// service is closed.
+fn day_of_two<L: Roll<Cells>, R: Wait>(
     rt: &R,
     alloc: Global,
     office: Office<L>,
@@ -143,7 +125,7 @@ fn two_of<L: Ledger>(seats: Vec<Seat<L>>) -> Option<(Seat<L>, Seat<L>)> {
 }
 
 /// A day of a service that is made of this set.
-fn day<L: Roll<Cells> + Send + Sync, R: Threads + Wait + Sync>(
+fn day<L: Roll<Cells>, R: Wait>(
     rt: &R,
     alloc: Global,
     blank: Blank,
