@@ -11,3 +11,4 @@ pub mod StageRows
 pub mod StagesLemmas
 pub mod TruthLemmas
 pub mod WalkLemmas
+pub mod WholeLemmas

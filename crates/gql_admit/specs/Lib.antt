@@ -7,3 +7,4 @@ pub mod Prepared
 pub mod Refusal
 pub mod Stages
 pub mod WalkedFragments
+pub mod Whole

@@ -1,4 +1,5 @@
-//! What `@skip` and `@include` leave of a set (section 6.3.2). What stays is moved and not copied.
+//! What `@skip` and `@include` leave of a set (section 6.3.2). What stays is moved and not copied; a
+//! set in which nothing has a directive stays where it is.
 ghost use Rattle.std.specs.Prelude.{◌≡◌, ◌++◌, IfOk, OnOk};
 ghost use Rattle.std.specs.Option.{option_to_list};
 ghost use Rattle.gql_select.specs.Constants.{variable_value};
@@ -8,6 +9,7 @@ ghost use Rattle.gql_admit.specs.KeptParts.{left_field, left_inline, left_select
 ghost use Rattle.gql_admit.specs.KeptParts.{left_spread};
 
 use crate::conditions::{Known, other_directives};
+use crate::whole::is_set_whole;
 use gql_base::{Items, Made, Pos, Variables};
 use gql_doc::{
     Field, FragmentSpread, InlineFragment, Positioned, Selection, SelectionSet, VariableDefinition,
@@ -37,6 +39,9 @@ pub fn keep(
 pub(crate) fn keep_known(alloc: Global, set: SelectionSet, known: &Known<'_>) -> Made<SelectionSet>
     ensures { IfOk result (λ left. left ≡ kept_set (known_by known.now) set) }
 {
+    if is_set_whole(&set) {
+        return Ok(set);
+    }
     let SelectionSet { items } = set;
     let items = keep_selections(alloc, items, known)?;
     Ok(SelectionSet { items })

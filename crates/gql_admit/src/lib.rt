@@ -14,6 +14,7 @@ mod laws;
 mod operation;
 mod preparing;
 mod refusals;
+mod whole;
 
 pub use chosen::Chosen;
 pub use depth::{check_depth, check_depth_counted};
