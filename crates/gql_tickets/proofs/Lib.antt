@@ -1,0 +1,10 @@
+pub mod ClosingLemmas
+pub mod CutLemmas
+pub mod EntryLemmas
+pub mod LeavingLemmas
+pub mod OpeningLemmas
+pub mod SendLemmas
+pub mod StepLemmas
+pub mod TakingLemmas
+pub mod TotalLemmas
+pub mod TurnLemmas
